@@ -1,0 +1,96 @@
+-- What plans are made of: tests of a status, a node with some fields changed, and the messages that a plan adds. Assumes nothing.
+use mathlib.Core.Bool.{Bool, true, false}
+use mathlib.Core.List.{List}
+use Prim.Native.Nat.{ℕ}
+use Rattle.marks.specs.declared.Found.{Found}
+use Rattle.marks.specs.declared.Found.the-variants.{At, Nothing}
+use Rattle.rules.specs.declared.Status.{Status}
+use Rattle.rules.specs.declared.Status.the-variants.{Dead, Wait, Ok, Ready}
+use Rattle.rules.specs.declared.Node.{Node}
+use Rattle.rules.specs.declared.Message.{Message}
+use Rattle.rules.specs.Nodes.{placed}
+use Rattle.rules.specs.Pool.{blank}
+use Rattle.rules.specs.Mail.{added, sent}
+use Rattle.rules.specs.declared.Plan.{Plan}
+
+-- ---- statuses
+
+abbrev pub isDead : Status → Bool
+isDead Dead = true
+isDead Wait = false
+isDead Ok = false
+isDead Ready = false
+
+abbrev pub isWait : Status → Bool
+isWait Dead = false
+isWait Wait = true
+isWait Ok = false
+isWait Ready = false
+
+abbrev pub isOk : Status → Bool
+isOk Dead = false
+isOk Wait = false
+isOk Ok = true
+isOk Ready = false
+
+abbrev pub isReady : Status → Bool
+isReady Dead = false
+isReady Wait = false
+isReady Ok = false
+isReady Ready = true
+
+-- ok or ready
+abbrev pub isUp : Status → Bool
+isUp Dead = false
+isUp Wait = false
+isUp Ok = true
+isUp Ready = true
+
+-- ---- a node with one field changed
+
+abbrev pub withStatus : Node → Status → Node
+withStatus v s =
+    record {
+      id = v .id;
+      status = s;
+      left = v .left;
+      right = v .right;
+      probing = v .probing;
+      failed = v .failed;
+      routing = v .routing;
+      lease = v .lease;
+      grant = v .grant;
+    }
+
+abbrev pub withLeases : Node → ℕ → ℕ → Status → Node
+withLeases v lease grant s =
+    record {
+      id = v .id;
+      status = s;
+      left = v .left;
+      right = v .right;
+      probing = v .probing;
+      failed = v .failed;
+      routing = v .routing;
+      lease = lease;
+      grant = grant;
+    }
+
+-- ---- plans
+
+-- the node, and nothing added
+abbrev pub quietPlan : Node → Plan
+quietPlan v = record { node = v; first = blank; to = Nothing; each = blank; all = 0 }
+
+-- the node, and one message to one slot
+abbrev pub sendPlan : Node → Message → ℕ → Plan
+sendPlan v m s = record { node = v; first = m; to = At s; each = blank; all = 0 }
+
+-- a message to a slot, if there is one
+abbrev pub addedTo : Found → Message → List Message → List Message
+addedTo (At s) m ys = added ys (placed m s)
+addedTo Nothing m ys = ys
+
+-- what waits after the plan, where ys waited before it
+unfoldable pub mailed : Plan → List Message → List Message
+mailed x ys = sent (x .each) (x .all) (addedTo (x .to) (x .first) ys)
