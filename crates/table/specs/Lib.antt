@@ -1,0 +1,5 @@
+pub mod Ids
+pub mod Limits
+pub mod Numbers
+pub mod Pool
+pub mod Table

@@ -1,0 +1,45 @@
+-- 01's numbers: of a status, and of the answers. Assumes nothing.
+use mathlib.Core.Bool.{cond}
+use Prim.Native.Nat.{ℕ}
+use lib.Dec.{eqb}
+use Rattle.table.specs.declared.Status.{Status}
+use Rattle.table.specs.declared.Status.the-variants as status
+use Rattle.table.specs.declared.Read.{Read}
+use Rattle.table.specs.declared.Read.the-variants.{Is, None}
+use Rattle.table.specs.declared.Refusal.{Refusal}
+use Rattle.table.specs.declared.Refusal.the-variants as no
+use Rattle.table.specs.declared.Answer.{Answer}
+use Rattle.table.specs.declared.Answer.the-variants.{Done, Refused}
+
+-- status (0 dead, 1 wait, 2 ok, 3 ready)
+abbrev pub statusNumber : Status → ℕ
+statusNumber status.Dead = 0
+statusNumber status.Wait = 1
+statusNumber status.Ok = 2
+statusNumber status.Ready = 3
+
+unfoldable pub statusFrom : ℕ → Read
+statusFrom x =
+    cond (eqb x 0) (Is status.Dead) (cond (eqb x 1) (Is status.Wait) (cond (eqb x 2) (Is status.Ok) (cond (eqb x 3) (Is status.Ready) None)))
+
+-- 1 slot, place or key out of range; 2 status forbids it; 3 the same request already waits; 4 leaf set empty, not empty or incomplete, as named;
+-- 5 sender or partner not allowed; 6 the pool after the step would exceed 256; 7 file shorter than 32 bytes;
+-- 8 M, L, n or message count out of range, or last header word not 0; 9 an offset, the total or the real length disagrees with the counts;
+-- 10 a table, record or start list breaks validity; A empty; message list without 256 places; 11 write buffer too small
+abbrev pub refusalNumber : Refusal → ℕ
+refusalNumber no.OutOfRange = 1
+refusalNumber no.Status = 2
+refusalNumber no.Waits = 3
+refusalNumber no.LeafSet = 4
+refusalNumber no.Partner = 5
+refusalNumber no.Full = 6
+refusalNumber no.Short = 7
+refusalNumber no.Header = 8
+refusalNumber no.Offsets = 9
+refusalNumber no.Invalid = 10
+refusalNumber no.NoRoom = 11
+
+-- 0 done
+abbrev pub answerNumber : Answer → ℕ
+answerNumber Done = 0
+answerNumber (Refused why) = refusalNumber why
