@@ -26,9 +26,6 @@ idOf v = v .id
 abbrev pub idsOf : Table → List ℕ
 idsOf t = map idOf (t .nodes)
 
-abbrev pub idAt : List ℕ → ℕ → ℕ
-idAt ids s = getD ids s 0
-
 abbrev pub ringOf : Table → Ring
 ringOf t = record { m = t .m; l = t .l; n = t .n }
 

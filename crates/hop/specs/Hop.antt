@@ -1,0 +1,61 @@
+-- The next hop for a key k at node i. Definitions only, each under 01's sentence; dead is the set of the dead nodes. Their laws are in Laws. Assumes nothing.
+use mathlib.Core.Bool.{Bool, cond, _&&_, _||_}
+use mathlib.Core.List.{List}
+use Prim.Native.Nat.{ℕ, _^_}
+use lib.Dec.{leb}
+use Rattle.ring.specs.Distance.{fallOf, nearer}
+use Rattle.marks.specs.Marks.{has, union, without}
+use Rattle.marks.specs.declared.Found.{Found}
+use Rattle.marks.specs.declared.Found.the-variants.{At, Nothing}
+use Rattle.pick.specs.declared.Way.the-variants.{Near}
+use Rattle.pick.specs.Pick.{idAt, aheadOf, best, bestOf}
+use Rattle.table.specs.declared.Ring.{Ring}
+use Rattle.table.specs.declared.Node.{Node}
+use Rattle.table.specs.Table.{sidesOf}
+use Rattle.leaf.specs.Leaf.{contentOf, overlaps, leftmost, rightmost}
+use Rattle.hop.specs.declared.Hop.{Hop}
+use Rattle.hop.specs.declared.Hop.the-variants.{To, NoRoute}
+
+-- some nodes without failed and dead
+abbrev pub legalOf : ℕ → Node → ℕ → ℕ
+legalOf dead v set = without (without set (v .failed)) dead
+
+-- leaf candidates: content without failed and dead
+unfoldable pub leafCandidates : ℕ → ℕ → Node → ℕ
+leafCandidates dead i v = legalOf dead v (contentOf (sidesOf v) i)
+
+-- content and routing set, without failed and dead
+unfoldable pub routeCandidates : ℕ → ℕ → Node → ℕ
+routeCandidates dead i v = legalOf dead v (union (contentOf (sidesOf v) i) (v .routing))
+
+-- the sides overlap, or Fall(leftmost, i) ≤ Fall(leftmost, rightmost)
+unfoldable pub byLeaf : Ring → List ℕ → ℕ → Node → Bool
+byLeaf g ids i v =
+    let s = sidesOf v in
+    let l = idAt ids (leftmost g ids i s) in
+    overlaps s || leb (fallOf (2 ^ g .m) l (idAt ids i)) (fallOf (2 ^ g .m) l (idAt ids (rightmost g ids i s)))
+
+-- s is nearer to k than i
+abbrev pub nearerThanOwner : Ring → List ℕ → ℕ → ℕ → ℕ → Bool
+nearerThanOwner g ids i k s = nearer (2 ^ g .m) k (idAt ids s) (idAt ids i)
+
+-- a node that was found, where it is nearer than i
+abbrev pub toNearer : Ring → List ℕ → ℕ → ℕ → Found → Hop
+toNearer g ids i k (At h) = cond (nearerThanOwner g ids i k h) (To h) NoRoute
+toNearer g ids i k Nothing = NoRoute
+
+abbrev pub toFound : Found → Hop
+toFound (At h) = To h
+toFound Nothing = NoRoute
+
+-- the nearest leaf candidate; no legal route where none is nearer than i
+unfoldable pub leafHop : Ring → List ℕ → ℕ → ℕ → Node → ℕ → Hop
+leafHop g ids dead i v k = toNearer g ids i k (bestOf Near (2 ^ g .m) k ids (leafCandidates dead i v))
+
+-- the nearest among content and routing set, without failed and dead, of those nearer than i; no legal route where there is none
+unfoldable pub routeHop : Ring → List ℕ → ℕ → ℕ → Node → ℕ → Hop
+routeHop g ids dead i v k =
+    toFound (best (aheadOf Near (2 ^ g .m) k ids) (λ s. has (routeCandidates dead i v) s && nearerThanOwner g ids i k s) 64)
+
+unfoldable pub nextHop : Ring → List ℕ → ℕ → ℕ → Node → ℕ → Hop
+nextHop g ids dead i v k = cond (byLeaf g ids i v) (leafHop g ids dead i v k) (routeHop g ids dead i v k)

@@ -1,0 +1,66 @@
+// The next hop of a lookup or a join request.
+ghost use mathlib.Core.Path.{_≡_};
+ghost use Prim.Native.Nat.{ℕ, _^_, _<_, _≤_};
+ghost use Rattle.leaf.specs.Leaf.{Listed};
+ghost use Rattle.hop.specs.Hop.{byLeaf, leafCandidates, routeCandidates, nextHop};
+use marks::Found;
+use pick::Way;
+use table::Node;
+use table::Ring;
+
+// A node other than the one that asks, or no legal route.
+pub enum Hop {
+    To(usize),
+    NoRoute,
+}
+
+// Is the leaf set alone looked at?
+pub fn by_leaf(g: Ring, ids: &[u32; 64], i: usize, v: Node) -> bool
+    requires { ⌜ Listed g (now ids) × (i < 64) ⌝ }
+    ensures { λ r. ⌜ r ≡ byLeaf g (now (ids .entry)) i v ⌝ }
+{
+    let s = table::sides_of(v);
+    if leaf::overlap(s) {
+        return true;
+    }
+    let l = leaf::seen(Way::FarUp, g, ids, i, v.left);
+    let r = leaf::seen(Way::FarDown, g, ids, i, v.right);
+    let own = ids[i];
+    let above = ids[l];
+    let below = ids[r];
+    dist::fall(g.m, above, own) <= dist::fall(g.m, above, below)
+}
+
+// Content without failed and dead.
+pub fn leaf_candidates(dead: u64, i: usize, v: Node) -> u64
+    ensures { λ r. ⌜ r ≡ leafCandidates dead i v ⌝ }
+{
+    let all = leaf::content(table::sides_of(v), i);
+    marks::less(marks::less(all, v.failed), dead)
+}
+
+// Content and routing set, without failed and dead.
+pub fn route_candidates(dead: u64, i: usize, v: Node) -> u64
+    ensures { λ r. ⌜ r ≡ routeCandidates dead i v ⌝ }
+{
+    let all = marks::joined(leaf::content(table::sides_of(v), i), v.routing);
+    marks::less(marks::less(all, v.failed), dead)
+}
+
+// Where a lookup of k goes from node i.
+pub fn next_hop(g: Ring, ids: &[u32; 64], dead: u64, i: usize, v: Node, k: u32) -> Hop
+    requires { ⌜ Listed g (now ids) × (i < 64) × (k < 2 ^ g .m) ⌝ }
+    ensures { λ r. ⌜ r ≡ nextHop g (now (ids .entry)) dead i v k ⌝ }
+{
+    let candidates = if by_leaf(g, ids, i, v) {
+        leaf_candidates(dead, i, v)
+    } else {
+        route_candidates(dead, i, v)
+    };
+    let Found::At(h) = pick::best(Way::Near, g.m, k, ids, candidates) else {
+        return Hop::NoRoute;
+    };
+    let there = ids[h];
+    let here = ids[i];
+    if dist::nearer(g.m, k, there, here) { Hop::To(h) } else { Hop::NoRoute }
+}

@@ -1,0 +1,13 @@
+-- The at most l nearest of some slots by a distance. Definition only; its laws are in ClosestLaws. Assumes nothing.
+use mathlib.Core.Bool.{Bool, _&&_}
+use Prim.Native.Nat.{ℕ}
+use lib.Dec.{ltb}
+use Rattle.marks.specs.Marks.{gather, tally}
+
+-- how many of the slots below n that pass are nearer than s
+abbrev pub nearerThan : (ℕ → ℕ) → ℕ → (ℕ → Bool) → ℕ → ℕ
+nearerThan f n ok s = tally n (λ t. ok t && ltb (f t) (f s))
+
+-- the at most l nearest of the slots below n that pass: those than which fewer than l are nearer
+unfoldable pub closest : (ℕ → ℕ) → ℕ → ℕ → (ℕ → Bool) → ℕ
+closest f n l ok = gather n (λ s. ok s && ltb (nearerThan f n ok s) l)

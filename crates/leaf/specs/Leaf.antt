@@ -1,0 +1,91 @@
+-- Leaf sets: content, neighbours, ends, adding, overlap, complete, empty, cover. Definitions only, each under 01's sentence; i is the owner's slot,
+-- ids are the ids by slot. Their laws are in Laws. Assumes nothing.
+use mathlib.Core.Bool.{Bool, cond, _&&_, _||_, not}
+use mathlib.Core.List.{List}
+use Prim.Native.Nat.{ℕ, suc, _+_, _^_, _<_, _≤_}
+use lib.Dec.{eqb, ltb}
+use Rattle.ring.specs.Distance.{fallOf, coversKey}
+use Rattle.marks.specs.Marks.{has, union, meet, addOf, single, sizeOf}
+use Rattle.marks.specs.declared.Found.{Found}
+use Rattle.marks.specs.declared.Found.the-variants.{At, Nothing}
+use Rattle.dist.specs.Inside.{Width}
+use Rattle.pick.specs.declared.Way.{Way}
+use Rattle.pick.specs.declared.Way.the-variants.{Up, Down, FarUp, FarDown}
+use Rattle.pick.specs.Pick.{idAt, bestOf}
+use Rattle.table.specs.declared.Ring.{Ring}
+use Rattle.table.specs.declared.Sides.{Sides}
+use Rattle.leaf.specs.Closest.{closest}
+
+abbrev pub orOwner : Found → ℕ → ℕ
+orOwner (At s) i = s
+orOwner Nothing i = i
+
+-- content = left, right and i
+unfoldable pub contentOf : Sides → ℕ → ℕ
+contentOf s i = addOf (union (s .left) (s .right)) i
+
+-- the best of some nodes as seen from i, or i if there are none
+unfoldable pub seenFrom : Way → Ring → List ℕ → ℕ → ℕ → ℕ
+seenFrom w g ids i set = orOwner (bestOf w (2 ^ g .m) (idAt ids i) ids set) i
+
+-- left neighbour: the member of left with least Fall(member, i), or i if left is empty
+abbrev pub leftNeighbour : Ring → List ℕ → ℕ → Sides → ℕ
+leftNeighbour g ids i s = seenFrom Up g ids i (s .left)
+
+-- right neighbour: least Fall(i, member), or i
+abbrev pub rightNeighbour : Ring → List ℕ → ℕ → Sides → ℕ
+rightNeighbour g ids i s = seenFrom Down g ids i (s .right)
+
+-- leftmost and rightmost: the greatest such Fall, or i
+abbrev pub leftmost : Ring → List ℕ → ℕ → Sides → ℕ
+leftmost g ids i s = seenFrom FarUp g ids i (s .left)
+
+abbrev pub rightmost : Ring → List ℕ → ℕ → Sides → ℕ
+rightmost g ids i s = seenFrom FarDown g ids i (s .right)
+
+-- the Fall from slot s down to i, and from i down to s
+abbrev pub wayUp : Ring → List ℕ → ℕ → ℕ → ℕ
+wayUp g ids i s = fallOf (2 ^ g .m) (idAt ids s) (idAt ids i)
+
+abbrev pub wayDown : Ring → List ℕ → ℕ → ℕ → ℕ
+wayDown g ids i s = fallOf (2 ^ g .m) (idAt ids i) (idAt ids s)
+
+-- a side joined with D, without i
+abbrev pub joinedWith : ℕ → ℕ → ℕ → ℕ → Bool
+joinedWith side d i s = (has side s || has d s) && not (eqb s i)
+
+-- adding a set D: each side becomes the at most L nearest, in its own direction, of that side joined with D, without i
+unfoldable pub leafWith : Ring → List ℕ → ℕ → Sides → ℕ → Sides
+leafWith g ids i s d =
+    record {
+      left = closest (wayUp g ids i) (g .n) (g .l) (joinedWith (s .left) d i);
+      right = closest (wayDown g ids i) (g .n) (g .l) (joinedWith (s .right) d i)
+    }
+
+-- with j added unless in it
+unfoldable pub leafWithOne : Ring → List ℕ → ℕ → Sides → ℕ → Sides
+leafWithOne g ids i s j = cond (has (contentOf s i) j) s (leafWith g ids i s (single j))
+
+-- overlap: the sides share a member
+unfoldable pub overlaps : Sides → Bool
+overlaps s = not (eqb (meet (s .left) (s .right)) 0)
+
+-- complete: both sides hold exactly L
+unfoldable pub isComplete : Ring → Sides → Bool
+isComplete g s = eqb (sizeOf (s .left)) (g .l) && eqb (sizeOf (s .right)) (g .l)
+
+-- empty: both hold none
+unfoldable pub isEmpty : Sides → Bool
+isEmpty s = eqb (s .left) 0 && eqb (s .right) 0
+
+-- node i covers k, by its two neighbours
+unfoldable pub coversOf : Ring → List ℕ → ℕ → Sides → ℕ → Bool
+coversOf g ids i s k = coversKey (2 ^ g .m) (idAt ids i) (idAt ids (leftNeighbour g ids i s)) (idAt ids (rightNeighbour g ids i s)) k
+
+-- ---- what the functions ask of their caller: the numbers in range, the ids below 2^M, and rising by slot
+
+pub record Listed (g : Ring) (ids : List ℕ) : Type 0 where
+  pub width : Width (g .m)
+  pub n-high : g .n ≤ 64
+  pub ids-in : (s : ℕ) → s < 64 → idAt ids s < 2 ^ g .m
+  pub rises : (s : ℕ) → suc s < g .n → idAt ids s < idAt ids (suc s)

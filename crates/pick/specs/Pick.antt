@@ -1,0 +1,49 @@
+-- The best slot of a set: nearest to a key, or of least or greatest Fall. Definitions only; their laws are in Laws. Assumes nothing.
+use mathlib.Core.Bool.{Bool, true, false, cond}
+use mathlib.Core.List.{List}
+use Prim.Native.Nat.{ℕ, zero, suc, _^_, _<_}
+use lib.Dec.{ltb}
+use lib.ListN.{getD}
+use Rattle.ring.specs.Distance.{fallOf, nearer}
+use Rattle.marks.specs.Marks.{has}
+use Rattle.marks.specs.declared.Found.{Found}
+use Rattle.marks.specs.declared.Found.the-variants.{At, Nothing}
+use Rattle.dist.specs.Inside.{Width}
+use Rattle.pick.specs.declared.Way.{Way}
+use Rattle.pick.specs.declared.Way.the-variants.{Near, Up, Down, FarUp, FarDown}
+
+abbrev pub idAt : List ℕ → ℕ → ℕ
+idAt ids s = getD ids s 0
+
+-- slot s comes before slot b: by nearness to k; by the least Fall above k or below k; by the greatest Fall above k or below k
+abbrev pub aheadOf : Way → ℕ → ℕ → List ℕ → ℕ → ℕ → Bool
+aheadOf Near N k ids s b = nearer N k (idAt ids s) (idAt ids b)
+aheadOf Up N k ids s b = ltb (fallOf N (idAt ids s) k) (fallOf N (idAt ids b) k)
+aheadOf Down N k ids s b = ltb (fallOf N k (idAt ids s)) (fallOf N k (idAt ids b))
+aheadOf FarUp N k ids s b = ltb (fallOf N (idAt ids b) k) (fallOf N (idAt ids s) k)
+aheadOf FarDown N k ids s b = ltb (fallOf N k (idAt ids b)) (fallOf N k (idAt ids s))
+
+-- slot s in the place of what was found before, where it comes before it
+abbrev pub betterOf : (ℕ → ℕ → Bool) → Found → ℕ → Found
+betterOf ahead (At b) s = cond (ahead s b) (At s) (At b)
+betterOf ahead Nothing s = At s
+
+-- of the slots below n that pass a test, the one that comes before all others
+unfoldable pub best : (ℕ → ℕ → Bool) → (ℕ → Bool) → ℕ → Found
+best ahead ok zero = Nothing
+best ahead ok (suc n) = cond (ok n) (betterOf ahead (best ahead ok n) n) (best ahead ok n)
+
+-- the best node of a set
+abbrev pub bestOf : Way → ℕ → ℕ → List ℕ → ℕ → Found
+bestOf w N k ids set = best (aheadOf w N k ids) (has set) 64
+
+-- ---- what the functions ask of their caller
+
+pub record Keyed (m k : ℕ) (ids : List ℕ) : Type 0 where
+  pub width : Width m
+  pub key-in : k < 2 ^ m
+  pub ids-in : (s : ℕ) → s < 64 → idAt ids s < 2 ^ m
+
+abbrev pub Below : Found → ℕ → Type 0
+Below (At b) n = b < n
+Below Nothing n = Unit {0}
