@@ -9,7 +9,7 @@ use Rattle.marks.specs.declared.Found.{Found}
 use Rattle.marks.specs.declared.Found.the-variants.{At, Nothing}
 use Rattle.pick.specs.declared.Way.the-variants.{Near}
 use Rattle.pick.specs.Pick.{idAt, aheadOf, best, bestOf}
-use Rattle.table.specs.declared.Ring.{Ring}
+use Rattle.leaf.specs.declared.Ring.{Ring}
 use Rattle.table.specs.declared.Node.{Node}
 use Rattle.table.specs.Table.{sidesOf}
 use Rattle.leaf.specs.Leaf.{contentOf, overlaps, leftmost, rightmost}

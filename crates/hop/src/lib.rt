@@ -3,10 +3,10 @@ ghost use mathlib.Core.Path.{_≡_};
 ghost use Prim.Native.Nat.{ℕ, _^_, _<_, _≤_};
 ghost use Rattle.leaf.specs.Leaf.{Listed};
 ghost use Rattle.hop.specs.Hop.{byLeaf, leafCandidates, routeCandidates, nextHop};
+use leaf::Ring;
 use marks::Found;
 use pick::Way;
 use table::Node;
-use table::Ring;
 
 // A node other than the one that asks, or no legal route.
 pub enum Hop {

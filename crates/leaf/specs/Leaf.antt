@@ -12,8 +12,8 @@ use Rattle.dist.specs.Inside.{Width}
 use Rattle.pick.specs.declared.Way.{Way}
 use Rattle.pick.specs.declared.Way.the-variants.{Up, Down, FarUp, FarDown}
 use Rattle.pick.specs.Pick.{idAt, bestOf}
-use Rattle.table.specs.declared.Ring.{Ring}
-use Rattle.table.specs.declared.Sides.{Sides}
+use Rattle.leaf.specs.declared.Ring.{Ring}
+use Rattle.leaf.specs.declared.Sides.{Sides}
 use Rattle.leaf.specs.Closest.{closest}
 
 abbrev pub orOwner : Found → ℕ → ℕ

@@ -6,8 +6,19 @@ ghost use Rattle.leaf.specs.Steps.{stepsOf, otherThan};
 ghost use Rattle.leaf.specs.Leaf.{Listed, contentOf, seenFrom, wayUp, wayDown, joinedWith, leafWith, leafWithOne, overlaps, isComplete, isEmpty, coversOf};
 use marks::Found;
 use pick::Way;
-use table::Ring;
-use table::Sides;
+
+// The numbers of a table: ids have m digits, a side holds at most l nodes, and n nodes are listed, in the slots 0 to n - 1.
+pub struct Ring {
+    pub m: u32,
+    pub l: u32,
+    pub n: usize,
+}
+
+// The two sides of a leaf set: left towards rising ids, right towards falling ids.
+pub struct Sides {
+    pub left: u64,
+    pub right: u64,
+}
 
 // Both sides and the owner.
 pub fn content(s: Sides, i: usize) -> u64

@@ -5,8 +5,8 @@ use lib.ListN.{getD, set}
 use Rattle.table.specs.declared.Status.the-variants as status
 use Rattle.table.specs.declared.Node.{Node}
 use Rattle.table.specs.declared.Table.{Table}
-use Rattle.table.specs.declared.Ring.{Ring}
-use Rattle.table.specs.declared.Sides.{Sides}
+use Rattle.leaf.specs.declared.Ring.{Ring}
+use Rattle.leaf.specs.declared.Sides.{Sides}
 use Rattle.table.specs.declared.Message.{Message}
 
 -- the node of a slot that is not listed

@@ -6,6 +6,9 @@ ghost use Rattle.table.specs.Numbers.{statusNumber, statusFrom, answerNu
 ghost use Rattle.table.specs.Table.{nodeAt, withNode, idsOf, ringOf, sidesOf, carriedOf, placed};
 ghost use Rattle.table.specs.Pool.{blank, messageAt};
 
+use leaf::Ring;
+use leaf::Sides;
+
 pub enum Status {
     Dead,
     Wait,
@@ -38,19 +41,6 @@ pub struct Table {
     pub l: u32,
     pub n: usize,
     pub nodes: [Node; 64],
-}
-
-// The numbers of a table.
-pub struct Ring {
-    pub m: u32,
-    pub l: u32,
-    pub n: usize,
-}
-
-// The two sides of a leaf set: left towards rising ids, right towards falling ids.
-pub struct Sides {
-    pub left: u64,
-    pub right: u64,
 }
 
 // A message. `word` is the key or the node; `hops` is the sixth word, 0 so far.
@@ -97,6 +87,12 @@ pub struct Stepped {
     pub answer: Answer,
     pub table: Table,
     pub pool: Pool,
+}
+
+// What the start makes: a table, or the table of no node beside the refusal.
+pub struct Started {
+    pub answer: Answer,
+    pub table: Table,
 }
 
 impl Table {

@@ -1,0 +1,60 @@
+-- The waiting messages as a list, oldest first: equality, adding, removing, sending. Definitions only, each under 01's sentence; their laws are in the other
+-- files. Assumes nothing.
+use mathlib.Core.Bool.{Bool, true, false, cond, not}
+use mathlib.Core.List.{List, [], _∷_, _++_}
+use Prim.Native.Nat.{ℕ, zero, suc, _+_}
+use lib.Dec.{eqb}
+use lib.ListN.{getD, take, drop, length}
+use Rattle.marks.specs.Marks.{has, allTo}
+use Rattle.marks.specs.declared.Found.{Found}
+use Rattle.marks.specs.declared.Found.the-variants.{At, Nothing}
+use Rattle.table.specs.declared.Message.{Message}
+use Rattle.table.specs.declared.Pool.{Pool}
+use Rattle.table.specs.Table.{placed}
+use Rattle.table.specs.Pool.{blank, waiting}
+
+-- a message's fields in a row. The hops are no part of it: they are 0 in every valid pool, and equality is to ignore them once they are not.
+abbrev pub fieldsOf : Message → List ℕ
+fieldsOf m =
+    m .dest ∷ m .kind ∷ m .word ∷ m .flag ∷ m .owner ∷ m .routing ∷ m .left ∷ m .right ∷ m .failed ∷ []
+
+-- two rows have the same first n fields
+abbrev pub sameTo : ℕ → List ℕ → List ℕ → Bool
+sameTo n a b = allTo n (λ f. eqb (getD a f 0) (getD b f 0))
+
+-- two messages are equal
+unfoldable pub alike : Message → Message → Bool
+alike a b = sameTo 9 (fieldsOf a) (fieldsOf b)
+
+-- no two messages are equal
+unfoldable pub allDifferent : List Message → Bool
+allDifferent xs = allTo (length xs) (λ j. allTo j (λ i. not (alike (getD xs i blank) (getD xs j blank))))
+
+-- the first message equal to m, in pool order, where the list starts at place p
+unfoldable pub firstFrom : Message → List Message → ℕ → Found
+firstFrom m [] p = Nothing
+firstFrom m (x ∷ xs) p = cond (alike x m) (At p) (firstFrom m xs (p + 1))
+
+-- the first waiting message equal to it, in pool order
+unfoldable pub firstEqual : List Message → Message → Found
+firstEqual xs m = firstFrom m xs 0
+
+abbrev pub addedAt : Found → List Message → Message → List Message
+addedAt (At p) xs m = xs
+addedAt Nothing xs m = xs ++ (m ∷ [])
+
+-- adding first looks for the first waiting message equal to it, and adds nothing if there is one, else goes to the end
+unfoldable pub added : List Message → Message → List Message
+added xs m = addedAt (firstEqual xs m) xs m
+
+-- removing closes the gap
+unfoldable pub removedAt : List Message → ℕ → List Message
+removedAt xs p = take p xs ++ drop (suc p) xs
+
+-- a message to each slot below n of a set, in rising slot order
+unfoldable pub sentTo : Message → ℕ → ℕ → List Message → List Message
+sentTo m set zero xs = xs
+sentTo m set (suc n) xs = cond (has set n) (added (sentTo m set n xs) (placed m n)) (sentTo m set n xs)
+
+abbrev pub sent : Message → ℕ → List Message → List Message
+sent m set xs = sentTo m set 64 xs

@@ -1,0 +1,86 @@
+-- The six actions, in 01's order. Each is refused with the lowest number that applies, or makes a plan for node i. Argument ranges (1) and the pool's size (6)
+-- are judged in Step and Plans. Definitions only. Assumes nothing.
+use mathlib.Core.Bool.{Bool, true, false, cond, _&&_, _||_, not}
+use mathlib.Core.List.{List, [], _∷_}
+use Prim.Native.Nat.{ℕ}
+use lib.Dec.{eqb}
+use Rattle.marks.specs.Marks.{has, removeOf, single, without}
+use Rattle.marks.specs.declared.Found.{Found}
+use Rattle.marks.specs.declared.Found.the-variants.{At, Nothing}
+use Rattle.leaf.specs.declared.Ring.{Ring}
+use Rattle.leaf.specs.Leaf.{isEmpty, leftNeighbour, rightNeighbour}
+use Rattle.table.specs.declared.Status.{Status}
+use Rattle.table.specs.declared.Status.the-variants as status
+use Rattle.table.specs.declared.Node.{Node}
+use Rattle.table.specs.declared.Message.{Message}
+use Rattle.table.specs.declared.Refusal.the-variants as no
+use Rattle.table.specs.Table.{sidesOf, placed}
+use Rattle.mail.specs.Mail.{firstEqual}
+use Rattle.rules.specs.declared.Plan.{Plan}
+use Rattle.rules.specs.declared.Planned.{Planned}
+use Rattle.rules.specs.declared.Planned.the-variants.{No, Go}
+use Rattle.rules.specs.Letters.{lookup, joinRequest, leaseRequest}
+use Rattle.rules.specs.Plans.{isDead, isReady, isOk, isUp, withStatus, withLeases, quietPlan, sendPlan}
+
+-- an equal message waits
+abbrev pub isFound : Found → Bool
+isFound (At p) = true
+isFound Nothing = false
+
+unfoldable pub waits : List Message → Message → Bool
+waits xs m = isFound (firstEqual xs m)
+
+-- a JoinRequest of i waits anywhere
+unfoldable pub joinWaits : List Message → ℕ → Bool
+joinWaits [] i = false
+joinWaits (x ∷ xs) i = (eqb (x .kind) 2 && eqb (x .word) i) || joinWaits xs i
+
+-- Lookup(i, k). 3 if that Lookup waits. Adds it.
+unfoldable pub planLookup : Bool → ℕ → ℕ → Node → Planned
+planLookup waiting i k v =
+    cond waiting (No no.Waits)
+    (Go (sendPlan v (lookup k) i))
+
+-- Join(i, seed). 2 unless i is dead and seed ready; 3 if a JoinRequest of i waits anywhere; 4 if i's leaf set is not empty.
+-- Adds a JoinRequest (empty routing set) to seed; i becomes wait.
+unfoldable pub planJoin : Bool → ℕ → Node → ℕ → Node → Planned
+planJoin waiting i v seed u =
+    cond (not (isDead (v .status) && isReady (u .status))) (No no.Status)
+    (cond waiting (No no.Waits)
+    (cond (not (isEmpty (sidesOf v))) (No no.LeafSet)
+    (Go (sendPlan (withStatus v status.Wait) (joinRequest i 0) seed))))
+
+-- RequestLease(i). 2 unless ok; 4 if the leaf set is empty. Adds a LeaseRequest from i to the left neighbour, then the right, each only if not in lease.
+unfoldable pub leasePlan : Ring → List ℕ → ℕ → Node → Plan
+leasePlan g ids i v =
+    record {
+      node = v;
+      one = leaseRequest i;
+      to1 = without (single (leftNeighbour g ids i (sidesOf v))) (v .lease);
+      two = leaseRequest i;
+      to2 = without (single (rightNeighbour g ids i (sidesOf v))) (v .lease)
+    }
+
+unfoldable pub planRequestLease : Ring → List ℕ → ℕ → Node → Planned
+planRequestLease g ids i v =
+    cond (not (isOk (v .status))) (No no.Status)
+    (cond (isEmpty (sidesOf v)) (No no.LeafSet)
+    (Go (leasePlan g ids i v)))
+
+-- j is the left or the right neighbour of i
+unfoldable pub isNeighbour : Ring → List ℕ → ℕ → Node → ℕ → Bool
+isNeighbour g ids i v j = eqb (leftNeighbour g ids i (sidesOf v)) j || eqb (rightNeighbour g ids i (sidesOf v)) j
+
+-- LeaseExpired(i, j). 2 unless ok or ready; 5 if i = j or j is not in lease. Removes j; a ready i with j as left or right neighbour becomes ok.
+unfoldable pub planLeaseExpired : Ring → List ℕ → ℕ → Node → ℕ → Planned
+planLeaseExpired g ids i v j =
+    cond (not (isUp (v .status))) (No no.Status)
+    (cond (eqb i j || not (has (v .lease) j)) (No no.Partner)
+    (Go (quietPlan (withLeases v (removeOf (v .lease) j) (v .grant) (cond (isReady (v .status) && isNeighbour g ids i v j) status.Ok (v .status))))))
+
+-- GrantExpired(i, j). 2 as before; 5 if i = j, j is not in grant of i, or i is in lease of j. Removes j from grant.
+unfoldable pub planGrantExpired : ℕ → Node → ℕ → Node → Planned
+planGrantExpired i v j u =
+    cond (not (isUp (v .status))) (No no.Status)
+    (cond (eqb i j || (not (has (v .grant) j) || has (u .lease) i)) (No no.Partner)
+    (Go (quietPlan (withLeases v (v .lease) (removeOf (v .grant) j) (v .status)))))

@@ -1,0 +1,53 @@
+-- The messages of 01, for no destination yet. A field that a kind lacks is 0. Assumes nothing.
+use Prim.Native.Nat.{ℕ}
+use Rattle.leaf.specs.declared.Sides.{Sides}
+use Rattle.table.specs.declared.Message.{Message}
+
+abbrev pub letter : ℕ → ℕ → ℕ → ℕ → ℕ → Sides → ℕ → Message
+letter kind word flag owner routing s failed =
+    record {
+      kind = kind;
+      dest = 0;
+      word = word;
+      flag = flag;
+      owner = owner;
+      hops = 0;
+      routing = routing;
+      left = s .left;
+      right = s .right;
+      failed = failed
+    }
+
+abbrev pub noSides : Sides
+noSides = record { left = 0; right = 0 }
+
+-- 1 Lookup (key)
+abbrev pub lookup : ℕ → Message
+lookup k = letter 1 k 0 0 0 noSides 0
+
+-- 2 JoinRequest (node, routing set)
+abbrev pub joinRequest : ℕ → ℕ → Message
+joinRequest j routing = letter 2 j 0 0 routing noSides 0
+
+-- 3 JoinReply (routing set, leaf set with owner)
+abbrev pub joinReply : ℕ → ℕ → Sides → Message
+joinReply routing owner s = letter 3 0 0 owner routing s 0
+
+-- 4 LSProbe and 5 LSProbeReply (node, leaf set whose owner is that node, failed)
+abbrev pub lsProbe : ℕ → Sides → ℕ → Message
+lsProbe i s failed = letter 4 i 0 i 0 s failed
+
+abbrev pub lsProbeReply : ℕ → Sides → ℕ → Message
+lsProbeReply i s failed = letter 5 i 0 i 0 s failed
+
+-- 6 NoLegalRoute (key)
+abbrev pub noLegalRoute : ℕ → Message
+noLegalRoute k = letter 6 k 0 0 0 noSides 0
+
+-- 7 LeaseRequest (node)
+abbrev pub leaseRequest : ℕ → Message
+leaseRequest i = letter 7 i 0 0 0 noSides 0
+
+-- 8 BroadcastLSet (leaf set with owner, grant flag)
+abbrev pub broadcastLSet : ℕ → Sides → ℕ → Message
+broadcastLSet owner s flag = letter 8 0 flag owner 0 s 0

@@ -1,0 +1,246 @@
+-- Take(place), by kind, in 01's order: message m at its destination i, whose node is v. Each kind is refused with the lowest number that applies, or makes a plan.
+-- Definitions only. Assumes nothing.
+use mathlib.Core.Bool.{Bool, true, false, cond, _&&_, _||_, not}
+use mathlib.Core.List.{List}
+use Prim.Native.Nat.{ℕ}
+use lib.Dec.{eqb}
+use Rattle.marks.specs.Marks.{has, union, meet, without, addOf, removeOf, single}
+use Rattle.pick.specs.Pick.{idAt}
+use Rattle.leaf.specs.declared.Ring.{Ring}
+use Rattle.leaf.specs.declared.Sides.{Sides}
+use Rattle.leaf.specs.Leaf.{contentOf, leafWith, leafWithOne, overlaps, isComplete, isEmpty, leftNeighbour, rightNeighbour, coversOf}
+use Rattle.table.specs.declared.Status.{Status}
+use Rattle.table.specs.declared.Status.the-variants as status
+use Rattle.table.specs.declared.Node.{Node}
+use Rattle.table.specs.declared.Message.{Message}
+use Rattle.table.specs.declared.Refusal.the-variants as no
+use Rattle.table.specs.Table.{sidesOf, carriedOf}
+use Rattle.table.specs.Pool.{blank}
+use Rattle.hop.specs.declared.Hop.{Hop}
+use Rattle.hop.specs.declared.Hop.the-variants.{To, NoRoute}
+use Rattle.hop.specs.Hop.{nextHop}
+use Rattle.rules.specs.declared.Plan.{Plan}
+use Rattle.rules.specs.declared.Planned.{Planned}
+use Rattle.rules.specs.declared.Planned.the-variants.{No, Go}
+use Rattle.rules.specs.Letters.{lookup, joinRequest, joinReply, lsProbe, lsProbeReply, noLegalRoute, broadcastLSet, noSides}
+use Rattle.rules.specs.Plans.{isDead, isWait, isReady, isUp, withLeases, quietPlan, sendPlan}
+use Rattle.rules.specs.Actions.{isNeighbour}
+
+-- ---- 1 Lookup
+
+-- Lookup goes to the next hop, or NoLegalRoute(k) to i
+abbrev pub forwardPlan : Hop → Node → Message → ℕ → ℕ → Plan
+forwardPlan (To h) v m k i = sendPlan v m h
+forwardPlan NoRoute v m k i = sendPlan v (noLegalRoute k) i
+
+-- 2 unless ready. If i covers k, delivered: nothing is added. Else Lookup goes to the next hop, or NoLegalRoute(k) to i.
+unfoldable pub planTakeLookup : Ring → List ℕ → ℕ → ℕ → Node → ℕ → Planned
+planTakeLookup g ids dead i v k =
+    cond (not (isReady (v .status))) (No no.Status)
+    (cond (coversOf g ids i (sidesOf v) k) (Go (quietPlan v))
+    (Go (forwardPlan (nextHop g ids dead i v k) v (lookup k) k i)))
+
+-- ---- 2 JoinRequest
+
+-- From j. 2 unless ready; 5 if j is in i's content. If i covers j's id, a JoinReply to j with m's routing set and i's leaf set.
+-- Else to the next hop with i's routing set joined in, or NoLegalRoute(id of j) to i.
+unfoldable pub planTakeJoinRequest : Ring → List ℕ → ℕ → ℕ → Node → ℕ → ℕ → Planned
+planTakeJoinRequest g ids dead i v j routing =
+    cond (not (isReady (v .status))) (No no.Status)
+    (cond (has (contentOf (sidesOf v) i) j) (No no.Partner)
+    (cond (coversOf g ids i (sidesOf v) (idAt ids j)) (Go (sendPlan v (joinReply routing i (sidesOf v)) j))
+    (Go (forwardPlan (nextHop g ids dead i v (idAt ids j)) v (joinRequest j (union routing (v .routing))) (idAt ids j) i))))
+
+-- ---- 3 JoinReply
+
+-- routing set gains m's routing set and the content of m's leaf set; that content is added to the leaf set (s); probing = new content without i; failed = empty
+abbrev pub joinedNode : Node → ℕ → ℕ → ℕ → Sides → Node
+joinedNode v i routing content s =
+    record {
+      id = v .id;
+      status = v .status;
+      left = s .left;
+      right = s .right;
+      probing = removeOf (contentOf s i) i;
+      failed = 0;
+      routing = union (v .routing) (union routing content);
+      lease = v .lease;
+      grant = v .grant
+    }
+
+-- LSProbe to each in probing, carrying the new leaf set and empty failed
+abbrev pub joinedPlan : Node → ℕ → Sides → Plan
+joinedPlan v i s = record { node = v; one = blank; to1 = 0; two = lsProbe i s 0; to2 = v .probing }
+
+abbrev pub joinReplyPlan : ℕ → Node → ℕ → ℕ → Sides → Plan
+joinReplyPlan i v routing content s = joinedPlan (joinedNode v i routing content s) i s
+
+-- 2 if dead; 4 if the leaf set is not empty; 5 if probing is not empty
+unfoldable pub planTakeJoinReply : Ring → List ℕ → ℕ → Node → Message → Planned
+planTakeJoinReply g ids i v m =
+    cond (isDead (v .status)) (No no.Status)
+    (cond (not (isEmpty (sidesOf v))) (No no.LeafSet)
+    (cond (not (eqb (v .probing) 0)) (No no.Partner)
+    (Go (joinReplyPlan i v (m .routing) (contentOf (carriedOf m) (m .owner)) (leafWith g ids i (sidesOf v) (contentOf (carriedOf m) (m .owner)))))))
+
+-- ---- 4 LSProbe and 5 LSProbeReply, from j: F, S and P
+
+-- F = failed without j
+abbrev pub failedWithout : Node → ℕ → ℕ
+failedWithout v j = removeOf (v .failed) j
+
+-- P1 = the members of content(S) that are also in m's failed
+abbrev pub probes1 : ℕ → Sides → Message → ℕ
+probes1 i s m = meet (contentOf s i) (m .failed)
+
+-- P2 = content of S after adding m's content without F, minus content(S)
+unfoldable pub probes2 : Ring → List ℕ → ℕ → Sides → ℕ → Message → ℕ
+probes2 g ids i s f m = without (contentOf (leafWith g ids i s (without (contentOf (carriedOf m) (m .owner)) f)) i) (contentOf s i)
+
+-- P = the union of P1 and P2, without members of probing or F and without i
+unfoldable pub probesOf : Ring → List ℕ → ℕ → Node → Sides → ℕ → Message → ℕ
+probesOf g ids i v s f m = removeOf (without (union (probes1 i s m) (probes2 g ids i s f m)) (union (v .probing) f)) i
+
+-- set failed F, leaf set S, routing set plus j, and probing
+abbrev pub learntNode : Node → ℕ → Sides → ℕ → ℕ → Status → Node
+learntNode v j s f probing st =
+    record {
+      id = v .id;
+      status = st;
+      left = s .left;
+      right = s .right;
+      probing = probing;
+      failed = f;
+      routing = addOf (v .routing) j;
+      lease = v .lease;
+      grant = v .grant
+    }
+
+-- 2 if dead; 4 if wait with empty leaf set; 5 if j = i
+abbrev pub waitsEmpty : Node → Bool
+waitsEmpty v = isWait (v .status) && isEmpty (sidesOf v)
+
+-- probing plus P. Send LSProbeReply(S, F) to j, then LSProbe(S, F) to each of P.
+abbrev pub probePlan : ℕ → Node → ℕ → Sides → ℕ → ℕ → Plan
+probePlan i v j s f p =
+    record { node = learntNode v j s f (union (v .probing) p) (v .status); one = lsProbeReply i s f; to1 = single j; two = lsProbe i s f; to2 = p }
+
+unfoldable pub probePlanOf : Ring → List ℕ → ℕ → Node → Message → Plan
+probePlanOf g ids i v m =
+    let j = m .word in
+    let f = failedWithout v j in
+    let s = leafWithOne g ids i (sidesOf v) j in
+    probePlan i v j s f (probesOf g ids i v s f m)
+
+unfoldable pub planTakeProbe : Ring → List ℕ → ℕ → Node → Message → Planned
+planTakeProbe g ids i v m =
+    cond (isDead (v .status)) (No no.Status)
+    (cond (waitsEmpty v) (No no.LeafSet)
+    (cond (eqb (m .word) i) (No no.Partner)
+    (Go (probePlanOf g ids i v m))))
+
+-- probing becomes the union of probing and P, without members of the old failed and without j
+abbrev pub stillProbing : Node → ℕ → ℕ → ℕ
+stillProbing v p j = removeOf (without (union (v .probing) p) (v .failed)) j
+
+-- if i is wait, this is empty, and S overlaps or is complete, i becomes ok
+unfoldable pub statusAfterReply : Ring → Status → Sides → ℕ → Status
+statusAfterReply g st s probing = cond (isWait st && (eqb probing 0 && (overlaps s || isComplete g s))) status.Ok st
+
+-- no reply is sent
+abbrev pub replyPlan : Ring → ℕ → Node → ℕ → Sides → ℕ → ℕ → ℕ → Plan
+replyPlan g i v j s f p probing =
+    record { node = learntNode v j s f probing (statusAfterReply g (v .status) s probing); one = blank; to1 = 0; two = lsProbe i s f; to2 = p }
+
+unfoldable pub replyPlanOf : Ring → List ℕ → ℕ → Node → Message → Plan
+replyPlanOf g ids i v m =
+    let j = m .word in
+    let f = failedWithout v j in
+    let s = leafWithOne g ids i (sidesOf v) j in
+    let p = probesOf g ids i v s f m in
+    replyPlan g i v j s f p (stillProbing v p j)
+
+-- as 4, but 5 also if j is not in probing
+unfoldable pub planTakeProbeReply : Ring → List ℕ → ℕ → Node → Message → Planned
+planTakeProbeReply g ids i v m =
+    cond (isDead (v .status)) (No no.Status)
+    (cond (waitsEmpty v) (No no.LeafSet)
+    (cond (eqb (m .word) i || not (has (v .probing) (m .word))) (No no.Partner)
+    (Go (replyPlanOf g ids i v m))))
+
+-- ---- 7 LeaseRequest
+
+-- BroadcastLSet to j with i's leaf set, flag 1 if j is such a neighbour, else 0; if it is, grant gains j
+abbrev pub grantPlan : ℕ → Node → ℕ → Bool → Plan
+grantPlan i v j near =
+    sendPlan (withLeases v (v .lease) (cond near (addOf (v .grant) j) (v .grant)) (v .status)) (broadcastLSet i (sidesOf v) (cond near 1 0)) j
+
+-- From j. 2 unless ok or ready; 4 if the leaf set is empty.
+unfoldable pub planTakeLeaseRequest : Ring → List ℕ → ℕ → Node → ℕ → Planned
+planTakeLeaseRequest g ids i v j =
+    cond (not (isUp (v .status))) (No no.Status)
+    (cond (isEmpty (sidesOf v)) (No no.LeafSet)
+    (Go (grantPlan i v j (isNeighbour g ids i v j))))
+
+-- ---- 8 BroadcastLSet
+
+-- the new neighbours, left and right, and the old ones
+abbrev pub sameNeighbours : Ring → List ℕ → ℕ → Sides → Sides → Bool
+sameNeighbours g ids i s old =
+    eqb (leftNeighbour g ids i s) (leftNeighbour g ids i old) && eqb (rightNeighbour g ids i s) (rightNeighbour g ids i old)
+
+abbrev pub bothLeased : Ring → List ℕ → ℕ → Sides → ℕ → Bool
+bothLeased g ids i s lease = has lease (leftNeighbour g ids i s) && has lease (rightNeighbour g ids i s)
+
+abbrev pub newNeighbour : Ring → List ℕ → ℕ → Sides → ℕ → Bool
+newNeighbour g ids i s j = eqb (leftNeighbour g ids i s) j || eqb (rightNeighbour g ids i s) j
+
+-- if the flag is set and j is a new neighbour, lease gains j
+abbrev pub leaseAfter : Ring → List ℕ → ℕ → Node → Sides → ℕ → ℕ → ℕ
+leaseAfter g ids i v s j flag = cond (eqb flag 1 && newNeighbour g ids i s j) (addOf (v .lease) j) (v .lease)
+
+-- if both new neighbours are in lease and equal the old neighbours, i becomes ready
+abbrev pub statusAfterLease : Ring → List ℕ → ℕ → Node → Sides → ℕ → Status
+statusAfterLease g ids i v s lease = cond (bothLeased g ids i s lease && sameNeighbours g ids i s (sidesOf v)) status.Ready (v .status)
+
+abbrev pub leasedNode : Node → Sides → ℕ → Status → Node
+leasedNode v s lease st =
+    record {
+      id = v .id;
+      status = st;
+      left = s .left;
+      right = s .right;
+      probing = v .probing;
+      failed = v .failed;
+      routing = v .routing;
+      lease = lease;
+      grant = v .grant
+    }
+
+-- add m's content without failed
+unfoldable pub broadcastPlan : Ring → List ℕ → ℕ → Node → Message → Plan
+broadcastPlan g ids i v m =
+    let s = leafWith g ids i (sidesOf v) (without (contentOf (carriedOf m) (m .owner)) (v .failed)) in
+    let lease = leaseAfter g ids i v s (m .owner) (m .flag) in
+    quietPlan (leasedNode v s lease (statusAfterLease g ids i v s lease))
+
+-- Owner j. 2 unless ok or ready; 4 if the leaf set is not complete; 5 if j = i.
+unfoldable pub planTakeBroadcast : Ring → List ℕ → ℕ → Node → Message → Planned
+planTakeBroadcast g ids i v m =
+    cond (not (isUp (v .status))) (No no.Status)
+    (cond (not (isComplete g (sidesOf v))) (No no.LeafSet)
+    (cond (eqb (m .owner) i) (No no.Partner)
+    (Go (broadcastPlan g ids i v m))))
+
+-- ---- by kind; 6 NoLegalRoute: 5 always
+
+unfoldable pub planTake : ℕ → Ring → List ℕ → ℕ → ℕ → Node → Message → Planned
+planTake kind g ids dead i v m =
+    cond (eqb kind 1) (planTakeLookup g ids dead i v (m .word))
+    (cond (eqb kind 2) (planTakeJoinRequest g ids dead i v (m .word) (m .routing))
+    (cond (eqb kind 3) (planTakeJoinReply g ids i v m)
+    (cond (eqb kind 4) (planTakeProbe g ids i v m)
+    (cond (eqb kind 5) (planTakeProbeReply g ids i v m)
+    (cond (eqb kind 7) (planTakeLeaseRequest g ids i v (m .word))
+    (cond (eqb kind 8) (planTakeBroadcast g ids i v m)
+    (No no.Partner)))))))

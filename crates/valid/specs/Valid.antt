@@ -1,0 +1,112 @@
+-- A table is valid if all numbers are in range, no mark is at n or above, each side has at most L marks, no node is in its own left, right, probing or failed,
+-- each message obeys its kind and no two messages are equal. Slots at n and above are blank (docs/DECISIONS.md). Definitions only; laws in Laws. Assumes nothing.
+use mathlib.Core.Bool.{Bool, true, false, cond, _&&_, _||_, not}
+use mathlib.Core.List.{List}
+use Prim.Native.Nat.{ℕ, pred, _^_}
+use lib.Dec.{eqb, leb, ltb}
+use Rattle.marks.specs.Marks.{has, allTo, sizeOf, listed}
+use Rattle.pick.specs.Pick.{idAt}
+use Rattle.table.specs.declared.Node.{Node}
+use Rattle.table.specs.declared.Table.{Table}
+use Rattle.leaf.specs.declared.Ring.{Ring}
+use Rattle.leaf.specs.declared.Sides.{Sides}
+use Rattle.table.specs.declared.Message.{Message}
+use Rattle.table.specs.declared.Pool.{Pool}
+use Rattle.table.specs.Limits.{mLow, mHigh, lLow, lHigh, nodesHigh, messagesHigh}
+use Rattle.table.specs.Numbers.{statusNumber}
+use Rattle.table.specs.Table.{nodeAt, idsOf, ringOf, sidesOf, carriedOf}
+use Rattle.table.specs.Pool.{messageAt, waiting}
+use Rattle.mail.specs.Mail.{allDifferent}
+
+abbrev pub between : ℕ → ℕ → ℕ → Bool
+between low x high = leb low x && leb x high
+
+-- M from 2 to 32, L from 1 to 8, n from 1 to 64 nodes
+unfoldable pub numbersFit : Ring → Bool
+numbersFit g = between mLow (g .m) mHigh && (between lLow (g .l) lHigh && between 1 (g .n) nodesHigh)
+
+-- ids are below 2^M and strictly rising by slot
+unfoldable pub idFits : Ring → List ℕ → ℕ → Bool
+idFits g ids s = ltb (idAt ids s) (2 ^ g .m) && (eqb s 0 || ltb (idAt ids (pred s)) (idAt ids s))
+
+-- each side has at most L marks, none at n or above, and not its owner's
+unfoldable pub sideFits : Ring → ℕ → ℕ → Bool
+sideFits g owner side = listed (g .n) side && (leb (sizeOf side) (g .l) && not (has side owner))
+
+unfoldable pub leafFits : Ring → ℕ → Sides → Bool
+leafFits g owner s = sideFits g owner (s .left) && sideFits g owner (s .right)
+
+-- a set of other nodes: no mark is at n or above, and the node is not in it
+unfoldable pub othersFit : Ring → ℕ → ℕ → Bool
+othersFit g i set = listed (g .n) set && not (has set i)
+
+unfoldable pub nodeFits : Ring → ℕ → Node → Bool
+nodeFits g i v =
+    leafFits g i (sidesOf v)
+    && (othersFit g i (v .probing)
+    && (othersFit g i (v .failed) && (listed (g .n) (v .routing) && (listed (g .n) (v .lease) && listed (g .n) (v .grant)))))
+
+-- a slot that is not listed: all fields 0
+unfoldable pub isBlank : Node → Bool
+isBlank v =
+    eqb (v .id) 0
+    && (eqb (statusNumber (v .status)) 0
+    && (eqb (v .left) 0
+    && (eqb (v .right) 0
+    && (eqb (v .probing) 0 && (eqb (v .failed) 0 && (eqb (v .routing) 0 && (eqb (v .lease) 0 && eqb (v .grant) 0)))))))
+
+unfoldable pub slotFits : Ring → List ℕ → ℕ → Node → Bool
+slotFits g ids s v = cond (ltb s (g .n)) (idFits g ids s && nodeFits g s v) (isBlank v)
+
+-- ---- messages: 1 Lookup (key); 2 JoinRequest (node, routing set); 3 JoinReply (routing set, leaf set with owner); 4 LSProbe and 5 LSProbeReply
+-- (node, leaf set whose owner is that node, failed); 6 NoLegalRoute (key); 7 LeaseRequest (node); 8 BroadcastLSet (leaf set with owner, grant flag)
+
+abbrev pub isKind : ℕ → Bool
+isKind kind = between 1 kind 8
+
+abbrev pub hasKey : ℕ → Bool
+hasKey kind = eqb kind 1 || eqb kind 6
+
+abbrev pub isProbe : ℕ → Bool
+isProbe kind = eqb kind 4 || eqb kind 5
+
+abbrev pub hasNode : ℕ → Bool
+hasNode kind = eqb kind 2 || (isProbe kind || eqb kind 7)
+
+abbrev pub hasRouting : ℕ → Bool
+hasRouting kind = eqb kind 2 || eqb kind 3
+
+abbrev pub hasLeaf : ℕ → Bool
+hasLeaf kind = eqb kind 3 || (isProbe kind || eqb kind 8)
+
+abbrev pub hasFailed : ℕ → Bool
+hasFailed kind = isProbe kind
+
+abbrev pub hasFlag : ℕ → Bool
+hasFlag kind = eqb kind 8
+
+-- a field that a kind lacks is 0, a flag 0 or 1; carried routing and failed sets may mark any listed node; a carried leaf set obeys the node rules for its owner
+unfoldable pub fieldsFit : ℕ → Ring → Message → Bool
+fieldsFit kind g m =
+    cond (hasKey kind) (ltb (m .word) (2 ^ g .m)) (cond (hasNode kind) (ltb (m .word) (g .n)) (eqb (m .word) 0))
+    && (cond (hasFlag kind) (leb (m .flag) 1) (eqb (m .flag) 0)
+    && (cond (hasLeaf kind) (ltb (m .owner) (g .n) && leafFits g (m .owner) (carriedOf m)) (eqb (m .owner) 0 && (eqb (m .left) 0 && eqb (m .right) 0))
+    && (cond (isProbe kind) (eqb (m .owner) (m .word)) true
+    && (cond (hasRouting kind) (listed (g .n) (m .routing)) (eqb (m .routing) 0)
+    && cond (hasFailed kind) (listed (g .n) (m .failed)) (eqb (m .failed) 0)))))
+
+-- each message obeys its kind; its destination is a slot, and its sixth word is 0
+unfoldable pub messageFits : Ring → Message → Bool
+messageFits g m = isKind (m .kind) && (ltb (m .dest) (g .n) && (eqb (m .hops) 0 && fieldsFit (m .kind) g m))
+
+-- ---- the whole
+
+unfoldable pub nodesFit : Table → Bool
+nodesFit t = allTo 64 (λ s. slotFits (ringOf t) (idsOf t) s (nodeAt t s))
+
+-- at most 256 messages
+unfoldable pub poolFits : Ring → Pool → Bool
+poolFits g p = leb (p .count) messagesHigh && (allTo (p .count) (λ q. messageFits g (messageAt p q)) && allDifferent (waiting p))
+
+unfoldable pub validOf : Table → Pool → Bool
+validOf t p = numbersFit (ringOf t) && (nodesFit t && poolFits (ringOf t) p)
