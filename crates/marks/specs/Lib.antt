@@ -1,1 +1,4 @@
+pub mod Bools
 pub mod Marks
+pub mod Bits
+pub mod Laws
