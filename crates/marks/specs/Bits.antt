@@ -9,6 +9,7 @@ use native.Mathlib.Nat.{add-mul-div-right, mul-assoc, lt-of-lt-of-le, eq-or-lt-o
 use native.Mathlib.Omega.{arith}
 use lib.Pow.{pow-pos, pow-add, pow-mono, high}
 use lib.Dec.{eqb}
+use Rattle.marks.specs.Bools.{lt-or-le}
 use Rattle.marks.specs.Marks.{has, gather}
 
 abbrev pub bit : ℕ → ℕ → ℕ
@@ -66,7 +67,7 @@ has-high n x s h l = rw (div-eq-of-lt (lt-of-lt-of-le h (pow-mono l)))
 -- ---- the marks of a gathered number
 
 -- a digit on top of n digits, as a number
-top : (b : Bool) (n g : ℕ) → g + cond b (2 ^ n) 0 ≡ cond b 1 0 * 2 ^ n + g
+pub top : (b : Bool) (n g : ℕ) → g + cond b (2 ^ n) 0 ≡ cond b 1 0 * 2 ^ n + g
 top true n g = add-comm g (2 ^ n) ∙ ap (λ (x : ℕ). x + g) (sym (one-mul (2 ^ n)))
 top false n g = omega arith
 
@@ -74,7 +75,7 @@ top-lt : (b : Bool) → cond b 1 0 < 2
 top-lt true = omega arith
 top-lt false = omega arith
 
-bit-below : (n d g s : ℕ) → s < n → bit (d * 2 ^ n + g) s ≡ bit g s
+pub bit-below : (n d g s : ℕ) → s < n → bit (d * 2 ^ n + g) s ≡ bit g s
 bit-below n d g s h =
     let r = n - suc s in
     let e : n ≡ r + 1 + s = omega arith in
@@ -119,3 +120,17 @@ gather-same n f g e =
 
 pub gather-all : (n x : ℕ) → x < 2 ^ n → gather n (has x) ≡ x
 gather-all n x h = ext n (gather n (has x)) x (gather-below n (has x)) h (has-gather n (has x))
+
+pub gather-none : (n : ℕ) (f : ℕ → Bool) → ((s : ℕ) → s < n → f s ≡ false) → gather n f ≡ 0
+gather-none n f e =
+    ext n (gather n f) 0 (gather-below n f) (pow-pos n) (λ s h. has-gather n f s h ∙ e s h ∙ sym (has-zero s))
+
+-- slots that fail are not gathered
+pub gather-more : (n m : ℕ) (f : ℕ → Bool) → n ≤ m → ((s : ℕ) → n ≤ s → s < m → f s ≡ false) → gather m f ≡ gather n f
+gather-more n m f h e =
+    ext m (gather m f) (gather n f) (gather-below m f) (lt-of-lt-of-le (gather-below n f) (pow-mono h))
+    (λ s l. has-gather m f s l ∙ go s l (lt-or-le s n))
+  where
+    go : (s : ℕ) → s < m → (s < n) ⊎ (n ≤ s) → f s ≡ has (gather n f) s
+    go s l (inl k) = sym (has-gather n f s k)
+    go s l (inr k) = e s k l ∙ sym (gather-high n f s k)

@@ -2,3 +2,4 @@ pub mod Bools
 pub mod Marks
 pub mod Bits
 pub mod Laws
+pub mod Machine
