@@ -12,7 +12,11 @@ pub enum Found {
 pub fn is_in(set: u64, s: usize) -> bool
     ensures { λ r. ⌜ r ≡ has set s ⌝ }
 {
-    if s < 64 { (set >> (s as u32)) % 2 == 1 } else { false }
+    if s < 64 {
+        (set >> (s as u32)) % 2 == 1
+    } else {
+        false
+    }
 }
 
 // The set of slot s alone; empty for a slot that no mark stands for.
@@ -62,7 +66,11 @@ pub fn count(a: u64) -> u32
 pub fn lowest(a: u64) -> Found
     ensures { λ r. ⌜ r ≡ lowestOf a ⌝ }
 {
-    if a == 0 { Found::Nothing } else { Found::At(u64::trailing_zeros(a) as usize) }
+    if a == 0 {
+        Found::Nothing
+    } else {
+        Found::At(u64::trailing_zeros(a) as usize)
+    }
 }
 
 // The least member from slot s on.
