@@ -4,7 +4,7 @@ ghost use Prim.Native.Nat.{ℕ, _^_, _<_, _≤_};
 ghost use Rattle.ring.specs.Distance.{fallOf, signedOf, absDistOf, leftCoverOf, rightCoverOf, coversKey};
 ghost use Rattle.ring.specs.Distance.{nearer as nearerOf};
 ghost use Rattle.ring.specs.Order.{rank as rankOf};
-ghost use Rattle.dist.specs.Inside.{Width, Inside};
+ghost use Rattle.rules.specs.Asks.{Width, Inside};
 
 // The number of ids.
 pub fn size(m: u32) -> u64

@@ -1,25 +1,20 @@
 // The next hop of a lookup or a join request.
 ghost use mathlib.Core.Path.{_≡_};
 ghost use Prim.Native.Nat.{ℕ, _^_, _<_, _≤_};
-ghost use Rattle.leaf.specs.Leaf.{Listed};
-ghost use Rattle.hop.specs.Hop.{byLeaf, leafCandidates, routeCandidates, nextHop};
-use leaf::Ring;
+ghost use Rattle.rules.specs.Asks.{Listed};
+ghost use Rattle.rules.specs.Hop.{byLeaf, leafCandidates, routeCandidates, nextHop};
 use marks::Found;
-use pick::Way;
-use table::Node;
-
-// A node other than the one that asks, or no legal route.
-pub enum Hop {
-    To(usize),
-    NoRoute,
-}
+use rules::Hop;
+use rules::Node;
+use rules::Ring;
+use rules::Way;
 
 // Is the leaf set alone looked at?
 pub fn by_leaf(g: Ring, ids: &[u32; 64], i: usize, v: Node) -> bool
     requires { ⌜ Listed g (now ids) × (i < 64) ⌝ }
     ensures { λ r. ⌜ r ≡ byLeaf g (now (ids .entry)) i v ⌝ }
 {
-    let s = table::sides_of(v);
+    let s = parts::sides_of(v);
     if leaf::overlap(s) {
         return true;
     }
@@ -35,7 +30,7 @@ pub fn by_leaf(g: Ring, ids: &[u32; 64], i: usize, v: Node) -> bool
 pub fn leaf_candidates(dead: u64, i: usize, v: Node) -> u64
     ensures { λ r. ⌜ r ≡ leafCandidates dead i v ⌝ }
 {
-    let all = leaf::content(table::sides_of(v), i);
+    let all = leaf::content(parts::sides_of(v), i);
     marks::less(marks::less(all, v.failed), dead)
 }
 
@@ -43,7 +38,7 @@ pub fn leaf_candidates(dead: u64, i: usize, v: Node) -> u64
 pub fn route_candidates(dead: u64, i: usize, v: Node) -> u64
     ensures { λ r. ⌜ r ≡ routeCandidates dead i v ⌝ }
 {
-    let all = marks::joined(leaf::content(table::sides_of(v), i), v.routing);
+    let all = marks::joined(leaf::content(parts::sides_of(v), i), v.routing);
     marks::less(marks::less(all, v.failed), dead)
 }
 

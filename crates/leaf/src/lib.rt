@@ -1,24 +1,14 @@
 // Leaf sets: what they hold, their neighbours and ends, adding nodes, and what they cover.
 ghost use mathlib.Core.Path.{_≡_};
 ghost use Prim.Native.Nat.{ℕ, _^_, _<_, _≤_};
-ghost use Rattle.leaf.specs.Closest.{closest};
+ghost use Rattle.rules.specs.Asks.{Listed};
+ghost use Rattle.rules.specs.Closest.{closest};
 ghost use Rattle.leaf.specs.Steps.{stepsOf, otherThan};
-ghost use Rattle.leaf.specs.Leaf.{Listed, contentOf, seenFrom, wayUp, wayDown, joinedWith, leafWith, leafWithOne, overlaps, isComplete, isEmpty, coversOf};
+ghost use Rattle.rules.specs.Leaf.{contentOf, seenFrom, leafWith, leafWithOne, overlaps, isComplete, isEmpty, coversOf};
 use marks::Found;
-use pick::Way;
-
-// The numbers of a table: ids have m digits, a side holds at most l nodes, and n nodes are listed, in the slots 0 to n - 1.
-pub struct Ring {
-    pub m: u32,
-    pub l: u32,
-    pub n: usize,
-}
-
-// The two sides of a leaf set: left towards rising ids, right towards falling ids.
-pub struct Sides {
-    pub left: u64,
-    pub right: u64,
-}
+use rules::Ring;
+use rules::Sides;
+use rules::Way;
 
 // Both sides and the owner.
 pub fn content(s: Sides, i: usize) -> u64

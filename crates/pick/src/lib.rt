@@ -1,17 +1,10 @@
 // One search for all uses: the best slot of a set of nodes, by nearness to a key or by Fall.
 ghost use mathlib.Core.Path.{_≡_};
 ghost use Prim.Native.Nat.{ℕ, _^_, _<_, _≤_};
-ghost use Rattle.pick.specs.Pick.{Keyed, Below, aheadOf, betterOf, bestOf};
+ghost use Rattle.rules.specs.Asks.{Keyed, Below};
+ghost use Rattle.rules.specs.Pick.{aheadOf, betterOf, bestOf};
 use marks::Found;
-
-// What comes first: the nearest to a key; the least or the greatest Fall above it or below it.
-pub enum Way {
-    Near,
-    Up,
-    Down,
-    FarUp,
-    FarDown,
-}
+use rules::Way;
 
 // Does slot s come before slot b?
 pub fn ahead(w: Way, m: u32, k: u32, ids: &[u32; 64], s: usize, b: usize) -> bool

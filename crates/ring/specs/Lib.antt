@@ -1,1 +1,3 @@
 pub mod Distance
+pub mod Falls
+pub mod Order

@@ -7,15 +7,15 @@ use lib.Dec.{eqb}
 use Rattle.marks.specs.Marks.{has, removeOf, single, without}
 use Rattle.marks.specs.declared.Found.{Found}
 use Rattle.marks.specs.declared.Found.the-variants.{At, Nothing}
-use Rattle.leaf.specs.declared.Ring.{Ring}
-use Rattle.leaf.specs.Leaf.{isEmpty, leftNeighbour, rightNeighbour}
-use Rattle.table.specs.declared.Status.{Status}
-use Rattle.table.specs.declared.Status.the-variants as status
-use Rattle.table.specs.declared.Node.{Node}
-use Rattle.table.specs.declared.Message.{Message}
-use Rattle.table.specs.declared.Refusal.the-variants as no
-use Rattle.table.specs.Table.{sidesOf, placed}
-use Rattle.mail.specs.Mail.{firstEqual}
+use Rattle.rules.specs.declared.Ring.{Ring}
+use Rattle.rules.specs.Leaf.{isEmpty, leftNeighbour, rightNeighbour}
+use Rattle.rules.specs.declared.Status.{Status}
+use Rattle.rules.specs.declared.Status.the-variants as status
+use Rattle.rules.specs.declared.Node.{Node}
+use Rattle.rules.specs.declared.Message.{Message}
+use Rattle.rules.specs.declared.Refusal.the-variants as no
+use Rattle.rules.specs.Nodes.{sidesOf, placed}
+use Rattle.rules.specs.Mail.{firstEqual}
 use Rattle.rules.specs.declared.Plan.{Plan}
 use Rattle.rules.specs.declared.Planned.{Planned}
 use Rattle.rules.specs.declared.Planned.the-variants.{No, Go}
@@ -51,14 +51,17 @@ planJoin waiting i v seed u =
     (Go (sendPlan (withStatus v status.Wait) (joinRequest i 0) seed))))
 
 -- RequestLease(i). 2 unless ok; 4 if the leaf set is empty. Adds a LeaseRequest from i to the left neighbour, then the right, each only if not in lease.
+abbrev pub unlessIn : ℕ → ℕ → Found
+unlessIn set s = cond (has set s) Nothing (At s)
+
 unfoldable pub leasePlan : Ring → List ℕ → ℕ → Node → Plan
 leasePlan g ids i v =
     record {
       node = v;
-      one = leaseRequest i;
-      to1 = without (single (leftNeighbour g ids i (sidesOf v))) (v .lease);
-      two = leaseRequest i;
-      to2 = without (single (rightNeighbour g ids i (sidesOf v))) (v .lease)
+      first = leaseRequest i;
+      to = unlessIn (v .lease) (leftNeighbour g ids i (sidesOf v));
+      each = leaseRequest i;
+      all = without (single (rightNeighbour g ids i (sidesOf v))) (v .lease)
     }
 
 unfoldable pub planRequestLease : Ring → List ℕ → ℕ → Node → Planned

@@ -1,7 +1,7 @@
 -- The messages of 01, for no destination yet. A field that a kind lacks is 0. Assumes nothing.
 use Prim.Native.Nat.{ℕ}
-use Rattle.leaf.specs.declared.Sides.{Sides}
-use Rattle.table.specs.declared.Message.{Message}
+use Rattle.rules.specs.declared.Sides.{Sides}
+use Rattle.rules.specs.declared.Message.{Message}
 
 abbrev pub letter : ℕ → ℕ → ℕ → ℕ → ℕ → Sides → ℕ → Message
 letter kind word flag owner routing s failed =

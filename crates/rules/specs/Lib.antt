@@ -1,6 +1,15 @@
+pub mod Limits
+pub mod Numbers
+pub mod Pick
+pub mod Closest
+pub mod Leaf
+pub mod Nodes
+pub mod Hop
+pub mod Pool
+pub mod Mail
+pub mod Fits
 pub mod Letters
 pub mod Plans
 pub mod Actions
 pub mod Take
-pub mod Settled
-pub mod Step
+pub mod Asks

@@ -1,28 +1,17 @@
--- What every action shares: it is refused, or it leaves a node and adds messages. Assumes nothing.
-use mathlib.Core.Bool.{Bool, true, false, cond}
+-- What plans are made of: tests of a status, a node with some fields changed, and the messages that a plan adds. Assumes nothing.
+use mathlib.Core.Bool.{Bool, true, false}
 use mathlib.Core.List.{List}
 use Prim.Native.Nat.{ℕ}
-use lib.Dec.{leb}
-use lib.ListN.{length}
-use Rattle.marks.specs.Marks.{single}
-use Rattle.leaf.specs.declared.Sides.{Sides}
-use Rattle.table.specs.declared.Status.{Status}
-use Rattle.table.specs.declared.Status.the-variants.{Dead, Wait, Ok, Ready}
-use Rattle.table.specs.declared.Node.{Node}
-use Rattle.table.specs.declared.Table.{Table}
-use Rattle.table.specs.declared.Message.{Message}
-use Rattle.table.specs.declared.Pool.{Pool}
-use Rattle.table.specs.declared.Refusal.{Refusal}
-use Rattle.table.specs.declared.Refusal.the-variants as no
-use Rattle.table.specs.declared.Answer.the-variants.{Done, Refused}
-use Rattle.table.specs.declared.Stepped.{Stepped}
-use Rattle.table.specs.Limits.{messagesHigh}
-use Rattle.table.specs.Table.{withNode}
-use Rattle.table.specs.Pool.{blank, laid}
-use Rattle.mail.specs.Mail.{sent}
+use Rattle.marks.specs.declared.Found.{Found}
+use Rattle.marks.specs.declared.Found.the-variants.{At, Nothing}
+use Rattle.rules.specs.declared.Status.{Status}
+use Rattle.rules.specs.declared.Status.the-variants.{Dead, Wait, Ok, Ready}
+use Rattle.rules.specs.declared.Node.{Node}
+use Rattle.rules.specs.declared.Message.{Message}
+use Rattle.rules.specs.Nodes.{placed}
+use Rattle.rules.specs.Pool.{blank}
+use Rattle.rules.specs.Mail.{added, sent}
 use Rattle.rules.specs.declared.Plan.{Plan}
-use Rattle.rules.specs.declared.Planned.{Planned}
-use Rattle.rules.specs.declared.Planned.the-variants.{No, Go}
 
 -- ---- statuses
 
@@ -91,30 +80,17 @@ withLeases v lease grant s =
 
 -- the node, and nothing added
 abbrev pub quietPlan : Node → Plan
-quietPlan v = record { node = v; one = blank; to1 = 0; two = blank; to2 = 0 }
+quietPlan v = record { node = v; first = blank; to = Nothing; each = blank; all = 0 }
 
 -- the node, and one message to one slot
 abbrev pub sendPlan : Node → Message → ℕ → Plan
-sendPlan v m s = record { node = v; one = m; to1 = single s; two = blank; to2 = 0 }
+sendPlan v m s = record { node = v; first = m; to = At s; each = blank; all = 0 }
+
+-- a message to a slot, if there is one
+abbrev pub addedTo : Found → Message → List Message → List Message
+addedTo (At s) m ys = added ys (placed m s)
+addedTo Nothing m ys = ys
 
 -- what waits after the plan, where ys waited before it
 unfoldable pub mailed : Plan → List Message → List Message
-mailed x ys = sent (x .two) (x .to2) (sent (x .one) (x .to1) ys)
-
--- ---- a step is refused and changes nothing, or is done
-
-abbrev pub refusedOf : Table → Pool → Refusal → Stepped
-refusedOf t p why = record { answer = Refused why; table = t; pool = p }
-
-abbrev pub doneOf : Table → Pool → Stepped
-doneOf t p = record { answer = Done; table = t; pool = p }
-
--- 6 if the pool after the step would exceed 256; else node i and the pool are those of the plan
-unfoldable pub carriedOut : Table → Pool → List Message → ℕ → Plan → Stepped
-carriedOut t p ys i x =
-    cond (leb (length (mailed x ys)) messagesHigh) (doneOf (withNode t i (x .node)) (laid (mailed x ys))) (refusedOf t p no.Full)
-
--- the table t, the pool p that a refusal leaves, the messages ys that wait when additions begin, the node's slot, and what is planned
-unfoldable pub settle : Table → Pool → List Message → ℕ → Planned → Stepped
-settle t p ys i (No why) = refusedOf t p why
-settle t p ys i (Go x) = carriedOut t p ys i x
+mailed x ys = sent (x .each) (x .all) (addedTo (x .to) (x .first) ys)

@@ -4,21 +4,22 @@ use mathlib.Core.Bool.{Bool, true, false, cond, _&&_, _||_, not}
 use mathlib.Core.List.{List}
 use Prim.Native.Nat.{ℕ}
 use lib.Dec.{eqb}
-use Rattle.marks.specs.Marks.{has, union, meet, without, addOf, removeOf, single}
-use Rattle.pick.specs.Pick.{idAt}
-use Rattle.leaf.specs.declared.Ring.{Ring}
-use Rattle.leaf.specs.declared.Sides.{Sides}
-use Rattle.leaf.specs.Leaf.{contentOf, leafWith, leafWithOne, overlaps, isComplete, isEmpty, leftNeighbour, rightNeighbour, coversOf}
-use Rattle.table.specs.declared.Status.{Status}
-use Rattle.table.specs.declared.Status.the-variants as status
-use Rattle.table.specs.declared.Node.{Node}
-use Rattle.table.specs.declared.Message.{Message}
-use Rattle.table.specs.declared.Refusal.the-variants as no
-use Rattle.table.specs.Table.{sidesOf, carriedOf}
-use Rattle.table.specs.Pool.{blank}
-use Rattle.hop.specs.declared.Hop.{Hop}
-use Rattle.hop.specs.declared.Hop.the-variants.{To, NoRoute}
-use Rattle.hop.specs.Hop.{nextHop}
+use Rattle.marks.specs.Marks.{has, union, meet, without, addOf, removeOf}
+use Rattle.marks.specs.declared.Found.the-variants.{At, Nothing}
+use Rattle.rules.specs.Pick.{idAt}
+use Rattle.rules.specs.declared.Ring.{Ring}
+use Rattle.rules.specs.declared.Sides.{Sides}
+use Rattle.rules.specs.Leaf.{contentOf, leafWith, leafWithOne, overlaps, isComplete, isEmpty, leftNeighbour, rightNeighbour, coversOf}
+use Rattle.rules.specs.declared.Status.{Status}
+use Rattle.rules.specs.declared.Status.the-variants as status
+use Rattle.rules.specs.declared.Node.{Node}
+use Rattle.rules.specs.declared.Message.{Message}
+use Rattle.rules.specs.declared.Refusal.the-variants as no
+use Rattle.rules.specs.Nodes.{sidesOf, carriedOf}
+use Rattle.rules.specs.Pool.{blank}
+use Rattle.rules.specs.declared.Hop.{Hop}
+use Rattle.rules.specs.declared.Hop.the-variants.{To, NoRoute}
+use Rattle.rules.specs.Hop.{nextHop}
 use Rattle.rules.specs.declared.Plan.{Plan}
 use Rattle.rules.specs.declared.Planned.{Planned}
 use Rattle.rules.specs.declared.Planned.the-variants.{No, Go}
@@ -70,7 +71,7 @@ joinedNode v i routing content s =
 
 -- LSProbe to each in probing, carrying the new leaf set and empty failed
 abbrev pub joinedPlan : Node → ℕ → Sides → Plan
-joinedPlan v i s = record { node = v; one = blank; to1 = 0; two = lsProbe i s 0; to2 = v .probing }
+joinedPlan v i s = record { node = v; first = blank; to = Nothing; each = lsProbe i s 0; all = v .probing }
 
 abbrev pub joinReplyPlan : ℕ → Node → ℕ → ℕ → Sides → Plan
 joinReplyPlan i v routing content s = joinedPlan (joinedNode v i routing content s) i s
@@ -123,7 +124,7 @@ waitsEmpty v = isWait (v .status) && isEmpty (sidesOf v)
 -- probing plus P. Send LSProbeReply(S, F) to j, then LSProbe(S, F) to each of P.
 abbrev pub probePlan : ℕ → Node → ℕ → Sides → ℕ → ℕ → Plan
 probePlan i v j s f p =
-    record { node = learntNode v j s f (union (v .probing) p) (v .status); one = lsProbeReply i s f; to1 = single j; two = lsProbe i s f; to2 = p }
+    record { node = learntNode v j s f (union (v .probing) p) (v .status); first = lsProbeReply i s f; to = At j; each = lsProbe i s f; all = p }
 
 unfoldable pub probePlanOf : Ring → List ℕ → ℕ → Node → Message → Plan
 probePlanOf g ids i v m =
@@ -150,7 +151,7 @@ statusAfterReply g st s probing = cond (isWait st && (eqb probing 0 && (overlaps
 -- no reply is sent
 abbrev pub replyPlan : Ring → ℕ → Node → ℕ → Sides → ℕ → ℕ → ℕ → Plan
 replyPlan g i v j s f p probing =
-    record { node = learntNode v j s f probing (statusAfterReply g (v .status) s probing); one = blank; to1 = 0; two = lsProbe i s f; to2 = p }
+    record { node = learntNode v j s f probing (statusAfterReply g (v .status) s probing); first = blank; to = Nothing; each = lsProbe i s f; all = p }
 
 unfoldable pub replyPlanOf : Ring → List ℕ → ℕ → Node → Message → Plan
 replyPlanOf g ids i v m =

@@ -1,7 +1,98 @@
-// The rules of 01 as definitions: specs/ has every action in 01's order and words. Here are the types that they speak of.
-use table::Message;
-use table::Node;
-use table::Refusal;
+// The rules of 01 as definitions: specs/ has them in 01's order and words. Here are the types that they speak of, all by value; there is no code.
+use marks::Found;
+
+// What comes first: the nearest to a key; the least or the greatest Fall above it or below it.
+pub enum Way {
+    Near,
+    Up,
+    Down,
+    FarUp,
+    FarDown,
+}
+
+// The numbers of a table: ids have m digits, a side holds at most l nodes, and n nodes are listed, in the slots 0 to n - 1.
+pub struct Ring {
+    pub m: u32,
+    pub l: u32,
+    pub n: usize,
+}
+
+// The two sides of a leaf set: left towards rising ids, right towards falling ids.
+pub struct Sides {
+    pub left: u64,
+    pub right: u64,
+}
+
+pub enum Status {
+    Dead,
+    Wait,
+    Ok,
+    Ready,
+}
+
+// What a number says of a status.
+pub enum Read {
+    Is(Status),
+    None,
+}
+
+// A node: its id and status, and seven sets of nodes.
+pub struct Node {
+    pub id: u32,
+    pub status: Status,
+    pub left: u64,
+    pub right: u64,
+    pub probing: u64,
+    pub failed: u64,
+    pub routing: u64,
+    pub lease: u64,
+    pub grant: u64,
+}
+
+// A message. `word` is the key or the node; `hops` is the sixth word, 0 so far.
+pub struct Message {
+    pub kind: u32,
+    pub dest: u32,
+    pub word: u32,
+    pub flag: u32,
+    pub owner: u32,
+    pub hops: u32,
+    pub routing: u64,
+    pub left: u64,
+    pub right: u64,
+    pub failed: u64,
+}
+
+// The waiting messages, oldest first: the first `count` of 256 places.
+pub struct Pool {
+    pub count: usize,
+    pub places: [Message; 256],
+}
+
+// A node other than the one that asks, or no legal route.
+pub enum Hop {
+    To(usize),
+    NoRoute,
+}
+
+pub enum Refusal {
+    OutOfRange,
+    Status,
+    Waits,
+    LeafSet,
+    Partner,
+    Full,
+    Short,
+    Header,
+    Offsets,
+    Invalid,
+    NoRoom,
+}
+
+pub enum Answer {
+    Done,
+    Refused(Refusal),
+}
 
 // An action is one of six kinds, each with its own arguments: slots, a slot and a key, or a place. They are wider than their ranges, so that 1 can be answered.
 pub enum Action {
@@ -13,13 +104,13 @@ pub enum Action {
     Take(usize),
 }
 
-// What an action leaves of its node and adds to the pool: `one` to each slot of a set, then `two` to each slot of another, in rising slot order.
+// What an action leaves of its node and adds to the pool: `first` to one slot, if any, then `each` to every slot of a set, in rising slot order.
 pub struct Plan {
     pub node: Node,
-    pub one: Message,
-    pub to1: u64,
-    pub two: Message,
-    pub to2: u64,
+    pub first: Message,
+    pub to: Found,
+    pub each: Message,
+    pub all: u64,
 }
 
 pub enum Planned {

@@ -6,8 +6,9 @@ use native.Mathlib.Decide.{ℕ-discrete}
 use native.Mathlib.Omega.{arith}
 use lib.ListN.{length, length-set, length-map, getD, set}
 use lib.Seq.{ext-getD, getD-set-same, getD-set-other}
-use Rattle.table.specs.declared.Node.{Node}
-use Rattle.table.specs.Table.{noNode, idOf}
+use Rattle.rules.specs.declared.Node.{Node}
+use Rattle.rules.specs.Nodes.{noNode}
+use Rattle.table.specs.Table.{idOf}
 use Rattle.table.specs.Ids.{ids-at}
 
 pub record IdsTo (vs : List Node) (s : ℕ) (r : List ℕ) : Type 0 where

@@ -3,8 +3,9 @@ use mathlib.Core.Path.{_≡_, refl}
 use mathlib.Core.List.{List, [], _∷_, map}
 use Prim.Native.Nat.{ℕ, zero, suc}
 use lib.ListN.{getD}
-use Rattle.table.specs.declared.Node.{Node}
-use Rattle.table.specs.Table.{noNode, idOf}
+use Rattle.rules.specs.declared.Node.{Node}
+use Rattle.rules.specs.Nodes.{noNode}
+use Rattle.table.specs.Table.{idOf}
 
 pub ids-at : (vs : List Node) (s : ℕ) → getD (map idOf vs) s 0 ≡ getD vs s noNode .id
 ids-at [] s = refl

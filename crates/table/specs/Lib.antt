@@ -1,6 +1,7 @@
-pub mod Ids
-pub mod Limits
-pub mod Numbers
-pub mod Pool
-pub mod Start
 pub mod Table
+pub mod Ids
+pub mod Start
+pub mod Valid
+pub mod Settle
+pub mod Settled
+pub mod Step

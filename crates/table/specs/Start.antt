@@ -6,20 +6,20 @@ use Prim.Native.Nat.{ℕ, zero, suc, pred, _^_}
 use lib.Dec.{eqb, leb, ltb}
 use lib.ListN.{length, take, replicate}
 use Rattle.marks.specs.Marks.{has, allTo, single, listed}
-use Rattle.pick.specs.Pick.{idAt}
-use Rattle.leaf.specs.declared.Ring.{Ring}
-use Rattle.leaf.specs.declared.Sides.{Sides}
-use Rattle.leaf.specs.Leaf.{leafWith}
-use Rattle.table.specs.declared.Status.the-variants as status
-use Rattle.table.specs.declared.Node.{Node}
+use Rattle.rules.specs.Pick.{idAt}
+use Rattle.rules.specs.declared.Ring.{Ring}
+use Rattle.rules.specs.declared.Sides.{Sides}
+use Rattle.rules.specs.Leaf.{leafWith}
+use Rattle.rules.specs.declared.Status.the-variants as status
+use Rattle.rules.specs.declared.Node.{Node}
 use Rattle.table.specs.declared.Table.{Table}
-use Rattle.table.specs.declared.Refusal.{Refusal}
-use Rattle.table.specs.declared.Refusal.the-variants as no
-use Rattle.table.specs.declared.Answer.{Answer}
-use Rattle.table.specs.declared.Answer.the-variants.{Done, Refused}
+use Rattle.rules.specs.declared.Refusal.{Refusal}
+use Rattle.rules.specs.declared.Refusal.the-variants as no
+use Rattle.rules.specs.declared.Answer.{Answer}
+use Rattle.rules.specs.declared.Answer.the-variants.{Done, Refused}
 use Rattle.table.specs.declared.Started.{Started}
-use Rattle.table.specs.Limits.{mLow, mHigh, lLow, lHigh, nodesHigh}
-use Rattle.table.specs.Table.{noNode}
+use Rattle.rules.specs.Limits.{mLow, mHigh, lLow, lHigh, nodesHigh}
+use Rattle.rules.specs.Nodes.{noNode}
 
 -- the ids in their slots, and 0 in the slots past them
 unfoldable pub slotIds : List ℕ → List ℕ

@@ -1,16 +1,15 @@
 -- The best slot of a set: nearest to a key, or of least or greatest Fall. Definitions only; their laws are in Laws. Assumes nothing.
 use mathlib.Core.Bool.{Bool, true, false, cond}
 use mathlib.Core.List.{List}
-use Prim.Native.Nat.{ℕ, zero, suc, _^_, _<_}
+use Prim.Native.Nat.{ℕ, zero, suc}
 use lib.Dec.{ltb}
 use lib.ListN.{getD}
 use Rattle.ring.specs.Distance.{fallOf, nearer}
 use Rattle.marks.specs.Marks.{has}
 use Rattle.marks.specs.declared.Found.{Found}
 use Rattle.marks.specs.declared.Found.the-variants.{At, Nothing}
-use Rattle.dist.specs.Inside.{Width}
-use Rattle.pick.specs.declared.Way.{Way}
-use Rattle.pick.specs.declared.Way.the-variants.{Near, Up, Down, FarUp, FarDown}
+use Rattle.rules.specs.declared.Way.{Way}
+use Rattle.rules.specs.declared.Way.the-variants.{Near, Up, Down, FarUp, FarDown}
 
 abbrev pub idAt : List ℕ → ℕ → ℕ
 idAt ids s = getD ids s 0
@@ -36,14 +35,3 @@ best ahead ok (suc n) = cond (ok n) (betterOf ahead (best ahead ok n) n) (best a
 -- the best node of a set
 abbrev pub bestOf : Way → ℕ → ℕ → List ℕ → ℕ → Found
 bestOf w N k ids set = best (aheadOf w N k ids) (has set) 64
-
--- ---- what the functions ask of their caller
-
-pub record Keyed (m k : ℕ) (ids : List ℕ) : Type 0 where
-  pub width : Width m
-  pub key-in : k < 2 ^ m
-  pub ids-in : (s : ℕ) → s < 64 → idAt ids s < 2 ^ m
-
-abbrev pub Below : Found → ℕ → Type 0
-Below (At b) n = b < n
-Below Nothing n = Unit {0}

@@ -1,9 +1,9 @@
--- `table::status_from` meets its contract: the number that was matched decides the tests of the definition. Assumes nothing.
+-- `parts::status_from` meets its contract: the number that was matched decides the tests of the definition. Assumes nothing.
 use mathlib.Core.Path.{sym, ap}
 use borrow.Author.Tests.{ne-eqb}
-use Rattle.table.specs.Numbers.{statusFrom}
-use Rattle.table.proofs.status_from.Statement.{statement}
-use Rattle.table.proofs.status_from.Tie as tie
+use Rattle.rules.specs.Numbers.{statusFrom}
+use Rattle.parts.proofs.status_from.Statement.{statement}
+use Rattle.parts.proofs.status_from.Tie as tie
 
 returns : tie.Need-returns
 unfolding statusFrom

@@ -2,8 +2,8 @@
 use mathlib.Core.List.{List, _++_}
 use Prim.Native.Nat.{ℕ, _-_}
 use lib.ListN.{getD, take, length, replicate}
-use Rattle.table.specs.declared.Message.{Message}
-use Rattle.table.specs.declared.Pool.{Pool}
+use Rattle.rules.specs.declared.Message.{Message}
+use Rattle.rules.specs.declared.Pool.{Pool}
 
 -- blank: all fields 0
 abbrev pub blank : Message

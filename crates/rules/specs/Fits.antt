@@ -1,22 +1,19 @@
 -- A table is valid if all numbers are in range, no mark is at n or above, each side has at most L marks, no node is in its own left, right, probing or failed,
--- each message obeys its kind and no two messages are equal. Slots at n and above are blank (docs/DECISIONS.md). Definitions only; laws in Laws. Assumes nothing.
+-- each message obeys its kind and no two messages are equal. Slots at n and above are blank (docs/DECISIONS.md). These are the rules of
+-- one slot and of one message; Valid of crate table puts them together. Definitions only. Assumes nothing.
 use mathlib.Core.Bool.{Bool, true, false, cond, _&&_, _||_, not}
 use mathlib.Core.List.{List}
 use Prim.Native.Nat.{ℕ, pred, _^_}
 use lib.Dec.{eqb, leb, ltb}
-use Rattle.marks.specs.Marks.{has, allTo, sizeOf, listed}
-use Rattle.pick.specs.Pick.{idAt}
-use Rattle.table.specs.declared.Node.{Node}
-use Rattle.table.specs.declared.Table.{Table}
-use Rattle.leaf.specs.declared.Ring.{Ring}
-use Rattle.leaf.specs.declared.Sides.{Sides}
-use Rattle.table.specs.declared.Message.{Message}
-use Rattle.table.specs.declared.Pool.{Pool}
-use Rattle.table.specs.Limits.{mLow, mHigh, lLow, lHigh, nodesHigh, messagesHigh}
-use Rattle.table.specs.Numbers.{statusNumber}
-use Rattle.table.specs.Table.{nodeAt, idsOf, ringOf, sidesOf, carriedOf}
-use Rattle.table.specs.Pool.{messageAt, waiting}
-use Rattle.mail.specs.Mail.{allDifferent}
+use Rattle.marks.specs.Marks.{has, sizeOf, listed}
+use Rattle.rules.specs.Pick.{idAt}
+use Rattle.rules.specs.declared.Node.{Node}
+use Rattle.rules.specs.declared.Ring.{Ring}
+use Rattle.rules.specs.declared.Sides.{Sides}
+use Rattle.rules.specs.declared.Message.{Message}
+use Rattle.rules.specs.Limits.{mLow, mHigh, lLow, lHigh, nodesHigh}
+use Rattle.rules.specs.Numbers.{statusNumber}
+use Rattle.rules.specs.Nodes.{sidesOf, carriedOf}
 
 abbrev pub between : ℕ → ℕ → ℕ → Bool
 between low x high = leb low x && leb x high
@@ -98,15 +95,3 @@ fieldsFit kind g m =
 -- each message obeys its kind; its destination is a slot, and its sixth word is 0
 unfoldable pub messageFits : Ring → Message → Bool
 messageFits g m = isKind (m .kind) && (ltb (m .dest) (g .n) && (eqb (m .hops) 0 && fieldsFit (m .kind) g m))
-
--- ---- the whole
-
-unfoldable pub nodesFit : Table → Bool
-nodesFit t = allTo 64 (λ s. slotFits (ringOf t) (idsOf t) s (nodeAt t s))
-
--- at most 256 messages
-unfoldable pub poolFits : Ring → Pool → Bool
-poolFits g p = leb (p .count) messagesHigh && (allTo (p .count) (λ q. messageFits g (messageAt p q)) && allDifferent (waiting p))
-
-unfoldable pub validOf : Table → Pool → Bool
-validOf t p = numbersFit (ringOf t) && (nodesFit t && poolFits (ringOf t) p)

@@ -2,19 +2,18 @@
 -- ids are the ids by slot. Their laws are in Laws. Assumes nothing.
 use mathlib.Core.Bool.{Bool, cond, _&&_, _||_, not}
 use mathlib.Core.List.{List}
-use Prim.Native.Nat.{ℕ, suc, _+_, _^_, _<_, _≤_}
-use lib.Dec.{eqb, ltb}
+use Prim.Native.Nat.{ℕ, _^_}
+use lib.Dec.{eqb}
 use Rattle.ring.specs.Distance.{fallOf, coversKey}
 use Rattle.marks.specs.Marks.{has, union, meet, addOf, single, sizeOf}
 use Rattle.marks.specs.declared.Found.{Found}
 use Rattle.marks.specs.declared.Found.the-variants.{At, Nothing}
-use Rattle.dist.specs.Inside.{Width}
-use Rattle.pick.specs.declared.Way.{Way}
-use Rattle.pick.specs.declared.Way.the-variants.{Up, Down, FarUp, FarDown}
-use Rattle.pick.specs.Pick.{idAt, bestOf}
-use Rattle.leaf.specs.declared.Ring.{Ring}
-use Rattle.leaf.specs.declared.Sides.{Sides}
-use Rattle.leaf.specs.Closest.{closest}
+use Rattle.rules.specs.declared.Way.{Way}
+use Rattle.rules.specs.declared.Way.the-variants.{Up, Down, FarUp, FarDown}
+use Rattle.rules.specs.Pick.{idAt, bestOf}
+use Rattle.rules.specs.declared.Ring.{Ring}
+use Rattle.rules.specs.declared.Sides.{Sides}
+use Rattle.rules.specs.Closest.{closest}
 
 abbrev pub orOwner : Found → ℕ → ℕ
 orOwner (At s) i = s
@@ -81,11 +80,3 @@ isEmpty s = eqb (s .left) 0 && eqb (s .right) 0
 -- node i covers k, by its two neighbours
 unfoldable pub coversOf : Ring → List ℕ → ℕ → Sides → ℕ → Bool
 coversOf g ids i s k = coversKey (2 ^ g .m) (idAt ids i) (idAt ids (leftNeighbour g ids i s)) (idAt ids (rightNeighbour g ids i s)) k
-
--- ---- what the functions ask of their caller: the numbers in range, the ids below 2^M, and rising by slot
-
-pub record Listed (g : Ring) (ids : List ℕ) : Type 0 where
-  pub width : Width (g .m)
-  pub n-high : g .n ≤ 64
-  pub ids-in : (s : ℕ) → s < 64 → idAt ids s < 2 ^ g .m
-  pub rises : (s : ℕ) → suc s < g .n → idAt ids s < idAt ids (suc s)

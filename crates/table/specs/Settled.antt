@@ -4,13 +4,14 @@ use mathlib.Core.List.{List}
 use Prim.Native.Nat.{ℕ}
 use lib.Dec.{eqb}
 use Rattle.marks.specs.Marks.{has, gather, allTo, meet, removeOf}
-use Rattle.pick.specs.declared.Way.the-variants.{Up, Down}
-use Rattle.leaf.specs.declared.Ring.{Ring}
-use Rattle.leaf.specs.Leaf.{seenFrom, leftNeighbour, rightNeighbour}
-use Rattle.table.specs.declared.Node.{Node}
+use Rattle.rules.specs.declared.Way.the-variants.{Up, Down}
+use Rattle.rules.specs.declared.Ring.{Ring}
+use Rattle.rules.specs.Leaf.{seenFrom, leftNeighbour, rightNeighbour}
+use Rattle.rules.specs.declared.Node.{Node}
 use Rattle.table.specs.declared.Table.{Table}
-use Rattle.table.specs.Table.{nodeAt, idsOf, ringOf, sidesOf}
+use Rattle.table.specs.Table.{nodeAt, idsOf, ringOf}
+use Rattle.rules.specs.Nodes.{sidesOf}
 use Rattle.rules.specs.Plans.{isDead, isReady}
 
 -- the ready nodes, and the dead ones
 unfoldable pub readySet : Table → ℕ

@@ -7,14 +7,14 @@ use Rattle.ring.specs.Distance.{fallOf, nearer}
 use Rattle.marks.specs.Marks.{has, union, without}
 use Rattle.marks.specs.declared.Found.{Found}
 use Rattle.marks.specs.declared.Found.the-variants.{At, Nothing}
-use Rattle.pick.specs.declared.Way.the-variants.{Near}
-use Rattle.pick.specs.Pick.{idAt, aheadOf, best, bestOf}
-use Rattle.leaf.specs.declared.Ring.{Ring}
-use Rattle.table.specs.declared.Node.{Node}
-use Rattle.table.specs.Table.{sidesOf}
-use Rattle.leaf.specs.Leaf.{contentOf, overlaps, leftmost, rightmost}
-use Rattle.hop.specs.declared.Hop.{Hop}
-use Rattle.hop.specs.declared.Hop.the-variants.{To, NoRoute}
+use Rattle.rules.specs.declared.Way.the-variants.{Near}
+use Rattle.rules.specs.Pick.{idAt, aheadOf, best, bestOf}
+use Rattle.rules.specs.declared.Ring.{Ring}
+use Rattle.rules.specs.declared.Node.{Node}
+use Rattle.rules.specs.Nodes.{sidesOf}
+use Rattle.rules.specs.Leaf.{contentOf, overlaps, leftmost, rightmost}
+use Rattle.rules.specs.declared.Hop.{Hop}
+use Rattle.rules.specs.declared.Hop.the-variants.{To, NoRoute}
 
 -- some nodes without failed and dead
 abbrev pub legalOf : ℕ → Node → ℕ → ℕ

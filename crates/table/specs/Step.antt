@@ -3,23 +3,24 @@ use mathlib.Core.Bool.{Bool, true, false, cond, _&&_}
 use mathlib.Core.List.{List}
 use Prim.Native.Nat.{ℕ, _^_}
 use lib.Dec.{eqb, ltb}
-use Rattle.table.specs.declared.Message.{Message}
+use Rattle.rules.specs.declared.Message.{Message}
 use Rattle.table.specs.declared.Table.{Table}
-use Rattle.table.specs.declared.Pool.{Pool}
-use Rattle.table.specs.declared.Refusal.the-variants as no
+use Rattle.rules.specs.declared.Pool.{Pool}
+use Rattle.rules.specs.declared.Refusal.the-variants as no
 use Rattle.table.specs.declared.Stepped.{Stepped}
-use Rattle.table.specs.Limits.{messagesHigh}
-use Rattle.table.specs.Table.{nodeAt, idsOf, ringOf, placed}
-use Rattle.table.specs.Pool.{waiting, messageAt}
-use Rattle.mail.specs.Mail.{removedAt}
-use Rattle.valid.specs.Valid.{validOf}
+use Rattle.rules.specs.Limits.{messagesHigh}
+use Rattle.table.specs.Table.{nodeAt, idsOf, ringOf}
+use Rattle.rules.specs.Nodes.{placed}
+use Rattle.rules.specs.Pool.{waiting, messageAt}
+use Rattle.rules.specs.Mail.{removedAt}
+use Rattle.table.specs.Valid.{validOf}
 use Rattle.rules.specs.declared.Action.{Action}
 use Rattle.rules.specs.declared.Action.the-variants.{Lookup, Join, RequestLease, LeaseExpired, GrantExpired, Take}
 use Rattle.rules.specs.Letters.{lookup}
-use Rattle.rules.specs.Plans.{refusedOf, settle}
+use Rattle.table.specs.Settle.{refusedOf, settle}
 use Rattle.rules.specs.Actions.{waits, joinWaits, planLookup, planJoin, planRequestLease, planLeaseExpired, planGrantExpired}
 use Rattle.rules.specs.Take.{planTake}
-use Rattle.rules.specs.Settled.{deadSet}
+use Rattle.table.specs.Settled.{deadSet}
 
 -- 1: slot, place or key out of range
 abbrev pub inRange : Table → Pool → Action → Bool

@@ -8,10 +8,10 @@ use lib.ListN.{getD, take, drop, length}
 use Rattle.marks.specs.Marks.{has, allTo}
 use Rattle.marks.specs.declared.Found.{Found}
 use Rattle.marks.specs.declared.Found.the-variants.{At, Nothing}
-use Rattle.table.specs.declared.Message.{Message}
-use Rattle.table.specs.declared.Pool.{Pool}
-use Rattle.table.specs.Table.{placed}
-use Rattle.table.specs.Pool.{blank, waiting}
+use Rattle.rules.specs.declared.Message.{Message}
+use Rattle.rules.specs.declared.Pool.{Pool}
+use Rattle.rules.specs.Nodes.{placed}
+use Rattle.rules.specs.Pool.{blank, waiting}
 
 -- a message's fields in a row. The hops are no part of it: they are 0 in every valid pool, and equality is to ignore them once they are not.
 abbrev pub fieldsOf : Message → List ℕ
