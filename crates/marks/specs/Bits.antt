@@ -1,11 +1,12 @@
--- Binary digits: which marks a gathered number has, and that a number is its marks. `bit x s` is the digit at s, and a mark is a digit that is 1.
--- By induction on how many digits there are: `gather` puts a digit on top, and `ext` takes the lowest off. Assumes nothing.
-use mathlib.Core.Path.{_≡_, refl, sym, _∙_, ap, ap₂}
-use mathlib.Core.Logic.{_⊎_, inl, inr, ⊎-elim}
+-- Binary digits: which marks a gathered number has, and that a number is its marks. `bit x s` is the digit at s, and a mark is
+-- a digit that is 1. By induction on how many digits there are: `gather` puts one on top, and `ext` takes the lowest off.
+-- Assumes nothing.
+use mathlib.Core.Path.{_≡_, refl, sym, _∙_, ap}
+use mathlib.Core.Logic.{_⊎_, inl, inr}
 use mathlib.Core.Bool.{Bool, true, false, cond}
 use Prim.Native.Nat.{ℕ, zero, suc, _+_, _-_, _*_, _/_, _%_, _^_, _<_, _≤_}
-use native.Mathlib.Nat.{pow-succ', mod-eq-of-lt, add-mul-mod-self-right, mod-lt, zero-lt-suc, div-div-eq-div-mul, div-eq-of-lt, div-one, zero-div, add-comm}
-use native.Mathlib.Nat.{add-mul-div-right, mul-assoc, lt-of-lt-of-le, eq-or-lt-of-le, le-of-suc-le-suc, one-mul}
+use native.Mathlib.Nat.{pow-succ', mod-eq-of-lt, add-mul-mod-self-right, mod-lt, zero-lt-suc, div-div-eq-div-mul, div-eq-of-lt, div-one}
+use native.Mathlib.Nat.{zero-div, add-comm, add-mul-div-right, mul-assoc, lt-of-lt-of-le, eq-or-lt-of-le, le-of-suc-le-suc, one-mul}
 use native.Mathlib.Omega.{arith}
 use lib.Pow.{pow-pos, pow-add, pow-mono, high}
 use lib.Dec.{eqb}

@@ -1,5 +1,6 @@
--- What a test that is made of tests tells of its parts, and the other way. The equations (`b && true ≡ b`, `b || true ≡ true`, ..) are in mathlib.Core.Bool,
--- and what `not` tells (not-true, not-false) is in borrow.Author.Tests. `_&&_` and `_||_` compute, so the parts are written at each use. Assumes nothing.
+-- What a test that is made of tests tells of its parts, and the other way. The equations (`b && true ≡ b`, `b || true ≡ true`, ..)
+-- are in mathlib.Core.Bool, and what `not` tells (not-true, not-false) is in borrow.Author.Tests. Where a law reads a test's value the
+-- parts are explicit: `_&&_` and `_||_` compute, so antt does not find them. Assumes nothing.
 use mathlib.Core.Path.{_≡_, refl, sym, _∙_}
 use mathlib.Core.Logic.{_⊎_, inl, inr, ⊎-elim}
 use mathlib.Core.Bool.{Bool, true, false, _&&_, _||_, not, true≢false}

@@ -1,7 +1,7 @@
--- The machine's operations on 64 marks are the operations on sets: `|`, `&`, `& !`, `<<`, `>>`, the count of ones and the zeros below the lowest one.
--- Each is read mark by mark, and two sets with the same marks are equal. Assumes nothing.
-use mathlib.Core.Path.{_≡_, refl, sym, _∙_, ap, ap₂}
-use mathlib.Core.Logic.{_⊎_, inl, inr, ⊎-elim}
+-- The machine's operations on 64 marks are the operations on sets: `|`, `&`, `& !`, `<<`, `>>`, the count of ones and the zeros below
+-- the lowest one. Each is read mark by mark, and two sets with the same marks are equal. Assumes nothing.
+use mathlib.Core.Path.{_≡_, refl, sym, _∙_, ap}
+use mathlib.Core.Logic.{_⊎_, inl, inr}
 use mathlib.Core.Bool.{Bool, true, false, cond, _&&_, _||_, not, and-true}
 use Prim.Native.Nat.{ℕ, zero, suc, _+_, _-_, _*_, _/_, _%_, _^_, _<_, _≤_}
 use native.Mathlib.Nat.{mod-eq-of-lt, mul-add-mod-self-right, div-mul-le-self, lt-of-le-of-lt, add-zero, div-lt-iff-lt-mul, div-eq-of-lt}
@@ -11,13 +11,14 @@ use lib.Bits.{bitAnd, bitOr, bitXor, and-shr, or-shr, xor-shr, and-mod, or-mod, 
 use lib.Count.{ones, ones-cat, trailingZeros, under}
 use lib.Dec.{eqb, leb}
 use lib.Pow.{ones-lt, ones-sub-lt, pow-pos, ones-split, high, shr-shr, shl-shr}
-use Rattle.marks.specs.declared.Found.{Found}
 use Rattle.marks.specs.declared.Found.the-variants.{At, Nothing}
 use Rattle.marks.specs.Bools.{bool-same, and-fails-right, lt-or-le}
-use Rattle.marks.specs.Marks.{has, gather, tally, firstTo, single, union, meet, without, addOf, removeOf, sizeOf, lowestOf, lowestFromOf, listed}
-use Rattle.marks.specs.Bits.{bit, bit-lt, bit-zero, bit-suc, bit-below, digit, half-lt, top, gather-more, gather-none}
-use Rattle.marks.specs.Laws.{ext, has-zero, has-gather, gather-below, gather-same, gather-all, has-single, has-union, has-meet, has-without}
-use Rattle.marks.specs.Laws.{union-below, meet-below, without-below, First, first-at, first-same, first-nothing, listed-lt, lt-listed}
+use Rattle.marks.specs.Marks.{has, gather, tally, single, union, meet, without, addOf, removeOf, sizeOf}
+use Rattle.marks.specs.Marks.{lowestOf, lowestFromOf, listed}
+use Rattle.marks.specs.Bits.{bit, bit-lt, bit-zero, bit-suc, bit-below, digit, half-lt, top}
+use Rattle.marks.specs.Laws.{ext, has-zero, gather-below, gather-same, gather-all, has-single, has-union, has-meet, has-without}
+use Rattle.marks.specs.Laws.{gather-none, gather-more, union-below, meet-below, without-below}
+use Rattle.marks.specs.Laws.{First, first-at, first-same, first-nothing, listed-lt, lt-listed}
 
 -- ---- or, and, not
 
@@ -35,12 +36,14 @@ on-digits f g a b c d x y hx hy = go (digit x hx) (digit y hy)
 has-or : (a b s : ℕ) → has (bitOr a b) s ≡ (has a s || has b s)
 unfolding has
 has-or a b s =
-    rw (or-shr, or-mod (a / 2 ^ s) (b / 2 ^ s) 1) (on-digits bitOr _||_ refl refl refl refl (bit a s) (bit b s) (bit-lt a s) (bit-lt b s))
+    rw (or-shr, or-mod (a / 2 ^ s) (b / 2 ^ s) 1)
+    (on-digits bitOr _||_ refl refl refl refl (bit a s) (bit b s) (bit-lt a s) (bit-lt b s))
 
 has-and : (a b s : ℕ) → has (bitAnd a b) s ≡ (has a s && has b s)
 unfolding has
 has-and a b s =
-    rw (and-shr, and-mod (a / 2 ^ s) (b / 2 ^ s) 1) (on-digits bitAnd _&&_ refl refl refl refl (bit a s) (bit b s) (bit-lt a s) (bit-lt b s))
+    rw (and-shr, and-mod (a / 2 ^ s) (b / 2 ^ s) 1)
+    (on-digits bitAnd _&&_ refl refl refl refl (bit a s) (bit b s) (bit-lt a s) (bit-lt b s))
 
 -- the complement is the exclusive or with all marks
 not-xor : (k b : ℕ) → b < 2 ^ k → 2 ^ k - 1 - b ≡ bitXor b (2 ^ k - 1)
@@ -161,8 +164,8 @@ has-cut a s t = go (lt-or-le t s)
         let r = t - s in
         let e : t ≡ s + r = omega arith in
         let same : a / 2 ^ s * 2 ^ s / 2 ^ t ≡ a / 2 ^ t =
-        ap (λ (n : ℕ). a / 2 ^ s * 2 ^ s / 2 ^ n) e ∙ sym (shr-shr (a / 2 ^ s * 2 ^ s) s r) ∙ ap (λ (n : ℕ). n / 2 ^ r) (shl-shr (a / 2 ^ s) s)
-        ∙ shr-shr a s r ∙ ap (λ (n : ℕ). a / 2 ^ n) (sym e) in
+        ap (λ (n : ℕ). a / 2 ^ s * 2 ^ s / 2 ^ n) e ∙ sym (shr-shr (a / 2 ^ s * 2 ^ s) s r)
+        ∙ ap (λ (n : ℕ). n / 2 ^ r) (shl-shr (a / 2 ^ s) s) ∙ shr-shr a s r ∙ ap (λ (n : ℕ). a / 2 ^ n) (sym e) in
         rw (same, le-leb s t l) (sym (and-true (has a t)))
 
 pub cut-lowest : (a s : ℕ) → a < 2 ^ 64 → lowestOf ((a / 2 ^ s * 2 ^ s) % 2 ^ 64) ≡ lowestFromOf a s

@@ -1,4 +1,4 @@
--- `marks::all_below` meets its contract: no mark is at n or above where nothing is left of the set when n digits are shifted out. Assumes nothing.
+-- `marks::all_below` meets its contract: no mark is at n or above where nothing is left when n digits are shifted out. Assumes nothing.
 use mathlib.Core.Path.{sym}
 use borrow.Author.Needs.{needs}
 use native.Mathlib.Omega.{arith}

@@ -1,4 +1,4 @@
--- `marks::is_in` meets its contract: below 64 the code is the definition, and from there on a number of 64 digits has no mark. Assumes nothing.
+-- `marks::is_in` meets its contract: below 64 the code is the definition, and from there on 64 digits have no mark. Assumes nothing.
 use mathlib.Core.Path.{refl, sym}
 use borrow.Author.Needs.{needs}
 use native.Mathlib.Omega.{arith}

@@ -1,4 +1,5 @@
--- `marks::of_one` meets its contract: a one shifted by less than 64 is the set of that slot, and no mark stands for a slot from 64 on. Assumes nothing.
+-- `marks::of_one` meets its contract: a one shifted by less than 64 is that slot's set, and no mark stands for a slot from 64 on.
+-- Assumes nothing.
 use mathlib.Core.Path.{_∙_}
 use borrow.Author.Needs.{needs}
 use native.Mathlib.Omega.{arith}
