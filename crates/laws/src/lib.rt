@@ -1,0 +1,1 @@
+// Laws of the rules' definitions, for whoever uses them: in specs/, no code.
