@@ -1,6 +1,7 @@
--- How many of the slots below n pass a test, and how many of those have a number f below a bound. With f the rank of a slot's id this measures a lookup's way:
--- a routing to a nearer slot makes it smaller (`below-more`), and it is less than the number of slots that pass (`below-lt`). Assumes nothing.
-use mathlib.Core.Path.{_≡_, refl, sym, _∙_, ap}
+-- How many of the slots below n pass a test, and how many of those have a number f below a bound. With f the rank of a slot's id this measures
+-- the way that a lookup has left: it falls with each routing to a nearer slot (`below-more`), and is less than the number of slots that pass
+-- (`below-lt`). Assumes nothing.
+use mathlib.Core.Path.{_≡_, refl}
 use mathlib.Core.Logic.{⊎-elim}
 use mathlib.Core.Bool.{Bool, true, false, cond, _&&_, and-eq-true-iff}
 use Prim.Native.Nat.{ℕ, zero, suc, _+_, _<_, _≤_, zero-le}
@@ -9,6 +10,7 @@ use native.Mathlib.Omega.{arith}
 use lib.Dec.{ltb}
 use borrow.Author.Tests.{lt-ltb, le-ltb, ltb-true}
 
+-- how many slots below n pass p
 unfoldable pub countOf : (ℕ → Bool) → ℕ → ℕ
 countOf p zero = 0
 countOf p (suc n) = cond (p n) 1 0 + countOf p n

@@ -1,31 +1,33 @@
--- What a node covers. With d = Fall(l, i), e = Fall(i, r), t = Fall(k, i) and s = Fall(i, k): node i covers k exactly if 2t ≤ d or 2s < e (`covers-closed`);
--- and of any j other than i, i is nearer to k exactly if 2t ≤ Fall(j, i), where k is at most half a round above i (`half-up`), or 2s < Fall(i, j), where it is
--- at most half a round below (`half-down`). The rest follows from these three. Assumes nothing.
-use mathlib.Core.Path.{_≡_, refl, sym, _∙_, ap}
+-- What a node covers. With d = Fall(l, i), e = Fall(i, r), t = Fall(k, i), s = Fall(i, k): node i with neighbours l and r covers k exactly if
+-- 2t ≤ d or 2s < e (`covers-closed`). Of any j other than i, i is nearer to k exactly if 2t ≤ Fall(j, i), for a k at most half a round above i
+-- (`half-up`), or 2s < Fall(i, j), for a k at most half a round below (`half-down`). The rest follows from these three. Assumes nothing.
+use mathlib.Core.Path.{_≡_, refl, sym, _∙_}
 use mathlib.Core.Logic.{_⊎_, inl, inr, ⊎-elim}
-use mathlib.Core.Bool.{Bool, true, false, _||_, not}
-use Prim.Native.Nat.{ℕ, suc, _+_, _-_, _*_, _/_, _%_, _<_, _≤_, min}
+use mathlib.Core.Bool.{true, false, _||_}
+use Prim.Native.Nat.{ℕ, _+_, _-_, _/_, _%_, _<_, _≤_}
 use mathlib.Mathlib.Data.Bool.Basic.{or-eq-false-eq-eq-false-and-eq-false}
 use native.Mathlib.Nat.{add-zero, mod-add-mod, add-mod-right, mod-eq-of-lt, mod-lt}
 use native.Mathlib.Omega.{arith}
 use lib.Dec.{leb, ltb}
 use borrow.Author.Tests.{lt-ltb, le-leb, lt-leb, ltb-true, leb-true, not-false}
 use Rattle.ring.specs.Distance.{fallOf, nearer, leftCoverOf, rightCoverOf, coversKey}
-use Rattle.ring.specs.Falls.{Ring, Wraps, wraps, le-or-lt, fall-lt, fall-rise, fall-only, fall-sum, fall-self, fall-pos, Rounds, rounds, rounds-apart}
+use Rattle.ring.specs.Falls.{Ring, Wraps, wraps, Rounds, rounds, rounds-apart, le-or-lt}
+use Rattle.ring.specs.Falls.{fall-lt, fall-rise, fall-only, fall-sum, fall-self, fall-pos}
 use Rattle.ring.specs.Order.{same-test, rankAt, rank-is, nearer-rank, nearer-flip}
 
 -- ---- on plain numbers
 
--- Of a key, t above an id i, and of another id, g above and h below i: f is the way up from that id to the key.
+-- For a key t above an id i, and another id, g above and h below i: f is the way up from that id to the key.
 up-first : (N t g h f : ℕ) → Wraps N (t + h) f → g + h ≡ N → g < N → h < N → t + t ≤ N → ltb (rankAt N t) (rankAt N f) ≡ leb (t + t) g
 up-first N t g h f (inl p) a b c u = same-test _ _ (omega (arith, ltb-true, le-leb)) (omega (arith, leb-true, lt-ltb))
 up-first N t g h f (inr p) a b c u = same-test _ _ (omega (arith, ltb-true, le-leb)) (omega (arith, leb-true, lt-ltb))
 
-down-first : (N t s h f : ℕ) → Wraps N (t + h) f → 0 < h → h < N → t + s ≡ N → 1 ≤ s → s + s ≤ N → ltb (rankAt N t) (rankAt N f) ≡ ltb (s + s) h
+down-first : (N t s h f : ℕ) → Wraps N (t + h) f → 0 < h → h < N → t + s ≡ N → 1 ≤ s → s + s ≤ N
+    → ltb (rankAt N t) (rankAt N f) ≡ ltb (s + s) h
 down-first N t s h f (inl p) a b c o u = same-test _ _ (omega (arith, ltb-true, lt-ltb)) (omega (arith, ltb-true, lt-ltb))
 down-first N t s h f (inr p) a b c o u = same-test _ _ (omega (arith, ltb-true, lt-ltb)) (omega (arith, ltb-true, lt-ltb))
 
--- Of the arc from (e - 1) div 2 below i to d div 2 above it, and a key t above and s below i: m is the way up from the key to the arc's upper end.
+-- For the arc from (e - 1) div 2 below i to d div 2 above it, and a key t above and s below i: m is the way up from the key to the upper end.
 arc-holds : (N d e t s m : ℕ) → Wraps N (d / 2 + s) m → ((t ≡ 0) × (s ≡ 0)) ⊎ (t + s ≡ N) → d < N → 0 < e
     → leb m (d / 2 + (e - 1) / 2) ≡ (leb (t + t) d || ltb (s + s) e)
 arc-holds N d e t s m (inl p) (inl q) a b = rw (le-leb (t + t) d (omega arith)) (omega (arith, le-leb))
@@ -37,6 +39,9 @@ arc-holds N d e t s m (inr p) (inr q) a b = rw (le-leb (t + t) d (omega arith)) 
 -- ---- on the ring
 
 module _ (N : ℕ) (R : Ring N) (i k : ℕ) (hi : i < N) (hk : k < N) where
+  key-round : 0 < fallOf N i k → fallOf N k i + fallOf N i k ≡ N
+  key-round o = ⊎-elim (λ q. absurd (omega arith)) (λ q. q) (rounds N k i hk hi)
+
   -- a key within half a round of i
   module _ (j : ℕ) (hj : j < N) (apart : j ≡ i → ⊥) where
     to-j : Wraps N (fallOf N k i + fallOf N i j) (fallOf N k j)
@@ -45,13 +50,12 @@ module _ (N : ℕ) (R : Ring N) (i k : ℕ) (hi : i < N) (hk : k < N) where
     pub half-up : fallOf N k i + fallOf N k i ≤ N → nearer N k i j ≡ leb (fallOf N k i + fallOf N k i) (fallOf N j i)
     half-up u =
         rw (nearer-rank, rank-is N R k i hk hi, rank-is N R k j hk hj)
-        (up-first N (fallOf N k i) (fallOf N j i) (fallOf N i j) (fallOf N k j) to-j (rounds-apart N j i hj hi apart) (fall-lt N j i hj) (fall-lt N i j hi) u)
+        (up-first N _ _ _ _ to-j (rounds-apart N j i hj hi apart) (fall-lt N j i hj) (fall-lt N i j hi) u)
 
     pub half-down : 1 ≤ fallOf N i k → fallOf N i k + fallOf N i k ≤ N → nearer N k i j ≡ ltb (fallOf N i k + fallOf N i k) (fallOf N i j)
     half-down o u =
         rw (nearer-rank, rank-is N R k i hk hi, rank-is N R k j hk hj)
-        (down-first N (fallOf N k i) (fallOf N i k) (fallOf N i j) (fallOf N k j) to-j (fall-pos N i j hi hj (λ e. apart (sym e))) (fall-lt N i j hi)
-        (⊎-elim (λ q. absurd (omega arith)) (λ q. q) (rounds N k i hk hi)) o u)
+        (down-first N _ _ _ _ to-j (fall-pos N i j hi hj (λ e. apart (sym e))) (fall-lt N i j hi) (key-round o) o u)
 
   module _ (l r : ℕ) (hl : l < N) (hr : r < N) where
     -- the two ends of the arc, seen from i
@@ -88,7 +92,7 @@ module _ (N : ℕ) (R : Ring N) (i k : ℕ) (hi : i < N) (hk : k < N) where
           right-end h,
           mod-eq-of-lt fits,
         )
-        (arc-holds N d e (fallOf N k i) (fallOf N i k) _ ends (⊎-elim (λ q. inl (q .1, q .2)) inr (rounds N k i hk hi)) (fall-lt N l i hl) h)
+        (arc-holds N d e _ _ _ ends (⊎-elim (λ q. inl (q .1, q .2)) inr (rounds N k i hk hi)) (fall-lt N l i hl) h)
 
     right-pos : (r ≡ i → ⊥) → 0 < fallOf N i r
     right-pos dr = fall-pos N i r hi hr (λ e. dr (sym e))

@@ -1,6 +1,7 @@
--- Falls on a ring of N ids. The idea: y + Fall(x, y) goes round to x, and of the numbers below N no other does; so ways add up, and a fall is one of two
--- sums that omega can read. AbsDist is the smaller of the two falls. N is even (`Ring`); 2 ^ M is, for M from 1 on. Assumes nothing.
-use mathlib.Core.Path.{_≡_, refl, sym, _∙_, ap}
+-- Falls on a ring of N ids. The idea: y + Fall(x, y) goes round to x, and of the numbers below N no other does. So ways add up (`fall-sum`), and a
+-- fall is one of two sums that omega can read (`falls`). For even N (`Ring`; 2 ^ M is, from M = 1 on) AbsDist is the smaller of the two falls.
+-- Assumes nothing.
+use mathlib.Core.Path.{_≡_, sym, _∙_, ap}
 use mathlib.Core.Logic.{_⊎_, inl, inr, ⊎-elim}
 use mathlib.Core.Bool.{cond}
 use Prim.Native.Nat.{ℕ, zero, suc, _+_, _-_, _/_, _%_, _^_, _<_, _≤_, min, pred}
@@ -46,7 +47,7 @@ module _ (N : ℕ) where
   unfolding fallOf
   fall-lt x y hx = mod-lt _ (omega arith)
 
-  -- rising by the fall
+  -- rising by the fall, and by nothing else, leads from y to x
   pub fall-rise : (x y : ℕ) → x < N → y < N → (y + fallOf N x y) % N ≡ x
   unfolding fallOf
   fall-rise x y hx hy =
@@ -75,19 +76,17 @@ module _ (N : ℕ) where
   -- ways add up
   pub fall-sum : (x y z : ℕ) → x < N → y < N → z < N → fallOf N x z ≡ (fallOf N x y + fallOf N y z) % N
   fall-sum x y z hx hy hz =
-      let f = fallOf N x y in
-      let g = fallOf N y z in
-      let e : z + (f + g) ≡ z + g + f = omega arith in
-      fall-only x z ((f + g) % N) (mod-lt _ (omega arith)) hz (rw (add-mod-mod, e, ← mod-add-mod, fall-rise y z hy hz) (fall-rise x y hx hy))
+      let e : z + (fallOf N x y + fallOf N y z) ≡ z + fallOf N y z + fallOf N x y = omega arith in
+      fall-only x z _ (mod-lt _ (omega arith)) hz (rw (add-mod-mod, e, ← mod-add-mod, fall-rise y z hy hz) (fall-rise x y hx hy))
 
   -- ids seen from i: the way up from i to x stands for x
   pub fall-shift : (i x y : ℕ) → i < N → x < N → y < N → fallOf N x y ≡ fallOf N (fallOf N x i) (fallOf N y i)
   fall-shift i x y hi hx hy =
-      sym (fall-only (fallOf N x i) (fallOf N y i) (fallOf N x y) (fall-lt x y hx) (fall-lt y i hy) (rw add-comm (sym (fall-sum x y i hx hy hi))))
+      sym (fall-only _ _ _ (fall-lt x y hx) (fall-lt y i hy) (rw add-comm (sym (fall-sum x y i hx hy hi))))
 
   pub fall-above : (i x t : ℕ) → i < N → x < N → fallOf N ((x + t) % N) i ≡ (fallOf N x i + t) % N
   fall-above i x t hi hx =
-      fall-only ((x + t) % N) i ((fallOf N x i + t) % N) (mod-lt _ (omega arith)) hi
+      fall-only _ i _ (mod-lt _ (omega arith)) hi
       (rw (add-mod-mod, ← add-assoc, ← mod-add-mod (i + fallOf N x i) N t, fall-rise x i hx hi))
 
   pub falls : (x y : ℕ) → x < N → y < N → Falls N x y (fallOf N x y)

@@ -1,14 +1,13 @@
--- Nearer to a key. The idea: it is the order of a number, the rank: twice the distance, and one more where k is not reached by rising. The rank is a plain
--- function of one fall, and no two ids have the same; so nearer is a strict total order, and of two ids at one distance the one below the key comes first.
--- Assumes nothing.
+-- Nearer to a key. The idea: it is the order of a number, the rank: twice the distance, and one more where k is not reached by rising
+-- (`nearer-rank`). The rank is a plain function of one fall (`rank-is`), and no two ids have the same; so nearer is a strict total order, and of
+-- two ids at one distance the one below the key comes first (`tie-below`). Assumes nothing.
 use mathlib.Core.Path.{_≡_, refl, sym, _∙_, ap}
-use mathlib.Core.Logic.{_⊎_, inl, inr, ⊎-elim}
+use mathlib.Core.Logic.{_⊎_, inl, inr}
 use mathlib.Core.Bool.{Bool, true, false, cond, _&&_, _||_, not}
-use Prim.Native.Nat.{ℕ, suc, _+_, _-_, _*_, _%_, _<_, _≤_, min}
-use native.Mathlib.Nat.{lt-of-not-le}
+use Prim.Native.Nat.{ℕ, _+_, _-_, _*_, _%_, _<_, _≤_, min}
 use native.Mathlib.Omega.{arith}
 use lib.Dec.{leb, ltb, eqb}
-use borrow.Author.Tests.{lt-ltb, le-ltb, le-leb, lt-leb, eq-eqb, ne-eqb, ltb-true, ltb-false, eqb-true}
+use borrow.Author.Tests.{lt-ltb, le-ltb, le-leb, lt-leb, eq-eqb, ne-eqb, ltb-true, eqb-true}
 use Rattle.ring.specs.Distance.{fallOf, absDistOf, risesTo, nearer}
 use Rattle.ring.specs.Falls.{Ring, le-or-lt, fall-lt, fall-rise, fall-only, fall-inj-right, Rounds, rounds, absDist-is}
 
@@ -19,6 +18,7 @@ same-test true false f g = sym (f refl)
 same-test false true f g = g refl
 same-test false false f g = refl
 
+-- twice the distance, and one more where k is not reached from a by rising
 unfoldable pub rank : ℕ → ℕ → ℕ → ℕ
 rank N k a = 2 * absDistOf N k a + cond (risesTo N k a) 0 1
 
@@ -71,6 +71,13 @@ module _ (N : ℕ) (R : Ring N) where
         go f g (inl p) = rw (le-leb f g p) (omega (arith, eq-eqb))
         go f g (inr p) = rw (lt-leb f g p) (omega (arith, ne-eqb))
 
+    -- it stands its distance below k
+    pub rises-below : risesTo N k a ≡ eqb ((a + absDistOf N k a) % N) k
+    unfolding risesTo
+    rises-below =
+        same-test _ _ (λ e. eq-eqb _ _ (rw (eqb-true (fallOf N k a) (absDistOf N k a) e) at (fall-rise N k a hk ha)))
+        (λ e. eq-eqb _ _ (fall-only N k a (absDistOf N k a) (omega (arith, absDist-is N R k a hk ha, fall-lt N k a hk)) ha (eqb-true _ k e)))
+
     pub rank-rising : fallOf N k a ≤ fallOf N a k → rank N k a ≡ 2 * fallOf N k a
     unfolding rank
     rank-rising h = rw (rises-is, le-leb _ _ h, absDist-is N R k a hk ha) (omega arith)
@@ -110,7 +117,7 @@ module _ (N : ℕ) (R : Ring N) where
         go true e = inl e
         go false e = inr (nearer-flip ∙ ap not e)
 
-    -- at one distance, one of the two is reached by rising, and that one is nearer
+    -- at one distance, one of the two is reached by rising, and that one is nearer: the one that stands its distance below k
     module _ (tie : absDistOf N k a ≡ absDistOf N k b) where
       pub tie-one : risesTo N k b ≡ not (risesTo N k a)
       unfolding rank
@@ -122,17 +129,13 @@ module _ (N : ℕ) (R : Ring N) where
           go false true h = refl
           go false false h = absurd (h refl)
 
-      pub tie-below : nearer N k a b ≡ risesTo N k a
-      unfolding nearer
-      tie-below = rw (tie, le-ltb (absDistOf N k b) (absDistOf N k b) (omega arith), eq-eqb (absDistOf N k b) (absDistOf N k b) refl, tie-one) (go (risesTo N k a))
+      pub tie-rises : nearer N k a b ≡ risesTo N k a
+      unfolding rank
+      tie-rises = rw (nearer-rank, tie, tie-one) (go (risesTo N k a))
         where
-          go : (r : Bool) → (r && not (not r)) ≡ r
-          go true = refl
-          go false = refl
+          go : (r : Bool) → ltb (2 * absDistOf N k b + cond r 0 1) (2 * absDistOf N k b + cond (not r) 0 1) ≡ r
+          go true = omega (arith, lt-ltb)
+          go false = omega (arith, le-ltb)
 
-  -- k is reached from a by rising exactly where a stands its distance below k
-  pub rises-below : (k a : ℕ) → k < N → a < N → risesTo N k a ≡ eqb ((a + absDistOf N k a) % N) k
-  unfolding risesTo
-  rises-below k a hk ha =
-      same-test _ _ (λ e. eq-eqb _ _ (rw (eqb-true (fallOf N k a) (absDistOf N k a) e) at (fall-rise N k a hk ha)))
-      (λ e. eq-eqb _ _ (fall-only N k a (absDistOf N k a) (omega (arith, absDist-is N R k a hk ha, fall-lt N k a hk)) ha (eqb-true _ k e)))
+      pub tie-below : nearer N k a b ≡ eqb ((a + absDistOf N k a) % N) k
+      tie-below = tie-rises ∙ rises-below k a hk ha

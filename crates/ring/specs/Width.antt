@@ -1,5 +1,6 @@
--- Fall at a ring of 2 ^ m ids, computed at a width w: a difference d that goes round 2 ^ w, cut down to m bits. Assumes nothing.
-use mathlib.Core.Path.{_≡_, refl, sym, _∙_, ap}
+-- Fall on a ring of 2 ^ m ids, computed at a width w of at least m bits: a difference d that goes round 2 ^ w, cut down to m bits.
+-- Assumes nothing.
+use mathlib.Core.Path.{_≡_, sym}
 use Prim.Native.Nat.{ℕ, _+_, _-_, _%_, _^_, _<_, _≤_}
 use native.Mathlib.Nat.{add-comm, add-mod-mod, mod-eq-of-lt, mod-lt, sub-add-cancel}
 use lib.Pow.{mod-mod-pow, pow-pos}
