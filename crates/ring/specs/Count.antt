@@ -1,6 +1,6 @@
--- How many of the slots below n pass a test, and how many of those have a number f below a bound. With f the rank of a slot's id this measures
--- the way that a lookup has left: it falls with each routing to a nearer slot (`below-more`), and is less than the number of slots that pass
--- (`below-lt`). Assumes nothing.
+-- How many of the slots below n pass a test, and how many of those have a number f below a bound. With f the rank of a slot's id this
+-- measures the way that a lookup has left: it falls with each routing to a nearer slot (`below-more`), and is less than the number of
+-- slots that pass (`below-lt`). Assumes nothing.
 use mathlib.Core.Path.{_≡_, refl}
 use mathlib.Core.Logic.{⊎-elim}
 use mathlib.Core.Bool.{Bool, true, false, cond, _&&_, and-eq-true-iff}

@@ -1,7 +1,8 @@
--- What a node covers. With d = Fall(l, i), e = Fall(i, r), t = Fall(k, i), s = Fall(i, k): node i with neighbours l and r covers k exactly if
--- 2t ≤ d or 2s < e (`covers-closed`). Of any j other than i, i is nearer to k exactly if 2t ≤ Fall(j, i), for a k at most half a round above i
--- (`half-up`), or 2s < Fall(i, j), for a k at most half a round below (`half-down`). The rest follows from these three. Assumes nothing.
-use mathlib.Core.Path.{_≡_, refl, sym, _∙_}
+-- What a node covers. With d = Fall(l, i), e = Fall(i, r), t = Fall(k, i), s = Fall(i, k): node i with neighbours l and r covers k
+-- exactly if 2t ≤ d or 2s < e (`covers-closed`). Of any j other than i, i is nearer to k exactly if 2t ≤ Fall(j, i), for a k at most
+-- half a round above i (`half-up`), or 2s < Fall(i, j), for a k at most half a round below (`half-down`). The rest follows from these
+-- three. Assumes nothing.
+use mathlib.Core.Path.{_≡_, refl, sym, _∙_, ap}
 use mathlib.Core.Logic.{_⊎_, inl, inr, ⊎-elim}
 use mathlib.Core.Bool.{true, false, _||_}
 use Prim.Native.Nat.{ℕ, _+_, _-_, _/_, _%_, _<_, _≤_}
@@ -27,7 +28,7 @@ down-first : (N t s h f : ℕ) → Wraps N (t + h) f → 0 < h → h < N → t +
 down-first N t s h f (inl p) a b c o u = same-test _ _ (omega (arith, ltb-true, lt-ltb)) (omega (arith, ltb-true, lt-ltb))
 down-first N t s h f (inr p) a b c o u = same-test _ _ (omega (arith, ltb-true, lt-ltb)) (omega (arith, ltb-true, lt-ltb))
 
--- For the arc from (e - 1) div 2 below i to d div 2 above it, and a key t above and s below i: m is the way up from the key to the upper end.
+-- For the arc from (e - 1) div 2 below i to d div 2 above i, and a key t above and s below i: m is the way up from the key to its end.
 arc-holds : (N d e t s m : ℕ) → Wraps N (d / 2 + s) m → ((t ≡ 0) × (s ≡ 0)) ⊎ (t + s ≡ N) → d < N → 0 < e
     → leb m (d / 2 + (e - 1) / 2) ≡ (leb (t + t) d || ltb (s + s) e)
 arc-holds N d e t s m (inl p) (inl q) a b = rw (le-leb (t + t) d (omega arith)) (omega (arith, le-leb))
@@ -66,8 +67,8 @@ module _ (N : ℕ) (R : Ring N) (i k : ℕ) (hi : i < N) (hk : k < N) where
     right-end : 0 < fallOf N i r → fallOf N i (rightCoverOf N i r) ≡ (fallOf N i r - 1) / 2
     unfolding rightCoverOf
     right-end h =
-        let e : r + fallOf N i r / 2 + 1 + (fallOf N i r - 1) / 2 ≡ r + fallOf N i r = omega arith in
-        fall-only N i _ _ (omega (arith, fall-lt N i r hi)) (mod-lt _ (omega arith)) (rw (mod-add-mod, e) (fall-rise N i r hi hr))
+        fall-only N i _ _ (omega (arith, fall-lt N i r hi)) (mod-lt _ (omega arith))
+        (rw mod-add-mod (ap (λ (n : ℕ). n % N) (omega arith) ∙ fall-rise N i r hi hr))
 
     left-in : leftCoverOf N i l < N
     unfolding leftCoverOf
@@ -122,13 +123,13 @@ module _ (N : ℕ) (R : Ring N) (i k : ℕ) (hi : i < N) (hk : k < N) where
         go (inl p) q = inl (not-false _ (sym (nearer-flip N R k l i hk hl hi dl) ∙ half-up l hl dl p ∙ outside .0))
         go (inr p) (inl q) = absurd (omega arith)
         go (inr p) (inr q) =
-            inr (not-false _ (sym (nearer-flip N R k r i hk hr hi dr) ∙ half-down r hr dr (omega (arith, fall-lt N k i hk)) (omega arith) ∙ outside .1))
+            let s-pos : 1 ≤ fallOf N i k = omega (arith, fall-lt N k i hk) in
+            inr (not-false _ (sym (nearer-flip N R k r i hk hr hi dr) ∙ half-down r hr dr s-pos (omega arith) ∙ outside .1))
 
 -- a lone node covers every key
 pub lone-covers : (N i k : ℕ) → i < N → k < N → coversKey N i i i k ≡ true
 unfolding coversKey leftCoverOf rightCoverOf
 lone-covers N i k hi hk =
-    let e : i + 1 + (N - 1) ≡ i + N = omega arith in
-    let w : fallOf N i ((i + 1) % N) ≡ N - 1
-    = fall-only N i _ _ (omega arith) (mod-lt _ (omega arith)) (rw (mod-add-mod, e, add-mod-right) (mod-eq-of-lt hi)) in
+    let e : (i + 1 + (N - 1)) % N ≡ i = ap (λ (n : ℕ). n % N) (omega arith) ∙ add-mod-right i N ∙ mod-eq-of-lt hi in
+    let w : fallOf N i ((i + 1) % N) ≡ N - 1 = fall-only N i _ _ (omega arith) (mod-lt _ (omega arith)) (rw mod-add-mod e) in
     rw (fall-self N i hi, add-zero, mod-eq-of-lt hi, w) (omega (arith, le-leb, fall-lt N i k hi))

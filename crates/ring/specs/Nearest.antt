@@ -1,7 +1,7 @@
--- Who holds a key, among ready ids. The idea: a node that is flanked by its neighbours, so that no other ready node is closer to it on either
--- side, is nearer to what it covers than every other ready node (`covers-nearest`); hence no two cover one key (`one-holder`). Where the
--- neighbours are ready themselves, as in a settled table, what it does not cover is nearer to one of them (`uncovered`), so that it covers
--- exactly the keys to which it is the nearest ready node. Assumes nothing.
+-- Who holds a key, among ready ids. The idea: a node that is flanked by its neighbours, so that no other ready node is closer to it on
+-- either side, is nearer to what it covers than every other ready node (`covers-nearest`); hence no two cover one key (`one-holder`).
+-- Where the neighbours are ready themselves, as in a settled table, what it does not cover is nearer to one of them (`uncovered`), so
+-- that it covers exactly the keys to which it is the nearest ready node. Assumes nothing.
 use mathlib.Core.Path.{_≡_, refl, sym, _∙_}
 use mathlib.Core.Logic.{_⊎_, ⊎-elim}
 use mathlib.Core.Bool.{Bool, true, false, true≢false}
