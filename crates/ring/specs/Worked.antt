@@ -1,4 +1,4 @@
--- 01's worked values, P1 to P7, P10 and Fall at M = 32, as one table proved of the definitions. For P4 to P7 the checker computes the
+-- 01's worked values, P1 to P7, P8's tie, P10 and Fall at M = 32, as one table proved of the definitions. For P4 to P7 the checker computes the
 -- test at each of the 256 keys (`each-key`). Assumes nothing.
 use mathlib.Core.Path.{_≡_, refl, sym}
 use mathlib.Core.Logic.{⊎-elim}
