@@ -1,3 +1,8 @@
 pub mod Distance
+pub mod Worked
 pub mod Falls
 pub mod Order
+pub mod Cover
+pub mod Nearest
+pub mod Width
+pub mod Count
