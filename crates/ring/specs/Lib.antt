@@ -5,4 +5,3 @@ pub mod Order
 pub mod Cover
 pub mod Nearest
 pub mod Width
-pub mod Count
