@@ -32,7 +32,11 @@ pub fn broadcast(owner: u32, s: Sides, flag: u32) -> Message
 pub fn unless_in(set: u64, s: usize) -> Found
     ensures { λ r. ⌜ r ≡ unlessIn set s ⌝ }
 {
-    if marks::is_in(set, s) { Found::Nothing } else { Found::At(s) }
+    if marks::is_in(set, s) {
+        Found::Nothing
+    } else {
+        Found::At(s)
+    }
 }
 
 pub fn lease_plan(g: Ring, ids: &[u32; 64], i: usize, v: Node) -> Plan
@@ -99,7 +103,11 @@ pub fn plan_lease_expired(g: Ring, ids: &[u32; 64], i: usize, v: Node, j: usize)
         return Planned::No(Refusal::Partner);
     }
     let near = neighbours(g, ids, i, v, j);
-    let next = if parts::is_ready(st) & near { Status::Ok } else { st };
+    let next = if parts::is_ready(st) & near {
+        Status::Ok
+    } else {
+        st
+    };
     let node = parts::with_leases(v, marks::removed(v.lease, j), v.grant, next);
     Planned::Go(parts::quiet_plan(node))
 }
@@ -151,7 +159,15 @@ pub fn plan_take_lease_request(g: Ring, ids: &[u32; 64], i: usize, v: Node, j: u
 }
 
 // The lease after a broadcast of j: it gains j where the flag is set and j is a neighbour in the new leaf set s.
-pub fn lease_after(g: Ring, ids: &[u32; 64], i: usize, v: Node, s: Sides, j: usize, flag: u32) -> u64
+pub fn lease_after(
+    g: Ring,
+    ids: &[u32; 64],
+    i: usize,
+    v: Node,
+    s: Sides,
+    j: usize,
+    flag: u32,
+) -> u64
     requires { ⌜ Listed g (now ids) × (i < 64) ⌝ }
     ensures { λ r. ⌜ r ≡ leaseAfter g (now (ids .entry)) i v s j flag ⌝ }
 {
@@ -194,7 +210,13 @@ pub fn broadcast_plan(g: Ring, ids: &[u32; 64], i: usize, v: Node, m: Message) -
     ensures { λ r. ⌜ r ≡ broadcastPlan g (now (ids .entry)) i v m ⌝ }
 {
     let content = leaf::content(parts::carried_of(m), m.owner as usize);
-    let s = leaf::with_set(g, ids, i, parts::sides_of(v), marks::less(content, v.failed));
+    let s = leaf::with_set(
+        g,
+        ids,
+        i,
+        parts::sides_of(v),
+        marks::less(content, v.failed),
+    );
     let lease = lease_after(g, ids, i, v, s, m.owner as usize, m.flag);
     let st = status_after(g, ids, i, v, s, lease);
     parts::quiet_plan(leased(v, s, lease, st))

@@ -95,7 +95,15 @@ pub fn plan_take_lookup(g: Ring, ids: &[u32; 64], dead: u64, i: usize, v: Node, 
 }
 
 // The taking of a JoinRequest of node j at node i.
-pub fn plan_take_join_request(g: Ring, ids: &[u32; 64], dead: u64, i: usize, v: Node, j: u32, routing: u64) -> Planned
+pub fn plan_take_join_request(
+    g: Ring,
+    ids: &[u32; 64],
+    dead: u64,
+    i: usize,
+    v: Node,
+    j: u32,
+    routing: u64,
+) -> Planned
     requires { ⌜ Listed g (now ids) × (i < 64) × (j < 64) ⌝ }
     ensures { λ r. ⌜ r ≡ planTakeJoinRequest g (now (ids .entry)) dead i v j routing ⌝ }
 {
