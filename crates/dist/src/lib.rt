@@ -28,8 +28,9 @@ pub fn signed(m: u32, x: u32, y: u32) -> i64
     requires { ⌜ Inside m x y ⌝ }
     ensures { λ r. ⌜ r ≡ signedOf (2 ^ m) x y ⌝ }
 {
-    let n = size(m) as i64;
-    let half = n / 2;
+    let ids = size(m);
+    let n = ids as i64;
+    let half = (ids / 2) as i64;
     let d = (x as i64) - (y as i64);
     if d < -half {
         d + n
