@@ -57,5 +57,9 @@ pub fn next_hop(g: Ring, ids: &[u32; 64], dead: u64, i: usize, v: Node, k: u32) 
     };
     let there = ids[h];
     let here = ids[i];
-    if dist::nearer(g.m, k, there, here) { Hop::To(h) } else { Hop::NoRoute }
+    if dist::nearer(g.m, k, there, here) {
+        Hop::To(h)
+    } else {
+        Hop::NoRoute
+    }
 }

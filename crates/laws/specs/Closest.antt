@@ -11,7 +11,8 @@ use borrow.Author.Tests.{lt-ltb, le-ltb, ltb-true, eq-eqb, not-true}
 use lib.Dec.{ltb, eqb}
 use lib.Pow.{pow-mono}
 use Rattle.ring.specs.Falls.{le-or-lt}
-use Rattle.marks.specs.Bools.{opposed, bool-cases, bool-same, bool-true, and-left, and-right, and-both, or-left, or-right, false-not, lt-or-le}
+use Rattle.marks.specs.Bools.{opposed, bool-cases, bool-same, bool-true, and-left, and-right, and-both, or-left, or-right}
+use Rattle.marks.specs.Bools.{false-not, lt-or-le}
 use Rattle.marks.specs.Marks.{has, tally, sizeOf, listed}
 use Rattle.marks.specs.Laws.{ext, has-gather, gather-high, gather-same, gather-below, listed-gather, size-gather}
 use Rattle.marks.specs.Laws.{tally-same, tally-mono, tally-none, tally-strict, tally-or-one}
@@ -149,7 +150,7 @@ module _ (f : ℕ → ℕ) (n l : ℕ) (ok : ℕ → Bool) where
   -- the nearest is selected
   pub closest-least : 1 ≤ l → (s : ℕ) → s < n → ok s ≡ true → ((t : ℕ) → t < n → ok t ≡ true → f s ≤ f t)
       → has (closest f n l ok) s ≡ true
-  closest-least m s h p e = closest-has f n l ok s h p (rw (none) m)
+  closest-least m s h p e = closest-has f n l ok s h p (rw none m)
     where
       go : (t : ℕ) → t < n → (b : Bool) → ok t ≡ b → (b && ltb (f t) (f s)) ≡ false
       go t k true q = le-ltb (f t) (f s) (e t k q)

@@ -1,6 +1,6 @@
--- A set of nodes is 64 marks, mark s for slot s: the number whose binary digit at s says whether s is in it. The operations are defined by membership.
--- Definitions only; their laws are in Laws. Assumes nothing.
-use mathlib.Core.Bool.{Bool, true, false, cond, _&&_, _||_, not}
+-- A set of nodes is 64 marks, mark s for slot s: the number whose binary digit at s says whether s is in it.
+-- The operations are defined by membership. Definitions only; their laws are in Laws. Assumes nothing.
+use mathlib.Core.Bool.{Bool, true, cond, _&&_, _||_, not}
 use Prim.Native.Nat.{ℕ, zero, suc, _+_, _/_, _%_, _^_}
 use lib.Dec.{eqb, leb}
 use Rattle.marks.specs.declared.Found.{Found}

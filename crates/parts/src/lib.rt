@@ -180,7 +180,15 @@ pub fn with_leases(v: Node, lease: u64, grant: u64, s: Status) -> Node
 }
 
 // A message for no destination yet.
-pub fn write_letter(kind: u32, word: u32, flag: u32, owner: u32, routing: u64, s: Sides, failed: u64) -> Message
+pub fn write_letter(
+    kind: u32,
+    word: u32,
+    flag: u32,
+    owner: u32,
+    routing: u64,
+    s: Sides,
+    failed: u64,
+) -> Message
     ensures { λ r. ⌜ r ≡ letter kind word flag owner routing s failed ⌝ }
 {
     Message {

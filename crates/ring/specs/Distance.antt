@@ -1,6 +1,6 @@
 -- The ring of 01: Fall, signed distance, AbsDist, nearer to a key, covers. These are the definitions that a reader must believe, each under 01's sentence;
 -- N is the number of ids, 2^M. Their laws stand in the other files. Assumes nothing.
-use mathlib.Core.Bool.{Bool, true, false, cond, _&&_, _||_, not}
+use mathlib.Core.Bool.{Bool, cond, _&&_, _||_, not}
 use Prim.Native.Nat.{ℕ, _+_, _-_, _/_, _%_}
 use lib.Dec.{leb, ltb, eqb}
 use lib.IntN.{ℤ, pos, negℤ, natAbs, subℕ, _+ℤ_, _-ℤ_}

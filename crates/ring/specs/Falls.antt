@@ -1,14 +1,14 @@
--- Falls on a ring of N ids. The idea: y + Fall(x, y) goes round to x, and of the numbers below N no other does; so ways add up, and a fall is one of two
--- sums that omega can read. AbsDist is the smaller of the two falls. N is even (`Ring`); 2 ^ M is, for M from 1 on. Assumes nothing.
-use mathlib.Core.Path.{_≡_, refl, sym, _∙_, ap}
+-- Falls on a ring of N ids. The idea: y + Fall(x, y) goes round to x, and of the numbers below N no other does. So ways add up
+-- (`fall-sum`), and a fall is one of two sums that omega can read (`falls`). For even N (`Ring`; 2 ^ M is, from M = 1 on) AbsDist is
+-- the smaller of the two falls. Assumes nothing.
+use mathlib.Core.Path.{_≡_, sym, _∙_, ap}
 use mathlib.Core.Logic.{_⊎_, inl, inr, ⊎-elim}
-use mathlib.Core.Bool.{cond}
 use Prim.Native.Nat.{ℕ, zero, suc, _+_, _-_, _/_, _%_, _^_, _<_, _≤_, min, pred}
-use native.Mathlib.Nat.{add-assoc, add-comm, add-zero, add-mod-mod, mod-add-mod, add-mod-right, mod-eq-of-lt, mod-lt, lt-of-not-le}
+use native.Mathlib.Nat.{add-assoc, add-comm, add-zero, lt-of-not-le}
+use native.Mathlib.Nat.{add-mod-mod, mod-add-mod, add-mod-right, mod-eq-of-lt, mod-eq-sub-mod, mod-lt}
 use native.Mathlib.Decide.{decLe}
 use native.Mathlib.Omega.{arith}
 use lib.IntN.{pos, negsuc, natAbs, subℕ}
-use lib.Dec.{ltb}
 use lib.Pow.{pow-pos}
 use borrow.Author.Tests.{lt-ltb, le-ltb}
 use Rattle.ring.specs.Distance.{fallOf, wrapped, signedOf, absDistOf}
@@ -27,8 +27,7 @@ wraps N x h = ⊎-elim (λ p. inr (p, round p)) (λ p. inl (p, mod-eq-of-lt p)) 
   where
     round : N ≤ x → x % N + N ≡ x
     round p =
-        let e : x ≡ x - N + N = omega arith in
-        let m : x % N ≡ x - N = ap (λ (t : ℕ). t % N) e ∙ add-mod-right (x - N) N ∙ mod-eq-of-lt (omega arith) in
+        let m : x % N ≡ x - N = mod-eq-sub-mod p ∙ mod-eq-of-lt (omega arith) in
         omega arith
 
 -- ---- the fall
@@ -37,23 +36,23 @@ wraps N x h = ⊎-elim (λ p. inr (p, round p)) (λ p. inl (p, mod-eq-of-lt p)) 
 abbrev pub Falls : ℕ → ℕ → ℕ → ℕ → Type 0
 Falls N x y f = ((y ≤ x) × (y + f ≡ x)) ⊎ ((x < y) × (y + f ≡ x + N))
 
+-- the two ways between x and y: they make a round, or the ids are one
+abbrev pub Rounds : ℕ → ℕ → ℕ → Type 0
+Rounds N x y = ((x ≡ y) × (fallOf N x y ≡ 0) × (fallOf N y x ≡ 0)) ⊎ (fallOf N x y + fallOf N y x ≡ N)
+
 module _ (N : ℕ) where
   pub fall-lt : (x y : ℕ) → x < N → fallOf N x y < N
   unfolding fallOf
   fall-lt x y hx = mod-lt _ (omega arith)
 
-  -- rising by the fall
+  -- rising by the fall, and by nothing else, leads from y to x
   pub fall-rise : (x y : ℕ) → x < N → y < N → (y + fallOf N x y) % N ≡ x
   unfolding fallOf
-  fall-rise x y hx hy =
-      let e : y + (x + (N - y)) ≡ x + N = omega arith in
-      rw (add-mod-mod, e, add-mod-right) (mod-eq-of-lt hx)
+  fall-rise x y hx hy = rw add-mod-mod (ap (λ (n : ℕ). n % N) (omega arith) ∙ add-mod-right x N ∙ mod-eq-of-lt hx)
 
   pub fall-only : (x y f : ℕ) → f < N → y < N → (y + f) % N ≡ x → fallOf N x y ≡ f
   unfolding fallOf
-  fall-only x y f hf hy p =
-      let e : y + f + (N - y) ≡ f + N = omega arith in
-      rw (← p, mod-add-mod, e, add-mod-right) (mod-eq-of-lt hf)
+  fall-only x y f hf hy p = rw (← p, mod-add-mod) (ap (λ (n : ℕ). n % N) (omega arith) ∙ add-mod-right f N ∙ mod-eq-of-lt hf)
 
   pub fall-self : (i : ℕ) → i < N → fallOf N i i ≡ 0
   fall-self i hi = fall-only i i 0 (omega arith) hi (rw add-zero (mod-eq-of-lt hi))
@@ -71,19 +70,17 @@ module _ (N : ℕ) where
   -- ways add up
   pub fall-sum : (x y z : ℕ) → x < N → y < N → z < N → fallOf N x z ≡ (fallOf N x y + fallOf N y z) % N
   fall-sum x y z hx hy hz =
-      let f = fallOf N x y in
-      let g = fallOf N y z in
-      let e : z + (f + g) ≡ z + g + f = omega arith in
-      fall-only x z ((f + g) % N) (mod-lt _ (omega arith)) hz (rw (add-mod-mod, e, ← mod-add-mod, fall-rise y z hy hz) (fall-rise x y hx hy))
+      let e : z + (fallOf N x y + fallOf N y z) ≡ z + fallOf N y z + fallOf N x y = omega arith in
+      fall-only x z _ (mod-lt _ (omega arith)) hz (rw (add-mod-mod, e, ← mod-add-mod, fall-rise y z hy hz) (fall-rise x y hx hy))
 
   -- ids seen from i: the way up from i to x stands for x
   pub fall-shift : (i x y : ℕ) → i < N → x < N → y < N → fallOf N x y ≡ fallOf N (fallOf N x i) (fallOf N y i)
   fall-shift i x y hi hx hy =
-      sym (fall-only (fallOf N x i) (fallOf N y i) (fallOf N x y) (fall-lt x y hx) (fall-lt y i hy) (rw add-comm (sym (fall-sum x y i hx hy hi))))
+      sym (fall-only _ _ _ (fall-lt x y hx) (fall-lt y i hy) (rw add-comm (sym (fall-sum x y i hx hy hi))))
 
   pub fall-above : (i x t : ℕ) → i < N → x < N → fallOf N ((x + t) % N) i ≡ (fallOf N x i + t) % N
   fall-above i x t hi hx =
-      fall-only ((x + t) % N) i ((fallOf N x i + t) % N) (mod-lt _ (omega arith)) hi
+      fall-only _ i _ (mod-lt _ (omega arith)) hi
       (rw (add-mod-mod, ← add-assoc, ← mod-add-mod (i + fallOf N x i) N t, fall-rise x i hx hi))
 
   pub falls : (x y : ℕ) → x < N → y < N → Falls N x y (fallOf N x y)
@@ -93,13 +90,10 @@ module _ (N : ℕ) where
       go (inl p) = inl (omega arith)
       go (inr p) = inr (omega (arith, fall-lt x y hx))
 
-  -- the two ways between two ids make a round, or the ids are one
-  pub rounds : (x y : ℕ) → x < N → y < N
-      → ((x ≡ y) × (fallOf N x y ≡ 0) × (fallOf N y x ≡ 0)) ⊎ (fallOf N x y + fallOf N y x ≡ N)
+  pub rounds : (x y : ℕ) → x < N → y < N → Rounds N x y
   rounds x y hx hy = go (falls x y hx hy) (falls y x hy hx)
     where
-      go : Falls N x y (fallOf N x y) → Falls N y x (fallOf N y x)
-          → ((x ≡ y) × (fallOf N x y ≡ 0) × (fallOf N y x ≡ 0)) ⊎ (fallOf N x y + fallOf N y x ≡ N)
+      go : Falls N x y (fallOf N x y) → Falls N y x (fallOf N y x) → Rounds N x y
       go (inl p) (inl q) = inl (omega arith)
       go (inl p) (inr q) = inr (omega arith)
       go (inr p) (inl q) = inr (omega arith)
@@ -108,12 +102,17 @@ module _ (N : ℕ) where
   pub rounds-apart : (x y : ℕ) → x < N → y < N → (x ≡ y → ⊥) → fallOf N x y + fallOf N y x ≡ N
   rounds-apart x y hx hy d = ⊎-elim (λ p. absurd (d (p .0))) (λ p. p) (rounds x y hx hy)
 
--- ---- the size of the signed distance, N being even
+  pub fall-pos : (x y : ℕ) → x < N → y < N → (x ≡ y → ⊥) → 0 < fallOf N x y
+  fall-pos x y hx hy d = omega (arith, rounds-apart x y hx hy d, fall-lt y x hy)
 
+-- ---- the size of the signed distance
+
+-- N is even, and not 0
 pub record Ring (N : ℕ) : Type 0 where
   pub half : ℕ
   pub twice : N ≡ suc half + suc half
 
+-- every ring of 01
 pub ring-at : (m : ℕ) → 1 ≤ m → Ring (2 ^ m)
 ring-at zero h = absurd (omega arith)
 ring-at (suc m) h = record { half = pred (2 ^ m); twice = omega (arith, pow-pos m) }
@@ -127,21 +126,17 @@ module _ (N : ℕ) (R : Ring N) where
 
   -- a difference d upwards, and one of suc d downwards
   size-up : (d : ℕ) → d < N → natAbs (wrapped N (pos d)) ≡ min d (N - d)
-  size-up d hd = rw (half-is, suc-is) (go (le-or-lt d (suc (R .half))))
-    where
-      H : ℕ
-      H = suc (R .half)
-
-      go : (d ≤ H) ⊎ (H < d) → natAbs (cond (ltb H d) (subℕ d (suc (R .half + H))) (pos d)) ≡ min d (suc (R .half + H) - d)
-      go (inl p) = rw (le-ltb H d p) (omega arith)
-      go (inr p) = rw (lt-ltb H d p, lt-ltb d (suc (R .half + H)) (omega (arith, suc-is))) (omega arith)
+  size-up d hd =
+      let H = suc (R .half) in
+      rw (half-is, suc-is)
+      (⊎-elim (λ p. rw (le-ltb H d p) (omega arith))
+      (λ p. rw (lt-ltb H d p, lt-ltb d (suc (R .half + H)) (omega (arith, suc-is))) (omega arith)) (le-or-lt d H))
 
   size-down : (d : ℕ) → suc d < N → natAbs (wrapped N (negsuc d)) ≡ min (suc d) (N - suc d)
-  size-down d hd = rw half-is (go (le-or-lt d (R .half)))
-    where
-      go : (d ≤ R .half) ⊎ (R .half < d) → natAbs (cond (ltb (R .half) d) (subℕ N (suc d)) (negsuc d)) ≡ min (suc d) (N - suc d)
-      go (inl p) = rw (le-ltb (R .half) d p) (omega (arith, suc-is))
-      go (inr p) = rw (lt-ltb (R .half) d p, le-ltb N (suc d) (omega arith)) (omega (arith, suc-is))
+  size-down d hd =
+      rw half-is
+      (⊎-elim (λ p. rw (le-ltb (R .half) d p) (omega (arith, suc-is)))
+      (λ p. rw (lt-ltb (R .half) d p, le-ltb N (suc d) (omega arith)) (omega (arith, suc-is))) (le-or-lt d (R .half)))
 
   -- AbsDist is the shorter way round
   pub absDist-is : (x y : ℕ) → x < N → y < N → absDistOf N x y ≡ min (fallOf N x y) (fallOf N y x)

@@ -1,3 +1,7 @@
 pub mod Distance
+pub mod Worked
 pub mod Falls
 pub mod Order
+pub mod Cover
+pub mod Nearest
+pub mod Width

@@ -1,14 +1,13 @@
--- Nearer to a key. The idea: it is the order of a number, the rank: twice the distance, and one more where k is not reached by rising. The rank is a plain
--- function of one fall, and no two ids have the same; so nearer is a strict total order, and of two ids at one distance the one below the key comes first.
--- Assumes nothing.
+-- Nearer to a key. The idea: it is the order of a number, the rank: twice the distance, and one more where k is not reached by rising
+-- (`nearer-rank`). The rank is a plain function of one fall (`rank-is`), and no two ids have the same; so nearer is a strict total
+-- order, and of two ids at one distance the one below the key comes first (`tie-below`). Assumes nothing.
 use mathlib.Core.Path.{_≡_, refl, sym, _∙_, ap}
 use mathlib.Core.Logic.{_⊎_, inl, inr, ⊎-elim}
 use mathlib.Core.Bool.{Bool, true, false, cond, _&&_, _||_, not}
-use Prim.Native.Nat.{ℕ, suc, _+_, _-_, _*_, _%_, _<_, _≤_, min}
-use native.Mathlib.Nat.{lt-of-not-le}
+use Prim.Native.Nat.{ℕ, _+_, _-_, _*_, _%_, _<_, _≤_, min}
 use native.Mathlib.Omega.{arith}
 use lib.Dec.{leb, ltb, eqb}
-use borrow.Author.Tests.{lt-ltb, le-ltb, le-leb, lt-leb, eq-eqb, ne-eqb, ltb-true, ltb-false, eqb-true}
+use borrow.Author.Tests.{lt-ltb, le-ltb, le-leb, lt-leb, eq-eqb, ne-eqb, ltb-true, eqb-true}
 use Rattle.ring.specs.Distance.{fallOf, absDistOf, risesTo, nearer}
 use Rattle.ring.specs.Falls.{Ring, le-or-lt, fall-lt, fall-rise, fall-only, fall-inj-right, rounds, absDist-is}
 
@@ -19,6 +18,7 @@ same-test true false f g = sym (f refl)
 same-test false true f g = g refl
 same-test false false f g = refl
 
+-- twice the distance, and one more where k is not reached from a by rising
 unfoldable pub rank : ℕ → ℕ → ℕ → ℕ
 rank N k a = 2 * absDistOf N k a + cond (risesTo N k a) 0 1
 
@@ -48,12 +48,11 @@ pub nearer-rank : (N k a b : ℕ) → nearer N k a b ≡ ltb (rank N k a) (rank 
 unfolding nearer rank
 nearer-rank N k a b = sym (ranked (absDistOf N k a) (absDistOf N k b) (risesTo N k a) (risesTo N k b))
 
-pub nearer-irreflexive : (N k a : ℕ) → nearer N k a a ≡ false
-nearer-irreflexive N k a = nearer-rank N k a a ∙ omega (arith, le-ltb)
-
 pub nearer-transitive : (N k a b c : ℕ) → nearer N k a b ≡ true → nearer N k b c ≡ true → nearer N k a c ≡ true
-nearer-transitive N k a b c p q =
-    rw nearer-rank (omega (arith, lt-ltb, ltb-true, rw nearer-rank at p, rw nearer-rank at q))
+nearer-transitive N k a b c p q = rw nearer-rank (omega (arith, lt-ltb, ltb-true, rw nearer-rank at p, rw nearer-rank at q))
+
+pub nearer-irreflexive : (N k a : ℕ) → nearer N k a a ≡ true → ⊥
+nearer-irreflexive N k a p = omega (arith, ltb-true, rw nearer-rank at p)
 
 -- ---- the rank, by one fall
 
@@ -66,11 +65,19 @@ module _ (N : ℕ) (R : Ring N) where
     -- what a program computes: rising is the shorter way, or as short
     pub rises-is : risesTo N k a ≡ leb (fallOf N k a) (fallOf N a k)
     unfolding risesTo
-    rises-is = rw (absDist-is N R k a hk ha) (go (fallOf N k a) (fallOf N a k) (le-or-lt _ _))
-      where
-        go : (f g : ℕ) → (f ≤ g) ⊎ (g < f) → eqb f (min f g) ≡ leb f g
-        go f g (inl p) = rw (le-leb f g p) (omega (arith, eq-eqb))
-        go f g (inr p) = rw (lt-leb f g p) (omega (arith, ne-eqb))
+    rises-is =
+        let f = fallOf N k a in
+        let g = fallOf N a k in
+        rw (absDist-is N R k a hk ha)
+        (⊎-elim (λ p. rw (le-leb f g p) (omega (arith, eq-eqb))) (λ p. rw (lt-leb f g p) (omega (arith, ne-eqb))) (le-or-lt f g))
+
+    -- which is so exactly where a stands its distance below k
+    pub rises-below : risesTo N k a ≡ eqb ((a + absDistOf N k a) % N) k
+    unfolding risesTo
+    rises-below =
+        let small : absDistOf N k a < N = omega (arith, absDist-is N R k a hk ha, fall-lt N k a hk) in
+        same-test _ _ (λ e. eq-eqb _ _ (rw (eqb-true (fallOf N k a) (absDistOf N k a) e) at (fall-rise N k a hk ha)))
+        (λ e. eq-eqb _ _ (fall-only N k a (absDistOf N k a) small ha (eqb-true _ k e)))
 
     pub rank-rising : fallOf N k a ≤ fallOf N a k → rank N k a ≡ 2 * fallOf N k a
     unfolding rank
@@ -81,13 +88,10 @@ module _ (N : ℕ) (R : Ring N) where
     rank-falling h = rw (rises-is, lt-leb _ _ h, absDist-is N R k a hk ha) (omega arith)
 
     pub rank-is : rank N k a ≡ rankAt N (fallOf N k a)
-    rank-is = go (rounds N k a hk ha) (le-or-lt (fallOf N k a) (fallOf N a k))
-      where
-        go : ((k ≡ a) × (fallOf N k a ≡ 0) × (fallOf N a k ≡ 0)) ⊎ (fallOf N k a + fallOf N a k ≡ N)
-            → (fallOf N k a ≤ fallOf N a k) ⊎ (fallOf N a k < fallOf N k a) → rank N k a ≡ rankAt N (fallOf N k a)
-        go (inl p) q = omega (arith, rank-rising (omega arith))
-        go (inr p) (inl q) = omega (arith, rank-rising q)
-        go (inr p) (inr q) = omega (arith, rank-falling q)
+    rank-is =
+        ⊎-elim (λ p. omega (arith, rank-rising (omega arith)))
+        (λ p. ⊎-elim (λ q. omega (arith, rank-rising q)) (λ q. omega (arith, rank-falling q)) (le-or-lt (fallOf N k a) (fallOf N a k)))
+        (rounds N k a hk ha)
 
   -- two ids of one rank are one
   pub rank-inj : (k a b : ℕ) → k < N → a < N → b < N → rank N k a ≡ rank N k b → a ≡ b
@@ -99,11 +103,10 @@ module _ (N : ℕ) (R : Ring N) where
     differ e = apart (rank-inj k a b hk ha hb e)
 
     pub nearer-flip : nearer N k b a ≡ not (nearer N k a b)
-    nearer-flip = rw (nearer-rank N k a b, nearer-rank N k b a) (go (le-or-lt (rank N k a) (rank N k b)))
-      where
-        go : (rank N k a ≤ rank N k b) ⊎ (rank N k b < rank N k a) → ltb (rank N k b) (rank N k a) ≡ not (ltb (rank N k a) (rank N k b))
-        go (inl p) = rw (lt-ltb (rank N k a) (rank N k b) (omega (arith, differ))) (omega (arith, le-ltb))
-        go (inr p) = rw (le-ltb (rank N k a) (rank N k b) (omega arith)) (omega (arith, lt-ltb))
+    nearer-flip =
+        rw (nearer-rank N k a b, nearer-rank N k b a)
+        (⊎-elim (λ p. rw (lt-ltb (rank N k a) (rank N k b) (omega (arith, differ))) (omega (arith, le-ltb)))
+        (λ p. rw (le-ltb (rank N k a) (rank N k b) (omega arith)) (omega (arith, lt-ltb))) (le-or-lt (rank N k a) (rank N k b)))
 
     pub nearer-total : (nearer N k a b ≡ true) ⊎ (nearer N k b a ≡ true)
     nearer-total = go (nearer N k a b) refl
@@ -112,7 +115,7 @@ module _ (N : ℕ) (R : Ring N) where
         go true e = inl e
         go false e = inr (nearer-flip ∙ ap not e)
 
-    -- at one distance, one of the two is reached by rising, and that one is nearer
+    -- at one distance, one of the two is reached by rising, and that one is nearer: the one that stands its distance below k
     module _ (tie : absDistOf N k a ≡ absDistOf N k b) where
       pub tie-one : risesTo N k b ≡ not (risesTo N k a)
       unfolding rank
@@ -124,17 +127,13 @@ module _ (N : ℕ) (R : Ring N) where
           go false true h = refl
           go false false h = absurd (h refl)
 
-      pub tie-below : nearer N k a b ≡ risesTo N k a
-      unfolding nearer
-      tie-below = rw (tie, le-ltb (absDistOf N k b) (absDistOf N k b) (omega arith), eq-eqb (absDistOf N k b) (absDistOf N k b) refl, tie-one) (go (risesTo N k a))
+      pub tie-rises : nearer N k a b ≡ risesTo N k a
+      unfolding rank
+      tie-rises = rw (nearer-rank, tie, tie-one) (go (risesTo N k a))
         where
-          go : (r : Bool) → (r && not (not r)) ≡ r
-          go true = refl
-          go false = refl
+          go : (r : Bool) → ltb (2 * absDistOf N k b + cond r 0 1) (2 * absDistOf N k b + cond (not r) 0 1) ≡ r
+          go true = omega (arith, lt-ltb)
+          go false = omega (arith, le-ltb)
 
-  -- k is reached from a by rising exactly where a stands its distance below k
-  pub rises-below : (k a : ℕ) → k < N → a < N → risesTo N k a ≡ eqb ((a + absDistOf N k a) % N) k
-  unfolding risesTo
-  rises-below k a hk ha =
-      same-test _ _ (λ e. eq-eqb _ _ (rw (eqb-true (fallOf N k a) (absDistOf N k a) e) at (fall-rise N k a hk ha)))
-      (λ e. eq-eqb _ _ (fall-only N k a (absDistOf N k a) (omega (arith, absDist-is N R k a hk ha, fall-lt N k a hk)) ha (eqb-true _ k e)))
+      pub tie-below : nearer N k a b ≡ eqb ((a + absDistOf N k a) % N) k
+      tie-below = tie-rises ∙ rises-below k a hk ha

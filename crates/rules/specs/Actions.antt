@@ -61,7 +61,7 @@ leasePlan g ids i v =
       first = leaseRequest i;
       to = unlessIn (v .lease) (leftNeighbour g ids i (sidesOf v));
       each = leaseRequest i;
-      all = without (single (rightNeighbour g ids i (sidesOf v))) (v .lease)
+      all = without (single (rightNeighbour g ids i (sidesOf v))) (v .lease);
     }
 
 unfoldable pub planRequestLease : Ring → List ℕ → ℕ → Node → Planned

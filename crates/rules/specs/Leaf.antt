@@ -58,7 +58,7 @@ unfoldable pub leafWith : Ring → List ℕ → ℕ → Sides → ℕ → Sides
 leafWith g ids i s d =
     record {
       left = closest (wayUp g ids i) (g .n) (g .l) (joinedWith (s .left) d i);
-      right = closest (wayDown g ids i) (g .n) (g .l) (joinedWith (s .right) d i)
+      right = closest (wayDown g ids i) (g .n) (g .l) (joinedWith (s .right) d i);
     }
 
 -- with j added unless in it

@@ -15,7 +15,7 @@ letter kind word flag owner routing s failed =
       routing = routing;
       left = s .left;
       right = s .right;
-      failed = failed
+      failed = failed;
     }
 
 abbrev pub noSides : Sides

@@ -28,6 +28,5 @@ placed m s =
       routing = m .routing;
       left = m .left;
       right = m .right;
-      failed = m .failed
+      failed = m .failed;
     }
-

@@ -59,7 +59,7 @@ withStatus v s =
       failed = v .failed;
       routing = v .routing;
       lease = v .lease;
-      grant = v .grant
+      grant = v .grant;
     }
 
 abbrev pub withLeases : Node → ℕ → ℕ → Status → Node
@@ -73,7 +73,7 @@ withLeases v lease grant s =
       failed = v .failed;
       routing = v .routing;
       lease = lease;
-      grant = grant
+      grant = grant;
     }
 
 -- ---- plans

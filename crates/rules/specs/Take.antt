@@ -66,7 +66,7 @@ joinedNode v i routing content s =
       failed = 0;
       routing = union (v .routing) (union routing content);
       lease = v .lease;
-      grant = v .grant
+      grant = v .grant;
     }
 
 -- LSProbe to each in probing, carrying the new leaf set and empty failed
@@ -114,7 +114,7 @@ learntNode v j s f probing st =
       failed = f;
       routing = addOf (v .routing) j;
       lease = v .lease;
-      grant = v .grant
+      grant = v .grant;
     }
 
 -- 2 if dead; 4 if wait with empty leaf set; 5 if j = i
@@ -215,7 +215,7 @@ leasedNode v s lease st =
       failed = v .failed;
       routing = v .routing;
       lease = lease;
-      grant = v .grant
+      grant = v .grant;
     }
 
 -- add m's content without failed

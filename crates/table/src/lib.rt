@@ -3,7 +3,6 @@ ghost use mathlib.Core.Path.{_≡_};
 ghost use Prim.Native.Nat.{ℕ, _<_};
 ghost use Rattle.rules.specs.Limits.{mLow, mHigh, lLow, lHigh, nodesHigh, messagesHigh};
 ghost use Rattle.table.specs.Table.{nodeAt, withNode, idsOf, ringOf};
-
 use rules::Answer;
 use rules::Node;
 use rules::Pool;
