@@ -82,15 +82,40 @@ hasFailed kind = isProbe kind
 abbrev pub hasFlag : ℕ → Bool
 hasFlag kind = eqb kind 8
 
--- a field that a kind lacks is 0, a flag 0 or 1; carried routing and failed sets may mark any listed node; a carried leaf set obeys the node rules for its owner
+-- a field that a kind lacks is 0
+abbrev pub zeroUnless : Bool → Bool → ℕ → Bool
+zeroUnless there fits x = cond there fits (eqb x 0)
+
+-- a key below 2^M, or a node
+unfoldable pub wordFits : ℕ → Ring → ℕ → Bool
+wordFits kind g word = cond (hasKey kind) (ltb word (2 ^ g .m)) (zeroUnless (hasNode kind) (ltb word (g .n)) word)
+
+-- a flag 0 or 1
+unfoldable pub flagFits : ℕ → ℕ → Bool
+flagFits kind flag = zeroUnless (hasFlag kind) (leb flag 1) flag
+
+-- a carried leaf set obeys the node rules for its owner
+unfoldable pub carriedFits : ℕ → Ring → ℕ → Sides → Bool
+carriedFits kind g owner s =
+    cond (hasLeaf kind) (ltb owner (g .n) && leafFits g owner s) (eqb owner 0 && (eqb (s .left) 0 && eqb (s .right) 0))
+
+-- the owner is that node
+unfoldable pub ownerFits : ℕ → ℕ → ℕ → Bool
+ownerFits kind word owner = cond (isProbe kind) (eqb owner word) true
+
+-- carried routing and failed sets may mark any listed node
+unfoldable pub routingFits : ℕ → Ring → ℕ → Bool
+routingFits kind g routing = zeroUnless (hasRouting kind) (listed (g .n) routing) routing
+
+unfoldable pub failedFits : ℕ → Ring → ℕ → Bool
+failedFits kind g failed = zeroUnless (hasFailed kind) (listed (g .n) failed) failed
+
 unfoldable pub fieldsFit : ℕ → Ring → Message → Bool
 fieldsFit kind g m =
-    cond (hasKey kind) (ltb (m .word) (2 ^ g .m)) (cond (hasNode kind) (ltb (m .word) (g .n)) (eqb (m .word) 0))
-    && (cond (hasFlag kind) (leb (m .flag) 1) (eqb (m .flag) 0)
-    && (cond (hasLeaf kind) (ltb (m .owner) (g .n) && leafFits g (m .owner) (carriedOf m)) (eqb (m .owner) 0 && (eqb (m .left) 0 && eqb (m .right) 0))
-    && (cond (isProbe kind) (eqb (m .owner) (m .word)) true
-    && (cond (hasRouting kind) (listed (g .n) (m .routing)) (eqb (m .routing) 0)
-    && cond (hasFailed kind) (listed (g .n) (m .failed)) (eqb (m .failed) 0)))))
+    wordFits kind g (m .word)
+    && (flagFits kind (m .flag)
+    && (carriedFits kind g (m .owner) (carriedOf m)
+    && (ownerFits kind (m .word) (m .owner) && (routingFits kind g (m .routing) && failedFits kind g (m .failed)))))
 
 -- each message obeys its kind; its destination is a slot, and its sixth word is 0
 unfoldable pub messageFits : Ring → Message → Bool

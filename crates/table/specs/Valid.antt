@@ -14,9 +14,12 @@ use Rattle.table.specs.Table.{nodeAt, idsOf, ringOf}
 unfoldable pub nodesFit : Table → Bool
 nodesFit t = allTo 64 (λ s. slotFits (ringOf t) (idsOf t) s (nodeAt t s))
 
+unfoldable pub messagesFit : Ring → Pool → Bool
+messagesFit g p = allTo (p .count) (λ q. messageFits g (messageAt p q))
+
 -- at most 256 messages
 unfoldable pub poolFits : Ring → Pool → Bool
-poolFits g p = leb (p .count) messagesHigh && (allTo (p .count) (λ q. messageFits g (messageAt p q)) && allDifferent (waiting p))
+poolFits g p = leb (p .count) messagesHigh && (messagesFit g p && allDifferent (waiting p))
 
 unfoldable pub validOf : Table → Pool → Bool
 validOf t p = numbersFit (ringOf t) && (nodesFit t && poolFits (ringOf t) p)
