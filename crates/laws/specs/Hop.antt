@@ -60,6 +60,9 @@ pub record Hops (g : Ring) (ids : List ℕ) (dead i : ℕ) (v : Node) (k h : ℕ
   pub closer : nearerThanOwner g ids i k h ≡ true
   pub nearest : (s : ℕ) → s < 64 → has (candidatesOf g ids dead i v) s ≡ true → nearer (2 ^ g .m) k (idAt ids s) (idAt ids h) ≡ false
 
+nearer-lt : (N k a b : ℕ) → nearer N k a b ≡ true → rank N k a < rank N k b
+nearer-lt N k a b e = ltb-true (rank N k a) (rank N k b) (sym (nearer-rank N k a b) ∙ e)
+
 no-hop : {h : ℕ} → NoRoute ≡ To h → ⊥
 no-hop e = let z : _≡_ {A = ℕ} 0 1 = cc in omega arith
 
@@ -77,12 +80,14 @@ module _ (g : Ring) (ids : List ℕ) (dead i : ℕ) (v : Node) where
 
   pub candidate-legal : (s : ℕ) → s < 64 → has (candidatesOf g ids dead i v) s ≡ true → Legal dead i v s
   candidate-legal s h p =
-      let all = sym (candidates-has s h) ∙ p in
-      let rest = and-left _ _ all in
+      let any : Bool = has (contentOf (sidesOf v) i) s || (not (byLeaf g ids i v) && has (v .routing) s) in
+      let f = has (v .failed) s in
+      let all : (any && not f && not (has dead s)) ≡ true = sym (candidates-has s h) ∙ p in
+      let most = and-left (any && not f) (not (has dead s)) all in
       record {
-        known = wider (has (contentOf (sidesOf v) i) s) (not (byLeaf g ids i v)) (has (v .routing) s) (and-left _ _ rest);
-        trusted = not-true (has (v .failed) s) (and-right _ _ rest);
-        alive = not-true (has dead s) (and-right _ _ all)
+        known = wider (has (contentOf (sidesOf v) i) s) (not (byLeaf g ids i v)) (has (v .routing) s) (and-left any (not f) most);
+        trusted = not-true f (and-right any (not f) most);
+        alive = not-true (has dead s) (and-right (any && not f) (not (has dead s)) all);
       }
     where
       wider : (a b c : Bool) → (a || (b && c)) ≡ true → (a || c) ≡ true
@@ -139,7 +144,7 @@ module _ (g : Ring) (ids : List ℕ) (dead i : ℕ) (v : Node) where
         made b l p =
             record {
               below = l .below;
-              other = λ d. opposed p (rw d (nearer-irreflexive (2 ^ g .m) k (idAt ids i)));
+              other = λ d. nearer-irreflexive (2 ^ g .m) k (idAt ids i) (rw d at p);
               legal = candidate-legal b (l .below) (l .holds);
               candidate = l .holds;
               closer = p;
@@ -155,8 +160,52 @@ module _ (g : Ring) (ids : List ℕ) (dead i : ℕ) (v : Node) where
         go (At b) l q = turn b l (nearerThanOwner g ids i k b) refl q
         go Nothing l q = absurd (no-hop q)
 
+    -- each hop comes nearer to the key
+    pub hop-falls : (h : ℕ) → nextHop g ids dead i v k ≡ To h → rank (2 ^ g .m) k (idAt ids h) < rank (2 ^ g .m) k (idAt ids i)
+    hop-falls h e = nearer-lt (2 ^ g .m) k (idAt ids h) (idAt ids i) (hop-to h e .closer)
+
     -- ---- where there is none
+
+    abbrev nearerCandidate : ℕ → Bool
+    nearerCandidate s = has (candidatesOf g ids dead i v) s && nearerThanOwner g ids i k s
 
     pub hop-none : nextHop g ids dead i v k ≡ NoRoute
         → (s : ℕ) → s < 64 → has (candidatesOf g ids dead i v) s ≡ true → nearerThanOwner g ids i k s ≡ false
-    hop-none e s h c = ?
+    hop-none e s h c = go (best (aheadOf Near (2 ^ g .m) k ids) nearerCandidate 64) (best-finds _ nearerCandidate 64) (sym nextHop-is ∙ e)
+      where
+        go : (r : Found) → Finds nearerCandidate 64 r → toFound r ≡ NoRoute → nearerThanOwner g ids i k s ≡ false
+        go (At b) l q = absurd (no-hop (sym q))
+        go Nothing l q = rw c at (l s h)
+
+    pub none-hop : ((s : ℕ) → s < 64 → has (candidatesOf g ids dead i v) s ≡ true → nearerThanOwner g ids i k s ≡ false)
+        → nextHop g ids dead i v k ≡ NoRoute
+    none-hop e = nextHop-is ∙ ap toFound (best-none _ nearerCandidate 64 (λ s h. go s h (bool-cases (has (candidatesOf g ids dead i v) s))))
+      where
+        go : (s : ℕ) → s < 64 → (has (candidatesOf g ids dead i v) s ≡ true) ⊎ (has (candidatesOf g ids dead i v) s ≡ false) → nearerCandidate s ≡ false
+        go s h (inl c) = and-fails-right (has (candidatesOf g ids dead i v) s) (e s h c)
+        go s h (inr c) = and-fails-left (nearerThanOwner g ids i k s) c
+
+    pub hop-some : (s : ℕ) → s < 64 → has (candidatesOf g ids dead i v) s ≡ true → nearerThanOwner g ids i k s ≡ true
+        → (h : ℕ) × (nextHop g ids dead i v k ≡ To h)
+    hop-some s l c p =
+        let found = best-some (aheadOf Near (2 ^ g .m) k ids) nearerCandidate 64 s l (and-both c p) in
+        (found .0, nextHop-is ∙ ap toFound (found .1))
+
+    -- the hop to a candidate that is nearer than i and than every other candidate
+    pub hop-unique : (h : ℕ) → h < 64 → has (candidatesOf g ids dead i v) h ≡ true → nearerThanOwner g ids i k h ≡ true
+        → ((s : ℕ) → s < 64 → has (candidatesOf g ids dead i v) s ≡ true → (s ≡ h → ⊥) → nearer (2 ^ g .m) k (idAt ids h) (idAt ids s) ≡ true)
+        → nextHop g ids dead i v k ≡ To h
+    hop-unique h l c p first =
+        nextHop-nearest ∙ ap (toNearer g ids i k) found ∙ rw p
+      where
+        found : bestOf Near (2 ^ g .m) k ids (candidatesOf g ids dead i v) ≡ At h
+        found =
+            best-unique (aheadOf Near (2 ^ g .m) k ids) (has (candidatesOf g ids dead i v)) (scoreAt Near (2 ^ g .m) k ids) 64 h
+            (near-scored (2 ^ g .m) k ids 64) l c (λ s q d o. nearer-lt (2 ^ g .m) k (idAt ids h) (idAt ids s) (first s q d o))
+
+    pub hop-listed : (n h : ℕ) → listed n (v .left) ≡ true → listed n (v .right) ≡ true → listed n (v .routing) ≡ true → i < n
+        → nextHop g ids dead i v k ≡ To h → h < n
+    unfolding contentOf
+    hop-listed n h a b c l e = let to = hop-to h e in
+      ⊎-elim (listed-has n (contentOf (sidesOf v) i) h (listed-add n (union (v .left) (v .right)) i (listed-union n (v .left) (v .right) a b) l) (to .below))
+       (listed-has n (v .routing) h c (to .below)) (or-cases (has (contentOf (sidesOf v) i) h) (has (v .routing) h) (to .legal .known))

@@ -1,2 +1,4 @@
 pub mod Best
 pub mod Hop
+pub mod Closest
+pub mod Steps
