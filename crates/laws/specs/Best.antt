@@ -1,5 +1,6 @@
--- What `best` finds. The idea: each way of coming first is the order of a number, the score, so the best slot is one of least score; of equal scores the
--- lowest slot stays. By induction on how many slots were looked at: `Best` holds of what was found so far. Assumes nothing.
+-- What `best` finds. The idea: each way of coming first is the order of a number, the score (`ahead-score`), so the best slot is one that
+-- passes and has the least score (`best-is`). By induction on how many slots were looked at: `Best` holds of what was found so far. Of the
+-- slots of small score the best is the best of all, if that has a small score (`best-kept`). Assumes nothing.
 use mathlib.Core.Path.{_≡_, refl, sym, _∙_, ap}
 use mathlib.Core.Logic.{_⊎_, inl, inr, ⊎-elim}
 use mathlib.Core.Bool.{Bool, true, false, cond, _&&_}
@@ -9,19 +10,19 @@ use native.Mathlib.Nat.{eq-or-lt-of-le, le-of-suc-le-suc}
 use native.Mathlib.Numerals.{add-one}
 use native.Mathlib.Omega.{arith}
 use lib.Dec.{ltb}
-use borrow.Author.Tests.{lt-ltb, le-ltb, ltb-true, ltb-false}
+use borrow.Author.Tests.{lt-ltb, ltb-true, ltb-false}
 use Rattle.ring.specs.Distance.{fallOf}
 use Rattle.ring.specs.Falls.{fall-lt}
 use Rattle.ring.specs.Order.{rank, nearer-rank}
 use Rattle.marks.specs.Marks.{has}
-use Rattle.marks.specs.Bools.{clash, opposed, bool-false, bool-same, lt-or-le, eq-or-ne}
+use Rattle.marks.specs.Bools.{opposed, bool-same, lt-or-le, eq-or-ne}
 use Rattle.marks.specs.declared.Found.{Found}
 use Rattle.marks.specs.declared.Found.the-variants.{At, Nothing}
+use Rattle.rules.specs.declared.Ring.{Ring}
 use Rattle.rules.specs.declared.Way.{Way}
 use Rattle.rules.specs.declared.Way.the-variants.{Near, Up, Down, FarUp, FarDown}
 use Rattle.rules.specs.Pick.{idAt, aheadOf, betterOf, best, bestOf}
 use Rattle.rules.specs.Asks.{Keyed, Listed, Below}
-use Rattle.rules.specs.declared.Ring.{Ring}
 
 -- ---- scores
 
@@ -210,15 +211,18 @@ module _ (ahead : ℕ → ℕ → Bool) (ok : ℕ → Bool) (f : ℕ → ℕ) wh
       outside : (s : ℕ) → s < suc n → near s ≡ false → c ≤ f s
       outside s l e = ltb-false (f s) c (sym (q s l) ∙ e)
 
+      order : (b : ℕ) → b < n → ahead n b ≡ ltb (f n) (f b)
+      order b h = r n b (omega arith) (omega arith)
+
       turn : (b : ℕ) → b < n → (x y a : Bool) → near n ≡ x → near b ≡ y → ahead n b ≡ a
           → cond x (betterOf ahead (cond y (At b) Nothing) n) (cond y (At b) Nothing) ≡ keptOf near (cond a (At n) (At b))
       turn b h true true true e d o = simp (e, o)
       turn b h true true false e d o = simp (d, o)
       turn b h true false true e d o = simp e
       turn b h true false false e d o =
-          absurd (omega (arith, inside n (omega arith) e, outside b (omega arith) d, ltb-false (f n) (f b) (sym (r n b (omega arith) (omega arith)) ∙ o)))
+          absurd (omega (arith, inside n (omega arith) e, outside b (omega arith) d, ltb-false (f n) (f b) (sym (order b h) ∙ o)))
       turn b h false true true e d o =
-          absurd (omega (arith, outside n (omega arith) e, inside b (omega arith) d, ltb-true (f n) (f b) (sym (r n b (omega arith) (omega arith)) ∙ o)))
+          absurd (omega (arith, outside n (omega arith) e, inside b (omega arith) d, ltb-true (f n) (f b) (sym (order b h) ∙ o)))
       turn b h false true false e d o = simp d
       turn b h false false true e d o = simp e
       turn b h false false false e d o = simp d

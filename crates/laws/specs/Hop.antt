@@ -1,34 +1,38 @@
--- The next hop. The idea: both branches are one search over the candidates of the branch taken; the nearest candidate, where it is nearer than i, is the
--- nearest of those that are nearer than i. So a hop goes to a node other than i that is nearer, alive and not failed, and there is none exactly when no
--- candidate is nearer than i. Nothing is asked of ids, i or k. Assumes nothing.
+-- The next hop. The idea: both branches are one search over the candidates of the branch taken, since the nearest candidate, where it is
+-- nearer than i, is the nearest of those that are (`nextHop-is`). So a hop goes to another node that is nearer, alive and not failed
+-- (`hop-to`), and there is none exactly where no candidate is nearer than i (`hop-none`, `none-hop`). All this for any ids, i and k.
+-- Assumes nothing.
 use mathlib.Core.Path.{_≡_, refl, sym, _∙_, ap}
 use mathlib.Core.Logic.{_⊎_, inl, inr, ⊎-elim}
 use mathlib.Core.Bool.{Bool, true, false, cond, _&&_, _||_, not, or-false}
 use mathlib.Core.List.{List}
-use Prim.Native.Nat.{ℕ, _^_, _<_, _≤_}
+use Prim.Native.Nat.{ℕ, _^_, _<_}
 use native.Mathlib.Omega.{arith}
-use borrow.Author.Tests.{le-ltb, ltb-true, ltb-false, not-true}
+use borrow.Author.Tests.{le-ltb, ltb-true, not-true}
 use Rattle.ring.specs.Distance.{nearer}
 use Rattle.ring.specs.Order.{rank, nearer-rank, nearer-irreflexive}
 use Rattle.marks.specs.Marks.{has, union, without, listed}
-use Rattle.marks.specs.Bools.{opposed, and-left, and-right, and-both, and-cases, and-fails-left, and-fails-right, or-left, or-cases, false-not, bool-cases}
+use Rattle.marks.specs.Bools.{bool-cases, and-left, and-right, and-both, and-fails-left, and-fails-right, or-cases}
 use Rattle.marks.specs.Laws.{has-union, has-without, listed-has, listed-union, listed-add}
 use Rattle.marks.specs.declared.Found.{Found}
 use Rattle.marks.specs.declared.Found.the-variants.{At, Nothing}
 use Rattle.rules.specs.declared.Way.the-variants.{Near}
 use Rattle.rules.specs.declared.Ring.{Ring}
+use Rattle.rules.specs.declared.Sides.{Sides}
 use Rattle.rules.specs.declared.Node.{Node}
-use Rattle.rules.specs.declared.Hop.{Hop}
 use Rattle.rules.specs.declared.Hop.the-variants.{To, NoRoute}
 use Rattle.rules.specs.Pick.{idAt, aheadOf, best, bestOf}
 use Rattle.rules.specs.Nodes.{sidesOf}
 use Rattle.rules.specs.Leaf.{contentOf}
-use Rattle.rules.specs.Hop.{legalOf, leafCandidates, routeCandidates, byLeaf, nearerThanOwner, toNearer, toFound, leafHop, routeHop, nextHop}
-use Rattle.laws.specs.Best.{Leads, Best, Finds, keptOf, scoreAt, near-scored, best-is, best-finds, best-kept, best-none, best-some, best-unique}
+use Rattle.rules.specs.Hop.{legalOf, leafCandidates, routeCandidates, byLeaf, nearerThanOwner, toNearer, toFound}
+use Rattle.rules.specs.Hop.{leafHop, routeHop, nextHop}
+use Rattle.laws.specs.Best.{Finds, Leads, Best, keptOf, scoreAt, near-scored}
+use Rattle.laws.specs.Best.{best-finds, best-none, best-some, best-is, best-unique, best-kept}
 
 -- ---- candidates, by membership
 
-pub legal-has : (dead : ℕ) (v : Node) (set s : ℕ) → s < 64 → has (legalOf dead v set) s ≡ (has set s && not (has (v .failed) s) && not (has dead s))
+pub legal-has : (dead : ℕ) (v : Node) (set s : ℕ) → s < 64
+    → has (legalOf dead v set) s ≡ (has set s && not (has (v .failed) s) && not (has dead s))
 legal-has dead v set s h = rw (has-without (without set (v .failed)) dead s h, has-without set (v .failed) s h)
 
 pub leaf-has : (dead i : ℕ) (v : Node) (s : ℕ) → s < 64
@@ -37,9 +41,12 @@ unfolding leafCandidates
 leaf-has dead i v s h = legal-has dead v (contentOf (sidesOf v) i) s h
 
 pub route-has : (dead i : ℕ) (v : Node) (s : ℕ) → s < 64
-    → has (routeCandidates dead i v) s ≡ ((has (contentOf (sidesOf v) i) s || has (v .routing) s) && not (has (v .failed) s) && not (has dead s))
+    → has (routeCandidates dead i v) s
+    ≡ ((has (contentOf (sidesOf v) i) s || has (v .routing) s) && not (has (v .failed) s) && not (has dead s))
 unfolding routeCandidates
-route-has dead i v s h = rw (legal-has dead v (union (contentOf (sidesOf v) i) (v .routing)) s h, has-union (contentOf (sidesOf v) i) (v .routing) s h)
+route-has dead i v s h =
+    let content = contentOf (sidesOf v) i in
+    rw (legal-has dead v (union content (v .routing)) s h, has-union content (v .routing) s h)
 
 -- s is of the content or the routing set, and neither failed nor dead
 pub record Legal (dead i : ℕ) (v : Node) (s : ℕ) : Type 0 where
@@ -65,6 +72,11 @@ nearer-lt N k a b e = ltb-true (rank N k a) (rank N k b) (sym (nearer-rank N k a
 
 no-hop : {h : ℕ} → NoRoute ≡ To h → ⊥
 no-hop e = let z : _≡_ {A = ℕ} 0 1 = cc in omega arith
+
+content-listed : (n : ℕ) (s : Sides) (i : ℕ) → listed n (s .left) ≡ true → listed n (s .right) ≡ true → i < n
+    → listed n (contentOf s i) ≡ true
+unfolding contentOf
+content-listed n s i a b l = listed-add n (union (s .left) (s .right)) i (listed-union n (s .left) (s .right) a b) l
 
 module _ (g : Ring) (ids : List ℕ) (dead i : ℕ) (v : Node) where
   pub candidates-has : (s : ℕ) → s < 64
@@ -100,13 +112,25 @@ module _ (g : Ring) (ids : List ℕ) (dead i : ℕ) (v : Node) where
   content-candidate s h c f d = rw (candidates-has s h, c, f, d)
 
   module _ (k : ℕ) where
+    -- what is searched, in which order
+    abbrev all : ℕ
+    all = candidatesOf g ids dead i v
+
+    abbrev ahead : ℕ → ℕ → Bool
+    ahead = aheadOf Near (2 ^ g .m) k ids
+
+    abbrev score : ℕ → ℕ
+    score = scoreAt Near (2 ^ g .m) k ids
+
+    abbrev closerOne : ℕ → Bool
+    closerOne s = has all s && nearerThanOwner g ids i k s
+
     -- the nearest, where it is nearer than i, is the nearest of those nearer than i
-    nearest-nearer : (set : ℕ) → toNearer g ids i k (bestOf Near (2 ^ g .m) k ids set)
-        ≡ toFound (best (aheadOf Near (2 ^ g .m) k ids) (λ s. has set s && nearerThanOwner g ids i k s) 64)
+    nearest-nearer : (set : ℕ) → toNearer g ids i k (best ahead (has set) 64)
+        ≡ toFound (best ahead (λ s. has set s && nearerThanOwner g ids i k s) 64)
     nearest-nearer set =
-        rw (best-kept (aheadOf Near (2 ^ g .m) k ids) (has set) (scoreAt Near (2 ^ g .m) k ids) (nearerThanOwner g ids i k)
-        (rank (2 ^ g .m) k (idAt ids i)) 64 (near-scored (2 ^ g .m) k ids 64) (λ s h. nearer-rank (2 ^ g .m) k (idAt ids s) (idAt ids i)))
-        (go (bestOf Near (2 ^ g .m) k ids set))
+        rw (best-kept ahead (has set) score (nearerThanOwner g ids i k) (score i) 64 (near-scored (2 ^ g .m) k ids 64)
+        (λ s h. nearer-rank (2 ^ g .m) k (idAt ids s) (idAt ids i))) (go (best ahead (has set) 64))
       where
         turn : (h : ℕ) (t : Bool) → cond t (To h) NoRoute ≡ toFound (cond t (At h) Nothing)
         turn h true = refl
@@ -116,31 +140,29 @@ module _ (g : Ring) (ids : List ℕ) (dead i : ℕ) (v : Node) where
         go (At h) = turn h (nearerThanOwner g ids i k h)
         go Nothing = refl
 
+    -- the nearest of the candidates that are nearer than i
     pub nextHop-is : nextHop g ids dead i v k
         ≡ toFound (best (aheadOf Near (2 ^ g .m) k ids) (λ s. has (candidatesOf g ids dead i v) s && nearerThanOwner g ids i k s) 64)
     unfolding nextHop leafHop routeHop candidatesOf
     nextHop-is = go (byLeaf g ids i v)
       where
         go : (b : Bool) → cond b (leafHop g ids dead i v k) (routeHop g ids dead i v k)
-            ≡ toFound (best (aheadOf Near (2 ^ g .m) k ids)
+            ≡ toFound (best ahead
             (λ s. has (cond b (leafCandidates dead i v) (routeCandidates dead i v)) s && nearerThanOwner g ids i k s) 64)
         go true = nearest-nearer (leafCandidates dead i v)
         go false = refl
 
+    -- what a program computes: the nearest candidate, where it is nearer than i
     pub nextHop-nearest : nextHop g ids dead i v k ≡ toNearer g ids i k (bestOf Near (2 ^ g .m) k ids (candidatesOf g ids dead i v))
-    nextHop-nearest = nextHop-is ∙ sym (nearest-nearer (candidatesOf g ids dead i v))
+    nextHop-nearest = nextHop-is ∙ sym (nearest-nearer all)
 
     -- ---- where there is a hop
 
     pub hop-to : (h : ℕ) → nextHop g ids dead i v k ≡ To h → Hops g ids dead i v k h
     hop-to h e =
-        go (bestOf Near (2 ^ g .m) k ids all) (best-is (aheadOf Near (2 ^ g .m) k ids) (has all) (scoreAt Near (2 ^ g .m) k ids) 64 (near-scored (2 ^ g .m) k ids 64))
-        (sym nextHop-nearest ∙ e)
+        go (best ahead (has all) 64) (best-is ahead (has all) score 64 (near-scored (2 ^ g .m) k ids 64)) (sym nextHop-nearest ∙ e)
       where
-        all : ℕ
-        all = candidatesOf g ids dead i v
-
-        made : (b : ℕ) → Leads (has all) (scoreAt Near (2 ^ g .m) k ids) 64 b → nearerThanOwner g ids i k b ≡ true → Hops g ids dead i v k b
+        made : (b : ℕ) → Leads (has all) score 64 b → nearerThanOwner g ids i k b ≡ true → Hops g ids dead i v k b
         made b l p =
             record {
               below = l .below;
@@ -148,64 +170,64 @@ module _ (g : Ring) (ids : List ℕ) (dead i : ℕ) (v : Node) where
               legal = candidate-legal b (l .below) (l .holds);
               candidate = l .holds;
               closer = p;
-              nearest = λ s q c. nearer-rank (2 ^ g .m) k (idAt ids s) (idAt ids b) ∙ le-ltb _ _ (l .least s q c)
+              nearest = λ s q c. nearer-rank (2 ^ g .m) k (idAt ids s) (idAt ids b) ∙ le-ltb (score s) (score b) (l .least s q c);
             }
 
-        turn : (b : ℕ) → Leads (has all) (scoreAt Near (2 ^ g .m) k ids) 64 b → (t : Bool) → nearerThanOwner g ids i k b ≡ t
-            → cond t (To b) NoRoute ≡ To h → Hops g ids dead i v k h
+        turn : (b : ℕ) → Leads (has all) score 64 b → (t : Bool) → nearerThanOwner g ids i k b ≡ t → cond t (To b) NoRoute ≡ To h
+            → Hops g ids dead i v k h
         turn b l true p q = let d : b ≡ h = cc in rw (← d) (made b l p)
         turn b l false p q = absurd (no-hop q)
 
-        go : (r : Found) → Best (has all) (scoreAt Near (2 ^ g .m) k ids) 64 r → toNearer g ids i k r ≡ To h → Hops g ids dead i v k h
+        go : (r : Found) → Best (has all) score 64 r → toNearer g ids i k r ≡ To h → Hops g ids dead i v k h
         go (At b) l q = turn b l (nearerThanOwner g ids i k b) refl q
         go Nothing l q = absurd (no-hop q)
 
-    -- each hop comes nearer to the key
+    -- it comes nearer to the key
     pub hop-falls : (h : ℕ) → nextHop g ids dead i v k ≡ To h → rank (2 ^ g .m) k (idAt ids h) < rank (2 ^ g .m) k (idAt ids i)
     hop-falls h e = nearer-lt (2 ^ g .m) k (idAt ids h) (idAt ids i) (hop-to h e .closer)
 
-    -- ---- where there is none
+    -- it goes to a listed node
+    pub hop-listed : (n h : ℕ) → listed n (v .left) ≡ true → listed n (v .right) ≡ true → listed n (v .routing) ≡ true → i < n
+        → nextHop g ids dead i v k ≡ To h → h < n
+    hop-listed n h a b c l e =
+        let to = hop-to h e in
+        ⊎-elim (listed-has n (contentOf (sidesOf v) i) h content (to .below)) (listed-has n (v .routing) h c (to .below))
+        (or-cases (has (contentOf (sidesOf v) i) h) (has (v .routing) h) (to .legal .known))
+      where
+        content : listed n (contentOf (sidesOf v) i) ≡ true
+        content = content-listed n (sidesOf v) i a b l
 
-    abbrev nearerCandidate : ℕ → Bool
-    nearerCandidate s = has (candidatesOf g ids dead i v) s && nearerThanOwner g ids i k s
+    -- where some candidate is nearer than i
+    pub hop-some : (s : ℕ) → s < 64 → has (candidatesOf g ids dead i v) s ≡ true → nearerThanOwner g ids i k s ≡ true
+        → (h : ℕ) × (nextHop g ids dead i v k ≡ To h)
+    hop-some s l c p = let found = best-some ahead closerOne 64 s l (and-both c p) in (found .0, nextHop-is ∙ ap toFound (found .1))
+
+    -- where a candidate is nearer than i and than every other candidate
+    pub hop-unique : (h : ℕ) → h < 64 → has (candidatesOf g ids dead i v) h ≡ true → nearerThanOwner g ids i k h ≡ true
+        → ((s : ℕ) → s < 64 → has (candidatesOf g ids dead i v) s ≡ true → (s ≡ h → ⊥)
+        → nearer (2 ^ g .m) k (idAt ids h) (idAt ids s) ≡ true)
+        → nextHop g ids dead i v k ≡ To h
+    hop-unique h l c p first = nextHop-nearest ∙ ap (toNearer g ids i k) found ∙ rw p
+      where
+        found : best ahead (has all) 64 ≡ At h
+        found =
+            best-unique ahead (has all) score 64 h (near-scored (2 ^ g .m) k ids 64) l c
+            (λ s q d o. nearer-lt (2 ^ g .m) k (idAt ids h) (idAt ids s) (first s q d o))
+
+    -- ---- where there is none: exactly where no candidate is nearer than i
 
     pub hop-none : nextHop g ids dead i v k ≡ NoRoute
         → (s : ℕ) → s < 64 → has (candidatesOf g ids dead i v) s ≡ true → nearerThanOwner g ids i k s ≡ false
-    hop-none e s h c = go (best (aheadOf Near (2 ^ g .m) k ids) nearerCandidate 64) (best-finds _ nearerCandidate 64) (sym nextHop-is ∙ e)
+    hop-none e s h c = go (best ahead closerOne 64) (best-finds ahead closerOne 64) (sym nextHop-is ∙ e)
       where
-        go : (r : Found) → Finds nearerCandidate 64 r → toFound r ≡ NoRoute → nearerThanOwner g ids i k s ≡ false
+        go : (r : Found) → Finds closerOne 64 r → toFound r ≡ NoRoute → nearerThanOwner g ids i k s ≡ false
         go (At b) l q = absurd (no-hop (sym q))
         go Nothing l q = rw c at (l s h)
 
     pub none-hop : ((s : ℕ) → s < 64 → has (candidatesOf g ids dead i v) s ≡ true → nearerThanOwner g ids i k s ≡ false)
         → nextHop g ids dead i v k ≡ NoRoute
-    none-hop e = nextHop-is ∙ ap toFound (best-none _ nearerCandidate 64 (λ s h. go s h (bool-cases (has (candidatesOf g ids dead i v) s))))
+    none-hop e = nextHop-is ∙ ap toFound (best-none ahead closerOne 64 (λ s h. go s h (bool-cases (has all s))))
       where
-        go : (s : ℕ) → s < 64 → (has (candidatesOf g ids dead i v) s ≡ true) ⊎ (has (candidatesOf g ids dead i v) s ≡ false) → nearerCandidate s ≡ false
-        go s h (inl c) = and-fails-right (has (candidatesOf g ids dead i v) s) (e s h c)
+        go : (s : ℕ) → s < 64 → (has all s ≡ true) ⊎ (has all s ≡ false) → closerOne s ≡ false
+        go s h (inl c) = and-fails-right (has all s) (e s h c)
         go s h (inr c) = and-fails-left (nearerThanOwner g ids i k s) c
-
-    pub hop-some : (s : ℕ) → s < 64 → has (candidatesOf g ids dead i v) s ≡ true → nearerThanOwner g ids i k s ≡ true
-        → (h : ℕ) × (nextHop g ids dead i v k ≡ To h)
-    hop-some s l c p =
-        let found = best-some (aheadOf Near (2 ^ g .m) k ids) nearerCandidate 64 s l (and-both c p) in
-        (found .0, nextHop-is ∙ ap toFound (found .1))
-
-    -- the hop to a candidate that is nearer than i and than every other candidate
-    pub hop-unique : (h : ℕ) → h < 64 → has (candidatesOf g ids dead i v) h ≡ true → nearerThanOwner g ids i k h ≡ true
-        → ((s : ℕ) → s < 64 → has (candidatesOf g ids dead i v) s ≡ true → (s ≡ h → ⊥) → nearer (2 ^ g .m) k (idAt ids h) (idAt ids s) ≡ true)
-        → nextHop g ids dead i v k ≡ To h
-    hop-unique h l c p first =
-        nextHop-nearest ∙ ap (toNearer g ids i k) found ∙ rw p
-      where
-        found : bestOf Near (2 ^ g .m) k ids (candidatesOf g ids dead i v) ≡ At h
-        found =
-            best-unique (aheadOf Near (2 ^ g .m) k ids) (has (candidatesOf g ids dead i v)) (scoreAt Near (2 ^ g .m) k ids) 64 h
-            (near-scored (2 ^ g .m) k ids 64) l c (λ s q d o. nearer-lt (2 ^ g .m) k (idAt ids h) (idAt ids s) (first s q d o))
-
-    pub hop-listed : (n h : ℕ) → listed n (v .left) ≡ true → listed n (v .right) ≡ true → listed n (v .routing) ≡ true → i < n
-        → nextHop g ids dead i v k ≡ To h → h < n
-    unfolding contentOf
-    hop-listed n h a b c l e = let to = hop-to h e in
-      ⊎-elim (listed-has n (contentOf (sidesOf v) i) h (listed-add n (union (v .left) (v .right)) i (listed-union n (v .left) (v .right) a b) l) (to .below))
-       (listed-has n (v .routing) h c (to .below)) (or-cases (has (contentOf (sidesOf v) i) h) (has (v .routing) h) (to .legal .known))
