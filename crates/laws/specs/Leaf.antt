@@ -31,7 +31,7 @@ use Rattle.rules.specs.Letters.{noSides}
 use Rattle.laws.specs.Best.{Finds, Best, Leads, scoreAt, best-finds, best-none, best-of, best-unique, keyed-scored, listed-keyed}
 use Rattle.laws.specs.Closest.{closest-listed, closest-below, closest-below-64, closest-in, closest-passes}
 use Rattle.laws.specs.Closest.{closest-size, closest-all, closest-least, closest-between}
-use Rattle.laws.specs.Steps.{way-up-inj, way-down-inj}
+use Rattle.laws.specs.Steps.{stepsOf, otherThan, way-up-inj, way-down-inj, side-walk-up, side-walk-down}
 
 -- ---- content
 
@@ -205,6 +205,16 @@ module _ {g : Ring} {ids : List ℕ} (v : Listed g ids) (i : ℕ) (hi : i < g .n
   leaf-fits d =
       fits-leaf (added-fits g (wayUp g ids i) (s .left) d i (v .n-high) (way-up-inj v i hi))
       (added-fits g (wayDown g ids i) (s .right) d i (v .n-high) (way-down-inj v i hi))
+
+  -- each side is walked along
+  pub leaf-walk : (d : ℕ)
+      → leafWith g ids i s d
+      ≡ record {
+        left = closest (stepsOf true (g .n) i) (g .n) (g .l) (otherThan (union (s .left) d) i);
+        right = closest (stepsOf false (g .n) i) (g .n) (g .l) (otherThan (union (s .right) d) i);
+      }
+  unfolding leafWith
+  leaf-walk d = sides-same _ _ (side-walk-up v i hi (s .left) d (g .l)) (side-walk-down v i hi (s .right) d (g .l))
 
   pub leaf-one-fits : (j : ℕ) → leafFits g i s ≡ true → leafFits g i (leafWithOne g ids i s j) ≡ true
   unfolding leafWithOne
