@@ -6,7 +6,7 @@ use mathlib.Core.Path.{_≡_, refl, sym, _∙_, ap}
 use mathlib.Core.Logic.{_⊎_, inl, inr, ⊎-elim}
 use mathlib.Core.List.{List}
 use mathlib.Core.Bool.{Bool, true, false, cond, _&&_, _||_, not, or-false, and-false, and-or-distrib-left}
-use Prim.Native.Nat.{ℕ, zero, suc, _+_, _^_, _<_, _≤_}
+use Prim.Native.Nat.{ℕ, zero, suc, _+_, _-_, _^_, _<_, _≤_}
 use native.Mathlib.Nat.{eq-or-lt-of-le, le-of-suc-le-suc}
 use native.Mathlib.Omega.{arith}
 use borrow.Author.Tests.{lt-ltb, le-ltb, ltb-true, eq-eqb, ne-eqb, not-true}
@@ -47,6 +47,19 @@ module _ (n i : ℕ) (hi : i < n) where
   pub steps-inj : (up : Bool) (s t : ℕ) → s < n → t < n → stepsOf up n i s ≡ stepsOf up n i t → s ≡ t
   steps-inj true s t h k e = fall-inj-left n i s t hi h k e
   steps-inj false s t h k e = fall-inj-right n i s t hi h k e
+
+  -- the slot at d steps: straight on, or round
+  pub up-along : (d : ℕ) → i + d < n → stepsOf true n i (i + d) ≡ d
+  up-along d h = ⊎-elim (λ p. omega arith) (λ p. absurd (omega arith)) (falls n (i + d) i h hi)
+
+  pub up-round : (d : ℕ) → d < n → n ≤ i + d → stepsOf true n i (i + d - n) ≡ d
+  up-round d h k = ⊎-elim (λ p. absurd (omega arith)) (λ p. omega arith) (falls n (i + d - n) i (omega arith) hi)
+
+  pub down-along : (d : ℕ) → d ≤ i → stepsOf false n i (i - d) ≡ d
+  down-along d h = ⊎-elim (λ p. omega arith) (λ p. absurd (omega arith)) (falls n i (i - d) hi (omega arith))
+
+  pub down-round : (d : ℕ) → d < n → i < d → stepsOf false n i (i + n - d) ≡ d
+  down-round d h k = ⊎-elim (λ p. absurd (omega arith)) (λ p. omega arith) (falls n i (i + n - d) hi (omega arith))
 
 -- ---- the walk
 
