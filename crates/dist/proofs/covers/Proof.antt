@@ -1,4 +1,4 @@
--- `dist::covers` meets its contract. Assumes nothing.
+-- `dist::covers` meets its contract: both ends of the arc are remainders, so below 2^m. Assumes nothing.
 use native.Mathlib.Nat.{mod-lt}
 use lib.Pow.{pow-pos}
 use borrow.Author.Needs.{needs}
@@ -30,7 +30,8 @@ fall-requires-2 c κs =
 returns : tie.Need-returns
 unfolding coversKey
 returns c =
-    rw (c .fall2 .ensures, c .before .fall .ensures, c .before .before .right-cover .ensures, c .before .before .before .left-cover .ensures)
+    let ends = c .before .before in
+    rw (c .fall2 .ensures, c .before .fall .ensures, ends .right-cover .ensures, ends .before .left-cover .ensures)
 
 pub covers-spec : {M : Type 1} → statement M
 covers-spec =

@@ -2,7 +2,7 @@
 use native.Mathlib.Omega.{arith}
 use borrow.Author.Needs.{needs}
 use Rattle.ring.specs.Order.{rank-rising, rank-falling}
-use Rattle.dist.proofs.Laws.{round, fall-small}
+use Rattle.dist.specs.Bounds.{ring-of, fall-small}
 use Rattle.dist.proofs.rank.Statement.{statement}
 use Rattle.dist.proofs.rank.Tie as tie
 
@@ -24,12 +24,12 @@ add-result c = omega (arith, fall-small (c .before .before .before .pre))
 returns : tie.Need-returns
 returns c =
     let h = c .before .before .before .pre in
-    omega (arith, rank-rising _ (round h) _ _ (h .first) (h .second) (omega arith))
+    omega (arith, rank-rising _ (ring-of h) _ _ (h .first) (h .second) (omega arith))
 
 returns-2 : tie.Need-returns-2
 returns-2 c =
     let h = c .before .before .before .pre in
-    omega (arith, rank-falling _ (round h) _ _ (h .first) (h .second) (omega arith))
+    omega (arith, rank-falling _ (ring-of h) _ _ (h .first) (h .second) (omega arith))
 
 pub rank-spec : {M : Type 1} → statement M
 rank-spec =

@@ -1,9 +1,10 @@
--- `dist::signed` meets its contract. A signed number is held as bits; every one here is below 2^34 in size, so its bits are read back as the number meant
--- (`back-pos`, `d-is`, `low-is`), and the two tests of the code are those of the definition. Assumes nothing.
+-- `dist::signed` meets its contract. A signed number is held as bits; every one here is below 2^35 in size (`sum-fits`), so its bits
+-- are read back as the number meant (`back-pos`, `d-is`, `low-is`), and the two tests of the code are those of the definition.
+-- Assumes nothing.
 use mathlib.Core.Path.{_≡_, refl, ap}
 use mathlib.Core.Logic.{⊎-elim}
 use mathlib.Core.Bool.{true, false}
-use Prim.Native.Nat.{ℕ, zero, suc, _+_, _-_, _/_, _^_, _<_, _≤_}
+use Prim.Native.Nat.{ℕ, zero, suc, _+_, _/_, _^_, _≤_}
 use native.Mathlib.Omega.{arith}
 use lib.IntN.{ℤ, pos, negsuc, negℤ, subℕ, _+ℤ_, _-ℤ_}
 use lib.Pow.{pow-mono}
@@ -16,6 +17,7 @@ use borrow.Author.Needs.{needs}
 use Rattle.ring.specs.Distance.{signedOf}
 use Rattle.ring.specs.Falls.{le-or-lt}
 use Rattle.rules.specs.Asks.{Inside}
+use Rattle.dist.specs.Bounds.{back-pos}
 use Rattle.dist.proofs.signed.Statement.{statement}
 use Rattle.dist.proofs.signed.Tie as tie
 
@@ -42,9 +44,6 @@ sum-fits (pos a) (negsuc b) h k = record { sfits = omega (arith, mag-sub a (suc 
 sum-fits (negsuc a) (pos b) h k = record { sfits = omega (arith, mag-sub b (suc a)) }
 sum-fits (negsuc a) (negsuc b) h k = record { sfits = omega arith }
 
-back-pos : (a : ℕ) → a ≤ 2 ^ 33 → toZ w64 a ≡ pos a
-back-pos a h = rw (lt-ltb a (2 ^ 63) (omega arith))
-
 -- ---- the numbers of the code, n being 2^m: the difference, and what it is compared with
 
 abbrev D : ℕ → ℕ → ℤ
@@ -57,6 +56,12 @@ module _ {m x y n : ℕ} (h : Inside m x y) (e : n ≡ 2 ^ m) where
   top : n ≤ 2 ^ 32
   top = rw e (pow-mono (h .width .high))
 
+  x-is : toZ w64 x ≡ pos x
+  x-is = back-pos x (omega (arith, top))
+
+  y-is : toZ w64 y ≡ pos y
+  y-is = back-pos y (omega (arith, top))
+
   n-is : toZ w64 n ≡ pos n
   n-is = back-pos n (omega (arith, top))
 
@@ -65,12 +70,10 @@ module _ {m x y n : ℕ} (h : Inside m x y) (e : n ≡ 2 ^ m) where
 
   -- the difference
   sub-fits : SFits w64 (toZ w64 x -ℤ toZ w64 y)
-  sub-fits =
-      rw (back-pos x (omega (arith, top)), back-pos y (omega (arith, top)))
-      (sum-fits (pos x) (negℤ (pos y)) (omega (arith, top)) (omega (arith, top, mag-neg y)))
+  sub-fits = rw (x-is, y-is) (sum-fits (pos x) (negℤ (pos y)) (omega (arith, top)) (omega (arith, top, mag-neg y)))
 
   d-is : D x y ≡ subℕ x y
-  d-is = rw (toZ-ofZ sub-fits, back-pos x (omega (arith, top)), back-pos y (omega (arith, top))) (sub-is x y)
+  d-is = rw (toZ-ofZ sub-fits, x-is, y-is) (sub-is x y)
 
   -- its lower bound
   low-fits : SFits w64 (pos 0 -ℤ toZ w64 (n / 2))
