@@ -2,3 +2,4 @@ pub mod Best
 pub mod Hop
 pub mod Closest
 pub mod Steps
+pub mod Leaf
