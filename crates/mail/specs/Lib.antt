@@ -1,0 +1,4 @@
+pub mod Sending
+pub mod Mix
+pub mod Equal
+pub mod Laid
