@@ -1,9 +1,9 @@
 -- The loops over places. A pool by value has 256 of them, so what waits has the pool's count; a search that passed the places below `at` ends as the
 -- definition says. Assumes nothing.
 use mathlib.Core.Path.{_≡_, refl, sym, _∙_, ap}
-use mathlib.Core.Bool.{Bool, true, false}
+use mathlib.Core.Bool.{Bool, true, false, _&&_}
 use mathlib.Core.List.{List, [], _∷_, _++_}
-use Prim.Native.Nat.{ℕ, suc, _+_, _<_, _≤_}
+use Prim.Native.Nat.{ℕ, zero, suc, _+_, _<_, _≤_}
 use native.Mathlib.Numerals.{add-one}
 use native.Mathlib.Omega.{arith}
 use borrow.Author.Count.{below-more}
@@ -15,11 +15,13 @@ use mir.Val.{Val}
 use denote.Laws.{Is}
 use Rattle.marks.specs.declared.Found.the-variants.{At, Nothing}
 use Rattle.marks.specs.Marks.{allTo}
+use Rattle.marks.specs.Bools.{or-left, or-right, or-fails}
 use Rattle.marks.specs.Laws.{more, fails}
 use Rattle.rules.specs.declared.Message.{Message}
 use Rattle.rules.specs.declared.Pool.{Pool}
 use Rattle.rules.specs.Pool.{blank}
 use Rattle.rules.specs.Mail.{fieldsOf, sameTo, alike, firstEqual}
+use Rattle.rules.specs.Actions.{joinWaits}
 use Rattle.rules.proofs.Pool as pool
 use Rattle.mail.specs.Equal.{first-equal-at, first-equal-none}
 
@@ -73,3 +75,41 @@ module _ (m : Message) (b : List ℕ) (places : List Message) (n : ℕ) (e : b �
       first-equal-at (take n places) m at (omega (arith, held-length))
       (there at h ∙ ap (λ (r : List ℕ). sameTo 9 r b) (sym q) ∙ ap (λ (i : ℕ). sameTo i a b) (sym nine) ∙ s .so)
       (λ i l. there i (omega arith) ∙ k .differ i l)
+
+-- ---- JoinRequests
+
+abbrev pub isJoin : ℕ → Message → Bool
+isJoin i x = eqb (x .kind) 2 && eqb (x .word) i
+
+join-at : (xs : List Message) (i s : ℕ) → s < length xs → isJoin i (getD xs s blank) ≡ true → joinWaits xs i ≡ true
+unfolding joinWaits
+join-at [] i s h e = absurd (omega arith)
+join-at (x ∷ xs) i zero h e = or-left (joinWaits xs i) e
+join-at (x ∷ xs) i (suc s) h e = or-right (isJoin i x) (join-at xs i s (omega arith) e)
+
+join-none : (xs : List Message) (i : ℕ) → ((s : ℕ) → s < length xs → isJoin i (getD xs s blank) ≡ false) → joinWaits xs i ≡ false
+unfolding joinWaits
+join-none [] i f = refl
+join-none (x ∷ xs) i f = or-fails (f 0 (omega arith)) (join-none xs i (λ s h. f (suc s) (omega arith)))
+
+-- none of the places below `at` has a JoinRequest of i
+pub record Unasked (i : ℕ) (places : List Message) (at : ℕ) : Type 0 where
+  pub none : (k : ℕ) → k < at → isJoin i (getD places k blank) ≡ false
+
+pub unasked-none : (i : ℕ) (places : List Message) → Unasked i places 0
+unasked-none i places = record { none = λ k h. absurd (omega arith) }
+
+pub unasked-more : (i : ℕ) (places : List Message) (at : ℕ) → isJoin i (getD places at blank) ≡ false → Unasked i places at
+    → Unasked i places (at + 1)
+unasked-more i places at e k = record { none = below-more _ _ (k .none) e }
+
+module _ (i : ℕ) (places : List Message) (n : ℕ) (long : length places ≡ 256) (low : n ≤ 256) where
+  pub unasked-end : (at : ℕ) → n ≤ at → Unasked i places at → joinWaits (take n places) i ≡ false
+  unasked-end at h k =
+      let l = length-take-le n places (omega arith) in
+      join-none (take n places) i
+      (λ s d. ap (isJoin i) (getD-take n places s blank (omega (arith, l))) ∙ k .none s (omega (arith, l)))
+
+  pub asked : (at : ℕ) → at < n → isJoin i (getD places at blank) ≡ true → joinWaits (take n places) i ≡ true
+  asked at h e =
+      join-at (take n places) i at (omega (arith, length-take-le n places (omega arith))) (ap (isJoin i) (getD-take n places at blank h) ∙ e)

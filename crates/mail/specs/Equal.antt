@@ -1,7 +1,7 @@
 -- When two messages are equal, and whether an equal one waits. Two messages are alike exactly if their nine fields are equal, so alike is an equivalence; an
 -- equal waits in two lists that follow each other exactly if one waits in either. Assumes nothing.
 use mathlib.Core.Path.{_≡_, refl, sym, _∙_, ap}
-use mathlib.Core.Bool.{Bool, true, false, cond, _&&_, _||_, or-assoc}
+use mathlib.Core.Bool.{Bool, true, false, cond, _&&_, _||_, or-assoc, or-false}
 use mathlib.Core.List.{List, [], _∷_, _++_}
 use Prim.Native.Nat.{ℕ, zero, suc, _+_, _<_}
 use native.Mathlib.Omega.{arith}
@@ -15,7 +15,7 @@ use Rattle.marks.specs.Laws.{each, all-of}
 use Rattle.marks.specs.Bools.{bool-same}
 use Rattle.rules.specs.declared.Message.{Message}
 use Rattle.rules.specs.Pool.{blank}
-use Rattle.rules.specs.Mail.{fieldsOf, alike, firstFrom, firstEqual, added, addedAt}
+use Rattle.rules.specs.Mail.{fieldsOf, alike, firstFrom, firstEqual, added}
 use Rattle.rules.specs.Actions.{isFound, waits}
 
 -- ---- two messages
@@ -96,12 +96,24 @@ pub waits-append : (xs ys : List Message) (m : Message) → waits (xs ++ ys) m �
 waits-append [] ys m = rw (waits-nil m)
 waits-append (x ∷ xs) ys m = rw (waits-cons x (xs ++ ys) m, waits-cons x xs m, waits-append xs ys m) (sym (or-assoc (alike x m) (waits xs m) (waits ys m)))
 
+pub waits-last : (xs : List Message) (x m : Message) → waits (xs ++ (x ∷ [])) m ≡ (waits xs m || alike x m)
+waits-last xs x m =
+    waits-append xs (x ∷ []) m ∙ ap (λ (b : Bool). waits xs m || b) (waits-cons x [] m ∙ ap (λ (b : Bool). alike x m || b) (waits-nil m) ∙ or-false (alike x m))
+
 -- ---- adding
 
+pub added-at : (xs : List Message) (m : Message) (p : ℕ) → firstEqual xs m ≡ At p → added xs m ≡ xs
+unfolding added
+added-at xs m p e = rw e
+
+pub added-nothing : (xs : List Message) (m : Message) → firstEqual xs m ≡ Nothing → added xs m ≡ xs ++ (m ∷ [])
+unfolding added
+added-nothing xs m e = rw e
+
 pub added-is : (xs : List Message) (m : Message) → added xs m ≡ cond (waits xs m) xs (xs ++ (m ∷ []))
-unfolding added waits
-added-is xs m = go (firstEqual xs m)
+unfolding waits
+added-is xs m = go (firstEqual xs m) refl
   where
-    go : (r : Found) → addedAt r xs m ≡ cond (isFound r) xs (xs ++ (m ∷ []))
-    go (At p) = refl
-    go Nothing = refl
+    go : (r : Found) → firstEqual xs m ≡ r → added xs m ≡ cond (isFound r) xs (xs ++ (m ∷ []))
+    go (At p) e = added-at xs m p e
+    go Nothing e = added-nothing xs m e

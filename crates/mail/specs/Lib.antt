@@ -2,3 +2,4 @@ pub mod Sending
 pub mod Mix
 pub mod Equal
 pub mod Laid
+pub mod Sends
