@@ -10,7 +10,7 @@ use borrow.Author.Count.{below-more}
 use borrow.Author.Tests.{eq-eqb, ne-eqb}
 use lib.Dec.{eqb}
 use lib.ListN.{length, length-map, getD, take}
-use lib.Seq.{length-take-le, getD-take}
+use lib.Seq.{length-take-le, getD-take, take-suc}
 use mir.Val.{Val}
 use denote.Laws.{Is}
 use Rattle.marks.specs.declared.Found.the-variants.{At, Nothing}
@@ -28,6 +28,11 @@ use Rattle.mail.specs.Equal.{first-equal-at, first-equal-none}
 -- a pool by value has 256 places
 pub places-length : (x : Pool) (vs : List Val) → Is pool.the-row x vs → length (x .places) ≡ 256
 places-length x vs is = sym (length-map (x .places) _) ∙ is .1 .1 .1 .0 .1 .0 .1
+
+-- the messages before one more place
+pub taken-more : (places : List Message) (at n : ℕ) → length places ≡ 256 → n ≤ 256 → at < n
+    → take (at + 1) places ≡ take at places ++ (getD places at blank ∷ [])
+taken-more places at n long low h = rw add-one (take-suc places at blank (omega arith))
 
 -- the first f fields of two rows are equal
 pub record Same (f : ℕ) (a b : List ℕ) : Type 0 where

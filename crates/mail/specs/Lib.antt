@@ -3,3 +3,4 @@ pub mod Mix
 pub mod Equal
 pub mod Laid
 pub mod Sends
+pub mod Holds

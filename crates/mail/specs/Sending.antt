@@ -6,7 +6,7 @@ use mathlib.Core.List.{List, [], _∷_, _++_}
 use Prim.Native.Nat.{ℕ, zero, suc, _≤_}
 use lib.Dec.{leb, ltb}
 use lib.ListN.{length}
-use Rattle.marks.specs.Marks.{has, gather}
+use Rattle.marks.specs.Marks.{has, gather, addOf}
 use Rattle.marks.specs.declared.Found.{Found}
 use Rattle.marks.specs.declared.Found.the-variants.{At, Nothing}
 use Rattle.rules.specs.declared.Message.{Message}
@@ -14,6 +14,7 @@ use Rattle.rules.specs.declared.Pool.{Pool}
 use Rattle.rules.specs.declared.Plan.{Plan}
 use Rattle.rules.specs.Nodes.{placed}
 use Rattle.rules.specs.Pool.{waiting, laid}
+use Rattle.rules.specs.Mail.{alike}
 use Rattle.rules.specs.Actions.{waits}
 use Rattle.rules.specs.Plans.{mailed}
 use Rattle.mail.specs.declared.Sent.{Sent}
@@ -44,6 +45,10 @@ MailedOut x ys r = Holds (slotted (x .to)) (mailed x ys) r
 -- the slots to which an equal of m waits
 unfoldable pub heldOf : Message → List Message → ℕ
 heldOf m xs = gather 64 (λ s. waits xs (placed m s))
+
+-- the same, where q waits too
+unfoldable pub heldWith : Message → ℕ → Message → ℕ
+heldWith m set q = cond (alike q (placed m (q .dest))) (addOf set (q .dest)) set
 
 -- m for each slot below n of a set, in rising order
 unfoldable pub copiesTo : Message → ℕ → ℕ → List Message

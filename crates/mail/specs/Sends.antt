@@ -19,7 +19,7 @@ use Rattle.rules.specs.Nodes.{placed}
 use Rattle.rules.specs.Mail.{alike, added, sentTo, sent}
 use Rattle.rules.specs.Actions.{waits}
 use Rattle.mail.specs.Equal.{alike-dest, waits-nil, waits-cons, waits-append, waits-last, added-is}
-use Rattle.mail.specs.Sending.{heldOf, copiesTo, copies}
+use Rattle.mail.specs.Sending.{heldOf, heldWith, copiesTo, copies}
 
 -- ---- the slots to which an equal of m waits
 
@@ -31,7 +31,7 @@ pub held-nil : (m : Message) → heldOf m [] ≡ 0
 unfolding heldOf
 held-nil m = gather-none 64 (λ s. waits [] (placed m s)) (λ s h. waits-nil (placed m s))
 
-pub held-more : (m : Message) (xs : List Message) (q : Message) → alike q (placed m (q .dest)) ≡ true
+held-more : (m : Message) (xs : List Message) (q : Message) → alike q (placed m (q .dest)) ≡ true
     → heldOf m (xs ++ (q ∷ [])) ≡ addOf (heldOf m xs) (q .dest)
 unfolding heldOf addOf
 held-more m xs q e =
@@ -43,7 +43,7 @@ held-more m xs q e =
         bool-same (alike q (placed m s)) (eqb s (q .dest)) (λ t. eq-eqb s (q .dest) (sym (alike-dest q (placed m s) t)))
         (λ t. rw (eqb-true s (q .dest) t) e)
 
-pub held-same : (m : Message) (xs : List Message) (q : Message) → alike q (placed m (q .dest)) ≡ false
+held-same : (m : Message) (xs : List Message) (q : Message) → alike q (placed m (q .dest)) ≡ false
     → heldOf m (xs ++ (q ∷ [])) ≡ heldOf m xs
 unfolding heldOf
 held-same m xs q e =
@@ -52,6 +52,21 @@ held-same m xs q e =
   where
     other : (s : ℕ) → alike q (placed m s) ≡ false
     other s = bool-false (alike q (placed m s)) (λ t. opposed (ap (λ (r : ℕ). alike q (placed m r)) (alike-dest q (placed m s) t) ∙ t) e)
+
+pub held-with-yes : (m : Message) (set : ℕ) (q : Message) → alike q (placed m (q .dest)) ≡ true → heldWith m set q ≡ addOf set (q .dest)
+unfolding heldWith
+held-with-yes m set q e = rw e
+
+pub held-with-no : (m : Message) (set : ℕ) (q : Message) → alike q (placed m (q .dest)) ≡ false → heldWith m set q ≡ set
+unfolding heldWith
+held-with-no m set q e = rw e
+
+pub held-last : (m : Message) (xs : List Message) (q : Message) → heldOf m (xs ++ (q ∷ [])) ≡ heldWith m (heldOf m xs) q
+held-last m xs q = go (alike q (placed m (q .dest))) refl
+  where
+    go : (b : Bool) → alike q (placed m (q .dest)) ≡ b → heldOf m (xs ++ (q ∷ [])) ≡ heldWith m (heldOf m xs) q
+    go true e = held-more m xs q e ∙ sym (held-with-yes m (heldOf m xs) q e)
+    go false e = held-same m xs q e ∙ sym (held-with-no m (heldOf m xs) q e)
 
 -- ---- the copies
 

@@ -7,7 +7,7 @@ ghost use Rattle.rules.specs.Mail.{alike as alikeOf};
 ghost use Rattle.rules.specs.Actions.{joinWaits};
 ghost use Rattle.rules.specs.Plans.{addedTo, mailed};
 ghost use Rattle.rules.specs.Pool.{waiting, laid, messageAt};
-ghost use Rattle.mail.specs.Sending.{Neat, Going, Holds, MailedOut, heldOf, slotted};
+ghost use Rattle.mail.specs.Sending.{Neat, Going, Holds, MailedOut, heldOf, heldWith, slotted};
 ghost use Rattle.mail.specs.Mix.{mixOf, bucketOf};
 use marks::Found;
 use rules::Message;
@@ -228,6 +228,18 @@ pub fn push_to(x: Sent, m: Message, to: Found) -> Sent
     }
 }
 
+// A set of slots, with q's if q equals m in all but the slot.
+pub fn held_with(set: u64, q: Message, m: Message) -> u64
+    ensures { λ r. ⌜ r ≡ heldWith m set q ⌝ }
+{
+    let one = parts::to_slot(m, q.dest);
+    if alike(q, one) {
+        marks::added(set, q.dest as usize)
+    } else {
+        set
+    }
+}
+
 // The slots to which an equal of m waits.
 pub fn held(p: Pool, m: Message) -> u64
     requires { ⌜ p .count ≤ 256 ⌝ }
@@ -238,11 +250,7 @@ pub fn held(p: Pool, m: Message) -> u64
     let mut at: usize = 0;
     while at < n {
         let q = p.places[at];
-        let s = q.dest;
-        let one = parts::to_slot(m, s);
-        if alike(q, one) {
-            set = marks::added(set, s as usize);
-        }
+        set = held_with(set, q, m);
         at += 1;
     }
     set
