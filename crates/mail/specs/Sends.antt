@@ -12,7 +12,7 @@ use lib.Dec.{eqb}
 use Rattle.marks.specs.declared.Found.{Found}
 use Rattle.marks.specs.declared.Found.the-variants.{At, Nothing}
 use Rattle.marks.specs.Marks.{has, without, addOf, removeOf, lowestOf}
-use Rattle.marks.specs.Laws.{has-gather, gather-same, gather-none, has-without, has-remove, First, lowest-found, first-none}
+use Rattle.marks.specs.Laws.{has-zero, has-gather, gather-same, gather-none, has-without, has-remove, First, lowest-found, first-none}
 use Rattle.marks.specs.Bools.{opposed, bool-false, bool-same, and-fails-left, and-fails-right, true-not}
 use Rattle.rules.specs.declared.Message.{Message}
 use Rattle.rules.specs.Nodes.{placed}
@@ -111,6 +111,14 @@ sent-to m set xs (suc n) h =
 -- a copy for each slot to which no equal waits, in rising order, at the end
 pub sent-is : (m : Message) (set : ℕ) (xs : List Message) → sent m set xs ≡ xs ++ copies m (without set (heldOf m xs))
 sent-is m set xs = sent-to m set xs 64 (omega arith)
+
+sent-none-to : (m : Message) (n : ℕ) (xs : List Message) → sentTo m 0 n xs ≡ xs
+unfolding sentTo
+sent-none-to m zero xs = refl
+sent-none-to m (suc n) xs = rw (has-zero n) (sent-none-to m n xs)
+
+pub sent-none : (m : Message) (xs : List Message) → sent m 0 xs ≡ xs
+sent-none m xs = sent-none-to m 64 xs
 
 -- ---- the copies, the first one taken off
 
