@@ -4,3 +4,4 @@ pub mod Equal
 pub mod Laid
 pub mod Sends
 pub mod Holds
+pub mod Laws
