@@ -2,7 +2,7 @@
 ghost use mathlib.Core.Path.{_≡_};
 ghost use Prim.Native.Nat.{ℕ, _^_, _<_, _≤_};
 ghost use Rattle.rules.specs.Asks.{Listed};
-ghost use Rattle.rules.specs.Hop.{byLeaf, leafCandidates, routeCandidates, nextHop};
+ghost use Rattle.rules.specs.Hop.{legalOf, byLeaf, leafCandidates, routeCandidates, nextHop};
 use marks::Found;
 use rules::Hop;
 use rules::Node;
@@ -26,20 +26,26 @@ pub fn by_leaf(g: Ring, ids: &[u32; 64], i: usize, v: Node) -> bool
     dist::fall(g.m, above, own) <= dist::fall(g.m, above, below)
 }
 
+// Some nodes without failed and dead.
+fn legal(dead: u64, v: Node, set: u64) -> u64
+    ensures { λ r. ⌜ r ≡ legalOf dead v set ⌝ }
+{
+    marks::less(marks::less(set, v.failed), dead)
+}
+
 // Content without failed and dead.
 pub fn leaf_candidates(dead: u64, i: usize, v: Node) -> u64
     ensures { λ r. ⌜ r ≡ leafCandidates dead i v ⌝ }
 {
-    let all = leaf::content(parts::sides_of(v), i);
-    marks::less(marks::less(all, v.failed), dead)
+    legal(dead, v, leaf::content(parts::sides_of(v), i))
 }
 
 // Content and routing set, without failed and dead.
 pub fn route_candidates(dead: u64, i: usize, v: Node) -> u64
     ensures { λ r. ⌜ r ≡ routeCandidates dead i v ⌝ }
 {
-    let all = marks::joined(leaf::content(parts::sides_of(v), i), v.routing);
-    marks::less(marks::less(all, v.failed), dead)
+    let content = leaf::content(parts::sides_of(v), i);
+    legal(dead, v, marks::joined(content, v.routing))
 }
 
 // Where a lookup of k goes from node i.
@@ -55,9 +61,9 @@ pub fn next_hop(g: Ring, ids: &[u32; 64], dead: u64, i: usize, v: Node, k: u32) 
     let Found::At(h) = pick::best(Way::Near, g.m, k, ids, candidates) else {
         return Hop::NoRoute;
     };
-    let there = ids[h];
-    let here = ids[i];
-    if dist::nearer(g.m, k, there, here) {
+    let there = dist::rank(g.m, k, ids[h]);
+    let here = dist::rank(g.m, k, ids[i]);
+    if there < here {
         Hop::To(h)
     } else {
         Hop::NoRoute

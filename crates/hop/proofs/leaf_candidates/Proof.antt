@@ -10,18 +10,13 @@ sides-of-requires c κs = search needs
 content-requires : tie.Need-content-requires
 content-requires c κs = search needs
 
-less-requires : tie.Need-less-requires
-less-requires c κs = search needs
-
-less-requires-2 : tie.Need-less-requires-2
-less-requires-2 c κs = search needs
+legal-requires : tie.Need-legal-requires
+legal-requires c κs = search needs
 
 returns : tie.Need-returns
 unfolding leafCandidates
-returns c =
-    let b = c .before .before in
-    rw (c .less2 .ensures, c .before .less .ensures, b .content .ensures, b .before .sides-of .ensures)
+returns c = rw (c .legal .ensures, c .before .content .ensures, c .before .before .sides-of .ensures)
 
 pub leaf-candidates-spec : {M : Type 1} → statement M
 leaf-candidates-spec =
-    tie.close (tie.spec sides-of-requires content-requires less-requires less-requires-2 returns)
+    tie.close (tie.spec sides-of-requires content-requires legal-requires returns)

@@ -2,10 +2,13 @@
 -- nothing.
 use borrow.Author.Needs.{needs}
 use mathlib.Core.Path.{_≡_, sym, _∙_, subst}
-use mathlib.Core.Bool.{Bool}
+use mathlib.Core.Bool.{Bool, true, false}
 use mathlib.Core.Logic.{⊎-elim}
-use Prim.Native.Nat.{ℕ, _^_, _<_}
+use Prim.Native.Nat.{ℕ, _^_, _<_, _≤_}
 use native.Mathlib.Omega.{arith}
+use borrow.Author.Tests.{lt-ltb, le-ltb}
+use Rattle.ring.specs.Distance.{nearer}
+use Rattle.ring.specs.Order.{rank, nearer-rank}
 use Rattle.marks.specs.declared.Found.{Found}
 use Rattle.marks.specs.declared.Found.the-variants.{At}
 use Rattle.rules.specs.declared.Way.the-variants.{Near}
@@ -36,6 +39,13 @@ best-low ahead ok h e = subst (λ (f : Found). Below f 64) e (best-below ahead o
 there-low : (c : tie.After-h) → c .h .given .0 .0 < 64
 there-low c = best-low _ _ _ (sym (found (c .before .before)) ∙ c .h .given .1)
 
+-- the ranks x of a and y of b compare them
+closer : (N k a b x y : ℕ) → x ≡ rank N k a → y ≡ rank N k b → x < y → nearer N k a b ≡ true
+closer N k a b x y p q h = nearer-rank N k a b ∙ rw (← p, ← q) (lt-ltb x y h)
+
+no-closer : (N k a b x y : ℕ) → x ≡ rank N k a → y ≡ rank N k b → y ≤ x → nearer N k a b ≡ false
+no-closer N k a b x y p q h = nearer-rank N k a b ∙ rw (← p, ← q) (le-ltb x y h)
+
 by-leaf-requires : tie.Need-by-leaf-requires
 by-leaf-requires c κs = search needs
 
@@ -57,35 +67,42 @@ enum-told c = search needs
 returns : tie.Need-returns
 returns c = rw (nextHop-nearest, ← found (c .before .before), c .enum-told .given .1)
 
-mul-there : tie.Need-mul-there
-mul-there c = omega (arith, there-low (c .before))
+mul-rank : tie.Need-mul-rank
+mul-rank c = omega (arith, there-low (c .before))
 
-element-copy-out-there : tie.Need-element-copy-out-there
-element-copy-out-there c = there-low (c .before)
+element-copy-out-rank : tie.Need-element-copy-out-rank
+element-copy-out-rank c = there-low (c .before)
 
-mul-here : tie.Need-mul-here
-mul-here c = search needs
+rank-requires : tie.Need-rank-requires
+rank-requires c κs =
+    let b = c .before .before in
+    let h = b .before .before .before .before .before .pre in
+    record { width = h .0 .width; first = h .2; second = h .0 .ids-in _ (there-low b) }
 
-element-copy-out-here : tie.Need-element-copy-out-here
-element-copy-out-here c = search needs
+mul-rank-2 : tie.Need-mul-rank-2
+mul-rank-2 c = search needs
 
-nearer-requires : tie.Need-nearer-requires
-nearer-requires c κs =
-    let b = c .before .before .before in
-    let h = b .before .before .before .before .before .pre in (
-      record { width = h .0 .width; first = h .2; second = h .0 .ids-in _ (there-low b) },
-      record { width = h .0 .width; first = h .2; second = h .0 .ids-in _ (h .1) },
-    )
+element-copy-out-rank-2 : tie.Need-element-copy-out-rank-2
+element-copy-out-rank-2 c = search needs
+
+rank-requires-2 : tie.Need-rank-requires-2
+rank-requires-2 c κs =
+    let h = c .before .before .before .before .before .before .before .before .before .pre in
+    record { width = h .0 .width; first = h .2; second = h .0 .ids-in _ (h .1) }
 
 returns-2 : tie.Need-returns-2
 returns-2 c =
-    let b = c .before .before .before .before .before in
-    rw (nextHop-nearest, ← found (b .before .before), b .h .given .1, ← c .before .nearer .ensures, c .if2 .taken)
+    let r = c .before .before .before in
+    let b = r .before .before .before in
+    let e = closer _ _ _ _ _ _ (r .rank .ensures) (c .before .rank2 .ensures) (omega arith) in
+    rw (nextHop-nearest, ← found (b .before .before), b .h .given .1, e)
 
 returns-3 : tie.Need-returns-3
 returns-3 c =
-    let b = c .before .before .before .before .before in
-    rw (nextHop-nearest, ← found (b .before .before), b .h .given .1, ← c .before .nearer .ensures, c .if2 .left)
+    let r = c .before .before .before in
+    let b = r .before .before .before in
+    let e = no-closer _ _ _ _ _ _ (r .rank .ensures) (c .before .rank2 .ensures) (omega arith) in
+    rw (nextHop-nearest, ← found (b .before .before), b .h .given .1, e)
 
 pub next-hop-spec : {M : Type 1} → statement M
 next-hop-spec =
@@ -98,10 +115,11 @@ next-hop-spec =
     enum-known-h
     enum-told
     returns
-    mul-there
-    element-copy-out-there
-    mul-here
-    element-copy-out-here
-    nearer-requires
+    mul-rank
+    element-copy-out-rank
+    rank-requires
+    mul-rank-2
+    element-copy-out-rank-2
+    rank-requires-2
     returns-2
     returns-3)
