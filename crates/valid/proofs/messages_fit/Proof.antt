@@ -1,5 +1,4 @@
 -- `valid::messages_fit` meets its contract. The invariant: the messages passed obey their kinds. The measure: the places left. Assumes nothing.
-use borrow.Author.Needs.{needs}
 use borrow.Author.Tests.{not-true, not-false}
 use mathlib.Core.Path.{_≡_, refl, sym, _∙_}
 use mathlib.Core.Bool.{Bool, true}
@@ -54,9 +53,10 @@ loop-less c = omega arith
 loop-again : tie.Need-loop-again Inv-loop μ-loop
 loop-again c =
     let l = c .before .before .before .before in
-    let a = l .before .args in
-    (omega arith,
-    more (l .loop .at) (fitsAt (a .g) (a .t2)) (l .loop .inv .1) (sym (c .before .message-fits .ensures) ∙ not-false _ (c .if1 .left)))
+    let a = l .before .args in (
+      omega arith,
+      more (l .loop .at) (fitsAt (a .g) (a .t2)) (l .loop .inv .1) (sym (c .before .message-fits .ensures) ∙ not-false _ (c .if1 .left)),
+    )
 
 returns-2 : tie.Need-returns-2 Inv-loop μ-loop
 unfolding messagesFit

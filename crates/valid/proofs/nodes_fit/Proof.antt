@@ -1,7 +1,7 @@
 -- `valid::nodes_fit` meets its contract. The invariant: the first s slots obey their rules. The measure: the slots left. Assumes nothing.
 use borrow.Author.Needs.{needs}
 use borrow.Author.Tests.{not-true, not-false}
-use mathlib.Core.Path.{_≡_, refl, sym, _∙_, ap}
+use mathlib.Core.Path.{_≡_, refl, sym}
 use mathlib.Core.List.{List}
 use mathlib.Core.Bool.{Bool, true}
 use Prim.Native.Nat.{ℕ, _-_, _≤_, zero-le}
@@ -64,10 +64,11 @@ loop-less c = omega arith
 loop-again : tie.Need-loop-again Inv-loop μ-loop
 loop-again c =
     let l = c .before .before .before .before .before in
-    let r = l .before .before in
-    (omega arith,
-    more (l .loop .s) (fitsAt (r .before .args .t1) (r .ring-of .result) (l .before .ids .result)) (l .loop .inv .1)
-    (rw (← c .before .slot-fits .ensures) (not-false _ (c .if1 .left))))
+    let r = l .before .before in (
+      omega arith,
+      more (l .loop .s) (fitsAt (r .before .args .t1) (r .ring-of .result) (l .before .ids .result)) (l .loop .inv .1)
+          (rw (← c .before .slot-fits .ensures) (not-false _ (c .if1 .left))),
+    )
 
 returns-2 : tie.Need-returns-2 Inv-loop μ-loop
 unfolding nodesFit
