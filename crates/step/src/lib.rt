@@ -25,52 +25,6 @@ use rules::Ring;
 use table::Stepped;
 use table::Table;
 
-pub fn refused(t: Table, p: Pool, why: Refusal) -> Stepped
-    ensures { λ r. ⌜ r ≡ refusedOf t p why ⌝ }
-{
-    Stepped {
-        answer: Answer::Refused(why),
-        table: t,
-        pool: p,
-    }
-}
-
-pub fn done(t: Table, p: Pool) -> Stepped
-    ensures { λ r. ⌜ r ≡ doneOf t p ⌝ }
-{
-    Stepped {
-        answer: Answer::Done,
-        table: t,
-        pool: p,
-    }
-}
-
-// The plan for node i, added to the pool `from`; `p` is the pool that a refusal leaves.
-pub fn carry_out(t: Table, p: Pool, from: Pool, i: usize, plan: Plan) -> Stepped
-    requires { ⌜ (i < 64) × Neat from ⌝ }
-    ensures { λ r. ⌜ r ≡ carriedOut t p (waiting from) i plan ⌝ }
-{
-    let sent = mail::mail_out(from, plan);
-    if sent.fits {
-        let v = plan.node;
-        let u = table::with_node(t, i, v);
-        let q = sent.pool;
-        done(u, q)
-    } else {
-        refused(t, p, Refusal::Full)
-    }
-}
-
-pub fn settle(t: Table, p: Pool, from: Pool, i: usize, what: Planned) -> Stepped
-    requires { ⌜ (i < 64) × Neat from ⌝ }
-    ensures { λ r. ⌜ r ≡ settleOf t p (waiting from) i what ⌝ }
-{
-    match what {
-        Planned::No(why) => refused(t, p, why),
-        Planned::Go(plan) => carry_out(t, p, from, i, plan),
-    }
-}
-
 // What message m asks of its destination i, by its kind.
 pub fn plan_take(g: Ring, ids: &[u32; 64], dead: u64, i: usize, v: Node, m: Message) -> Planned
     requires { ⌜ Listed g (now ids) × (i < g .n) × (messageFits g m ≡ true) ⌝ }
@@ -100,7 +54,7 @@ pub fn take(t: Table, p: Pool, place: usize) -> Stepped
     let dead = settled::dead_set(t);
     let what = plan_take(table::ring_of(t), &ids, dead, i, v, m);
     let from = mail::removed(p, place);
-    settle(t, p, from, i, what)
+    settle::settled_by(t, p, from, i, what)
 }
 
 pub fn lookup(t: Table, p: Pool, i: usize, k: u64) -> Stepped
@@ -115,7 +69,7 @@ pub fn lookup(t: Table, p: Pool, i: usize, k: u64) -> Stepped
     };
     let v = table::node_at(t, i);
     let what = route::plan_lookup(waits, i, key, v);
-    settle(t, p, mail::tidy(p), i, what)
+    settle::settled_by(t, p, mail::tidy(p), i, what)
 }
 
 pub fn join(t: Table, p: Pool, i: usize, seed: usize) -> Stepped
@@ -126,7 +80,7 @@ pub fn join(t: Table, p: Pool, i: usize, seed: usize) -> Stepped
     let v = table::node_at(t, i);
     let u = table::node_at(t, seed);
     let what = route::plan_join(waits, i as u32, v, seed, u);
-    settle(t, p, mail::tidy(p), i, what)
+    settle::settled_by(t, p, mail::tidy(p), i, what)
 }
 
 pub fn request_lease(t: Table, p: Pool, i: usize) -> Stepped
@@ -136,7 +90,7 @@ pub fn request_lease(t: Table, p: Pool, i: usize) -> Stepped
     let v = table::node_at(t, i);
     let ids = table::ids(t);
     let what = lease::plan_request_lease(table::ring_of(t), &ids, i, v);
-    settle(t, p, mail::tidy(p), i, what)
+    settle::settled_by(t, p, mail::tidy(p), i, what)
 }
 
 pub fn lease_expired(t: Table, p: Pool, i: usize, j: usize) -> Stepped
@@ -146,7 +100,7 @@ pub fn lease_expired(t: Table, p: Pool, i: usize, j: usize) -> Stepped
     let v = table::node_at(t, i);
     let ids = table::ids(t);
     let what = lease::plan_lease_expired(table::ring_of(t), &ids, i, v, j);
-    settle(t, p, mail::tidy(p), i, what)
+    settle::settled_by(t, p, mail::tidy(p), i, what)
 }
 
 pub fn grant_expired(t: Table, p: Pool, i: usize, j: usize) -> Stepped
@@ -156,7 +110,7 @@ pub fn grant_expired(t: Table, p: Pool, i: usize, j: usize) -> Stepped
     let v = table::node_at(t, i);
     let u = table::node_at(t, j);
     let what = lease::plan_grant_expired(i, v, j, u);
-    settle(t, p, mail::tidy(p), i, what)
+    settle::settled_by(t, p, mail::tidy(p), i, what)
 }
 
 // Are the action's slots, place and key in range?
@@ -194,13 +148,13 @@ pub fn step(t: Table, p: Pool, len: usize, a: Action) -> Stepped
     ensures { λ r. ⌜ r ≡ stepOf t p len a ⌝ }
 {
     if len != 256 {
-        return refused(t, p, Refusal::Invalid);
+        return settle::refused(t, p, Refusal::Invalid);
     }
     if !valid::is_valid(t, p) {
-        return refused(t, p, Refusal::Invalid);
+        return settle::refused(t, p, Refusal::Invalid);
     }
     if !in_range(t, p, a) {
-        return refused(t, p, Refusal::OutOfRange);
+        return settle::refused(t, p, Refusal::OutOfRange);
     }
     act(t, p, a)
 }
