@@ -1,5 +1,5 @@
--- The six actions, in 01's order. Each is refused with the lowest number that applies, or makes a plan for node i. Argument ranges (1) and the pool's size (6)
--- are judged in Step and Plans. Definitions only. Assumes nothing.
+-- The actions, in 01's order; Take is in Take. Each is refused with the lowest number that applies, or makes a plan for node i.
+-- Argument ranges (1) are judged in table's Step, the pool's size (6) in its Settle. Definitions only. Assumes nothing.
 use mathlib.Core.Bool.{Bool, true, false, cond, _&&_, _||_, not}
 use mathlib.Core.List.{List, [], _∷_}
 use Prim.Native.Nat.{ℕ}

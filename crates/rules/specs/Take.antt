@@ -117,7 +117,7 @@ learntNode v j s f probing st =
       grant = v .grant;
     }
 
--- 2 if dead; 4 if wait with empty leaf set; 5 if j = i
+-- wait with empty leaf set
 abbrev pub waitsEmpty : Node → Bool
 waitsEmpty v = isWait (v .status) && isEmpty (sidesOf v)
 
@@ -133,6 +133,7 @@ probePlanOf g ids i v m =
     let s = leafWithOne g ids i (sidesOf v) j in
     probePlan i v j s f (probesOf g ids i v s f m)
 
+-- 2 if dead; 4 if wait with empty leaf set; 5 if j = i
 unfoldable pub planTakeProbe : Ring → List ℕ → ℕ → Node → Message → Planned
 planTakeProbe g ids i v m =
     cond (isDead (v .status)) (No no.Status)
@@ -185,14 +186,16 @@ planTakeLeaseRequest g ids i v j =
 
 -- ---- 8 BroadcastLSet
 
--- the new neighbours, left and right, and the old ones
+-- the new neighbours equal the old neighbours, left to left and right to right
 abbrev pub sameNeighbours : Ring → List ℕ → ℕ → Sides → Sides → Bool
 sameNeighbours g ids i s old =
     eqb (leftNeighbour g ids i s) (leftNeighbour g ids i old) && eqb (rightNeighbour g ids i s) (rightNeighbour g ids i old)
 
+-- both new neighbours are in lease
 abbrev pub bothLeased : Ring → List ℕ → ℕ → Sides → ℕ → Bool
 bothLeased g ids i s lease = has lease (leftNeighbour g ids i s) && has lease (rightNeighbour g ids i s)
 
+-- j is a new neighbour: a neighbour in the new leaf set
 abbrev pub newNeighbour : Ring → List ℕ → ℕ → Sides → ℕ → Bool
 newNeighbour g ids i s j = eqb (leftNeighbour g ids i s) j || eqb (rightNeighbour g ids i s) j
 
@@ -233,7 +236,7 @@ planTakeBroadcast g ids i v m =
     (cond (eqb (m .owner) i) (No no.Partner)
     (Go (broadcastPlan g ids i v m))))
 
--- ---- by kind; 6 NoLegalRoute: 5 always
+-- ---- by kind; 6 NoLegalRoute: 5 always. A valid pool holds no other kind.
 
 unfoldable pub planTake : ℕ → Ring → List ℕ → ℕ → ℕ → Node → Message → Planned
 planTake kind g ids dead i v m =
@@ -242,6 +245,7 @@ planTake kind g ids dead i v m =
     (cond (eqb kind 3) (planTakeJoinReply g ids i v m)
     (cond (eqb kind 4) (planTakeProbe g ids i v m)
     (cond (eqb kind 5) (planTakeProbeReply g ids i v m)
+    (cond (eqb kind 6) (No no.Partner)
     (cond (eqb kind 7) (planTakeLeaseRequest g ids i v (m .word))
     (cond (eqb kind 8) (planTakeBroadcast g ids i v m)
-    (No no.Partner)))))))
+    (No no.Partner))))))))

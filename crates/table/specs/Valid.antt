@@ -1,4 +1,4 @@
--- A table is valid: every slot and every message obeys its rule (Fits of crate rules), and no two messages are equal. Assumes nothing.
+-- A table is valid: all numbers are in range, every slot and every message obeys its rule (Fits of crate rules), and no two messages are equal. Assumes nothing.
 use mathlib.Core.Bool.{Bool, _&&_}
 use lib.Dec.{leb}
 use Rattle.marks.specs.Marks.{allTo}
