@@ -129,14 +129,15 @@ pub fn probe_plan(g: Ring, ids: &[u32; 64], i: usize, v: Node, m: Message) -> Pl
     requires { ⌜ Listed g (now ids) × (i < g .n) ⌝ }
     ensures { λ r. ⌜ r ≡ probePlanOf g (now (ids .entry)) i v m ⌝ }
 {
+    let own = i as u32;
     let j = m.word as usize;
     let f = marks::removed(v.failed, j);
     let s = leaf::with_one(g, ids, i, parts::sides_of(v), j);
     let p = probes(g, ids, i, v, s, f, m);
     let st = v.status;
     let node = learnt(v, j, s, f, marks::joined(v.probing, p), st);
-    let first = ls_probe_reply(i as u32, s, f);
-    let each = ls_probe(i as u32, s, f);
+    let first = ls_probe_reply(own, s, f);
+    let each = ls_probe(own, s, f);
     Plan {
         node,
         first,
@@ -186,6 +187,7 @@ pub fn reply_plan(g: Ring, ids: &[u32; 64], i: usize, v: Node, m: Message) -> Pl
     requires { ⌜ Listed g (now ids) × (i < g .n) ⌝ }
     ensures { λ r. ⌜ r ≡ replyPlanOf g (now (ids .entry)) i v m ⌝ }
 {
+    let own = i as u32;
     let j = m.word as usize;
     let f = marks::removed(v.failed, j);
     let s = leaf::with_one(g, ids, i, parts::sides_of(v), j);
@@ -195,7 +197,7 @@ pub fn reply_plan(g: Ring, ids: &[u32; 64], i: usize, v: Node, m: Message) -> Pl
     let st = status_after(g, old, s, probing);
     let node = learnt(v, j, s, f, probing, st);
     let first = parts::blank_message();
-    let each = ls_probe(i as u32, s, f);
+    let each = ls_probe(own, s, f);
     Plan {
         node,
         first,
