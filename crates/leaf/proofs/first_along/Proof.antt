@@ -1,5 +1,5 @@
--- `leaf::first_along` meets its contract. The invariant: the walk has come to d steps, taken `out`, and counted `got` (Walked). The measure:
--- the steps left. Assumes nothing.
+-- `leaf::first_along` meets its contract. The invariant: the walk has come to d steps, taken `out`, and counted `got` (Walked). The
+-- measure: the steps left. Assumes nothing.
 use borrow.Author.Needs.{needs}
 use mathlib.Core.Path.{sym, _∙_}
 use mathlib.Core.Logic.{⊎-elim}
@@ -21,7 +21,7 @@ loop-holds c = walk-begin _ _ _ _ _ (c .pre .0) (c .pre .1)
 returns : tie.Need-returns Inv-loop μ-loop
 returns c =
     let a = c .before .before in
-    walk-full _ _ _ _ _ (a .before .pre .0) (a .before .pre .1) (a .loop .inv) (c .if1 .taken)
+    walk-full _ _ _ _ _ (a .before .pre .0) (a .before .pre .1) (a .loop .inv) (omega arith)
 
 along-requires : tie.Need-along-requires Inv-loop μ-loop
 along-requires c κs = omega arith
@@ -51,7 +51,7 @@ loop-again c =
     ⊎-elim
     (λ w.
     rw (w .2, w .1 .ensures, w .3)
-    (walk-took _ _ _ _ _ (pre .0) (pre .1) _ _ (at .0) (at .1) (a .loop .inv) (b .before .if1 .left) (member ∙ w .0 .taken)))
+    (walk-took _ _ _ _ _ (pre .0) (pre .1) _ _ (at .0) (at .1) (a .loop .inv) (λ e. omega arith) (member ∙ w .0 .taken)))
     (λ w. rw (w .1, w .2) (walk-passed _ _ _ _ _ (pre .0) (pre .1) _ _ (at .0) (at .1) (a .loop .inv) (member ∙ w .0 .left)))
     (c .if2 .came)
 
