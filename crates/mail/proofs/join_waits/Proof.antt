@@ -25,7 +25,7 @@ element-copy-out-q c = search needs
 returns : tie.Need-returns Inv-loop μ-loop
 returns c =
     let s = c .before .before .before .before .before .before in
-    sym (asked _ _ _ (places-length (s .args .t1) _ (s .good .0)) (s .pre) _ (c .before .before .before .before .loop-test .taken) (c .if1 .taken))
+    sym (asked _ _ _ (places-length (s .args .t1) _ (s .good .0)) (s .pre) _ (omega arith) (c .if1 .taken))
 
 add-at : tie.Need-add-at Inv-loop μ-loop
 add-at c = search needs
@@ -39,7 +39,7 @@ loop-again c = (omega arith, unasked-more _ _ _ (c .if1 .left) (c .before .befor
 returns-2 : tie.Need-returns-2 Inv-loop μ-loop
 returns-2 c =
     let s = c .before .before in
-    sym (unasked-end _ _ _ (places-length (s .args .t1) _ (s .good .0)) (s .pre) _ (c .loop-test .left) (c .before .loop .inv .1))
+    sym (unasked-end _ _ _ (places-length (s .args .t1) _ (s .good .0)) (s .pre) _ (omega arith) (c .before .loop .inv .1))
 
 pub join-waits-spec : {M : Type 1} → statement M
 join-waits-spec =

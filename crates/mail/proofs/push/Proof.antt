@@ -36,7 +36,7 @@ returns-3 c =
     let s = b .before .before .before .before in
     let x = s .args .x in
     let none = sym (b .first-equal .ensures) ∙ c .before .enum-told2 .given .1 in
-    pushed-full x _ (s .pre) (not-false (x .fits) (b .before .before .if1 .left)) none (c .if2 .taken)
+    pushed-full x _ (s .pre) (not-false (x .fits) (b .before .before .if1 .left)) none (omega arith)
 
 mul-m : tie.Need-mul-m
 mul-m c = search needs
@@ -53,7 +53,7 @@ returns-4 c =
     let s = b .before .before .before .before in
     let x = s .args .x in
     let none = sym (b .first-equal .ensures) ∙ c .before .enum-told2 .given .1 in
-    pushed-room x _ (s .pre) (not-false (x .fits) (b .before .before .if1 .left)) none (c .if2 .left)
+    pushed-room x _ (s .pre) (not-false (x .fits) (b .before .before .if1 .left)) none (omega arith)
 
 pub push-spec : {M : Type 1} → statement M
 push-spec =

@@ -46,7 +46,7 @@ loop-less c = search needs
 loop-again : tie.Need-loop-again Inv-loop μ-loop
 loop-again c =
     let s = c .before .before .before in
-    closed-more _ _ _ (s .pre .0) (places-length (s .args .p) _ (s .good .0)) (s .pre .1) _ _ (c .before .loop-test .taken)
+    closed-more _ _ _ (s .pre .0) (places-length (s .args .p) _ (s .good .0)) (s .pre .1) _ _ (omega arith)
     (c .before .before .loop .inv)
 
 sub-q : tie.Need-sub-q Inv-loop μ-loop
@@ -60,7 +60,7 @@ returns c =
     let s = c .before .before .before in
     c .tidy .ensures
     ∙ ap laid
-    (closed-end _ _ _ (s .pre .0) (places-length (s .args .p) _ (s .good .0)) (s .pre .1) _ _ (c .before .loop-test .left) (c .before .before .loop .inv))
+    (closed-end _ _ _ (s .pre .0) (places-length (s .args .p) _ (s .good .0)) (s .pre .1) _ _ (omega arith) (c .before .before .loop .inv))
 
 pub removed-spec : {M : Type 1} → statement M
 removed-spec =

@@ -64,13 +64,13 @@ to-slot-requires : tie.Need-to-slot-requires Inv-slots μ-slots
 to-slot-requires c κs = search needs
 
 mul-t17 : tie.Need-mul-t17 Inv-slots μ-slots
-mul-t17 c = let h = c .before .if3 .left in omega arith
+mul-t17 c = omega arith
 
 element-set-from-p : tie.Need-element-set-from-p Inv-slots μ-slots
-element-set-from-p c = c .before .if3 .left
+element-set-from-p c = omega arith
 
 add-p : tie.Need-add-p Inv-slots μ-slots
-add-p c = let h = c .before .if3 .left in omega arith
+add-p c = omega arith
 
 removed-requires : tie.Need-removed-requires Inv-slots μ-slots
 removed-requires c κs = search needs
@@ -85,7 +85,7 @@ slots-again c =
     let n = c .before .before .before .before in
     let to = c .before .to-slot .ensures in
     rw (c .removed .ensures, to)
-    (filling-more _ _ _ _ _ (sym (n .before .before .lowest .ensures) ∙ n .next .given .1) (c .before .before .if3 .left) (n .before .before .before .slots .inv))
+    (filling-more _ _ _ _ _ (sym (n .before .before .lowest .ensures) ∙ n .next .given .1) (omega arith) (n .before .before .before .slots .inv))
 
 returns-3 : tie.Need-returns-3 Inv-slots μ-slots
 returns-3 c =
@@ -104,7 +104,7 @@ returns-4 c =
     let b = h .before .before .before in
     let x = b .before .before .args .x in
     overfull x _ _ _ _ _ _ (not-false (x .fits) (b .if1 .left)) (h .held .ensures) (l .before .less .ensures) (l .slots .inv) _
-    (sym (n .before .before .lowest .ensures) ∙ n .next .given .1) (c .if3 .taken)
+    (sym (n .before .before .lowest .ensures) ∙ n .next .given .1) (omega arith)
 
 pub send-each-spec : {M : Type 1} → statement M
 send-each-spec =

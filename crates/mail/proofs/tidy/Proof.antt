@@ -32,12 +32,12 @@ loop-less : tie.Need-loop-less Inv-loop μ-loop
 loop-less c = search needs
 
 loop-again : tie.Need-loop-again Inv-loop μ-loop
-loop-again c = rw (c .before .before .blank-message .ensures) (blanked-more _ _ _ _ (c .loop-test .taken) (c .before .loop .inv))
+loop-again c = rw (c .before .before .blank-message .ensures) (blanked-more _ _ _ _ (omega arith) (c .before .loop .inv))
 
 returns : tie.Need-returns Inv-loop μ-loop
 returns c =
     let s = c .before .before .before in
-    blanked-end _ _ _ (s .pre) (places-length (s .args .p) _ (s .good .0)) (c .loop-test .left) (c .before .loop .inv)
+    blanked-end _ _ _ (s .pre) (places-length (s .args .p) _ (s .good .0)) (omega arith) (c .before .loop .inv)
 
 pub tidy-spec : {M : Type 1} → statement M
 tidy-spec =
