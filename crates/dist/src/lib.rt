@@ -1,6 +1,6 @@
 // Distances between ids of at most 32 digits. Each function is the definition of the same name, for ids below 2^m; `ask` answers callers who may be out of range.
 ghost use mathlib.Core.Path.{_≡_};
-ghost use Prim.Native.Nat.{ℕ, _^_, _<_, _≤_};
+ghost use Prim.Native.Nat.{_^_};
 ghost use Rattle.ring.specs.Distance.{fallOf, signedOf, absDistOf, leftCoverOf, rightCoverOf, coversKey};
 ghost use Rattle.ring.specs.Distance.{nearer as nearerOf};
 ghost use Rattle.ring.specs.Order.{rank as rankOf};
@@ -28,8 +28,9 @@ pub fn signed(m: u32, x: u32, y: u32) -> i64
     requires { ⌜ Inside m x y ⌝ }
     ensures { λ r. ⌜ r ≡ signedOf (2 ^ m) x y ⌝ }
 {
-    let n = size(m) as i64;
-    let half = n / 2;
+    let ids = size(m);
+    let n = ids as i64;
+    let half = (ids / 2) as i64;
     let d = (x as i64) - (y as i64);
     if d < -half {
         d + n

@@ -54,7 +54,8 @@ pub fn settled_at(g: Ring, ids: &[u32; 64], ready: u64, i: usize, v: Node) -> bo
 {
     let others = marks::removed(ready, i);
     let above = leaf::seen(Way::Up, g, ids, i, v.left) == leaf::seen(Way::Up, g, ids, i, others);
-    let below = leaf::seen(Way::Down, g, ids, i, v.right) == leaf::seen(Way::Down, g, ids, i, others);
+    let below = leaf::seen(Way::Down, g, ids, i, v.right)
+        == leaf::seen(Way::Down, g, ids, i, others);
     above & (below & (marks::both(v.failed, ready) == 0))
 }
 

@@ -1,0 +1,37 @@
+-- `hop::route_candidates` meets its contract. Assumes nothing.
+use borrow.Author.Needs.{needs}
+use Rattle.rules.specs.Hop.{routeCandidates}
+use Rattle.hop.proofs.route_candidates.Statement.{statement}
+use Rattle.hop.proofs.route_candidates.Tie as tie
+
+sides-of-requires : tie.Need-sides-of-requires
+sides-of-requires c κs = search needs
+
+content-requires : tie.Need-content-requires
+content-requires c κs = search needs
+
+joined-requires : tie.Need-joined-requires
+joined-requires c κs = search needs
+
+less-requires : tie.Need-less-requires
+less-requires c κs = search needs
+
+less-requires-2 : tie.Need-less-requires-2
+less-requires-2 c κs = search needs
+
+returns : tie.Need-returns
+unfolding routeCandidates
+returns c =
+    let b = c .before .before in
+    rw (c .less2 .ensures, c .before .less .ensures, b .joined .ensures, b .before .content .ensures, b .before .before .sides-of .ensures)
+
+pub route-candidates-spec : {M : Type 1} → statement M
+route-candidates-spec =
+    tie.close
+    (tie.spec
+    sides-of-requires
+    content-requires
+    joined-requires
+    less-requires
+    less-requires-2
+    returns)
