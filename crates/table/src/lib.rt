@@ -1,11 +1,13 @@
 // The table by value, with its limits, its start, and what stands in its slots.
 ghost use mathlib.Core.Path.{_≡_};
-ghost use Prim.Native.Nat.{ℕ, _<_, _≤_};
+ghost use Prim.Native.Nat.{ℕ, _^_, _<_, _≤_};
+ghost use lib.Dec.{ltb};
 ghost use lib.ListN.{length};
 ghost use Rattle.rules.specs.Limits.{mLow, mHigh, lLow, lHigh, nodesHigh, messagesHigh};
 ghost use Rattle.rules.specs.Asks.{Listed};
 ghost use Rattle.rules.specs.Nodes.{noNode};
 ghost use Rattle.table.specs.Start.{startOf, startFits, slotIds, idsRise, listFits, startNode, startNodes, notStarted};
+ghost use Rattle.table.specs.Starts.{idRises};
 ghost use Rattle.table.specs.Table.{nodeAt, withNode, idsOf, ringOf};
 use rules::Answer;
 use rules::Node;
@@ -151,8 +153,9 @@ pub fn ring_of(t: Table) -> Ring
 pub fn start_fits(m: u32, l: u32, n: usize) -> bool
     ensures { λ r. ⌜ r ≡ startFits m l n ⌝ }
 {
-    let wide = (Table::M_LOW <= m) & (m <= Table::M_HIGH);
-    wide & ((Table::L_LOW <= l) & ((l <= Table::L_HIGH) & ((1 <= n) & (n <= Table::NODES))))
+    (Table::M_LOW <= m)
+        & ((m <= Table::M_HIGH)
+            & ((Table::L_LOW <= l) & ((l <= Table::L_HIGH) & ((1 <= n) & (n <= Table::NODES)))))
 }
 
 // The ids in their slots, and 0 in the slots past them.
@@ -169,23 +172,36 @@ pub fn slot_ids(ids: &[u32]) -> [u32; 64]
     out
 }
 
+// Is x below 2^m?
+pub fn below_size(x: u32, m: u32) -> bool
+    requires { ⌜ m ≤ 32 ⌝ }
+    ensures { λ r. ⌜ r ≡ ltb x (2 ^ m) ⌝ }
+{
+    (x as u64) < (1u64 << m)
+}
+
+// Is the id of slot s below 2^m, and above the one before it?
+pub fn id_rises(m: u32, ids: &[u32; 64], s: usize) -> bool
+    requires { ⌜ (m ≤ 32) × (s < 64) ⌝ }
+    ensures { λ r. ⌜ r ≡ idRises m (now (ids .entry)) s ⌝ }
+{
+    let x = ids[s];
+    let below = below_size(x, m);
+    if s == 0 {
+        return below;
+    }
+    below & (ids[s - 1] < x)
+}
+
 // Are the first n ids below 2^m, and strictly rising?
 pub fn ids_rise(m: u32, n: usize, ids: &[u32; 64]) -> bool
     requires { ⌜ (m ≤ 32) × (n ≤ 64) ⌝ }
     ensures { λ r. ⌜ r ≡ idsRise m n (now (ids .entry)) ⌝ }
 {
-    let size = 1u64 << m;
     let mut s: usize = 0;
     while s < n {
-        let x = ids[s];
-        if (x as u64) >= size {
+        if !id_rises(m, ids, s) {
             return false;
-        }
-        if s > 0 {
-            let y = ids[s - 1];
-            if y >= x {
-                return false;
-            }
         }
         s += 1;
     }
@@ -224,7 +240,11 @@ pub fn start_node(g: Ring, ids: &[u32; 64], a: u64, s: usize) -> Node
         }
     } else {
         let routing = marks::of_one(s);
-        Node { id, routing, ..no_node() }
+        Node {
+            id,
+            routing,
+            ..no_node()
+        }
     }
 }
 
@@ -266,7 +286,12 @@ pub fn not_started(why: Refusal) -> Started
 {
     let none = no_node();
     let nodes = [none; 64];
-    let table = Table { m: 0, l: 0, n: 0, nodes };
+    let table = Table {
+        m: 0,
+        l: 0,
+        n: 0,
+        nodes,
+    };
     Started {
         answer: Answer::Refused(why),
         table,
