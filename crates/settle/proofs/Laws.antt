@@ -1,5 +1,5 @@
 -- A plan whose messages found room is done, and one whose messages did not is refused with 6. Assumes nothing.
-use mathlib.Core.Path.{_≡_, refl, sym, _∙_, ap, subst}
+use mathlib.Core.Path.{_≡_, refl, sym, _∙_, ap}
 use mathlib.Core.Bool.{Bool, true, false, _&&_}
 use mathlib.Core.List.{List}
 use Prim.Native.Nat.{ℕ}
@@ -17,7 +17,7 @@ use Rattle.mail.specs.Sending.{MailedOut, slotted}
 use Rattle.table.specs.declared.Table.{Table}
 use Rattle.table.specs.Table.{withNode}
 use Rattle.table.specs.Settle.{refusedOf, doneOf, carriedOut}
-use Rattle.settle.specs.Slots.{Slotted}
+use Rattle.settle.specs.Slots.{Slotted, slotsOf}
 
 module _ (x : Plan) (ys : List Message) (r : Sent) (out : MailedOut x ys r) (s : slotted (x .to) ≡ true) (t : Table) (p : Pool) (i : ℕ) where
   room : r .fits ≡ leb (length (mailed x ys)) 256
@@ -32,4 +32,4 @@ module _ (x : Plan) (ys : List Message) (r : Sent) (out : MailedOut x ys r) (s :
   full e = rw (sym room ∙ e)
 
 pub slotted-plan : (what : Planned) (x : Plan) → what ≡ Go x → Slotted what → slotted (x .to) ≡ true
-slotted-plan what x e s = subst (λ (w : Planned). Slotted w) e s
+slotted-plan what x e s = ap slotsOf (sym e) ∙ s .is
