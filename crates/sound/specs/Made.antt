@@ -1,5 +1,5 @@
--- The messages of 01, placed at a slot s below n, obey their kinds: what each asks of what it is made of. Each test is computed for its kind,
--- and what is left is what is asked. Assumes nothing.
+-- The messages of 01, placed at a slot s below n, obey their kinds: what each asks of what it is made of. Each test computes for its kind, and
+-- what is left is what is asked. Assumes nothing.
 use mathlib.Core.Path.{_≡_, refl}
 use mathlib.Core.Bool.{true}
 use Prim.Native.Nat.{ℕ, _^_, _<_, _≤_}
@@ -16,7 +16,8 @@ module _ (g : Ring) (s : ℕ) (h : s < g .n) where
   unfolding messageFits fieldsFit wordFits flagFits carriedFits ownerFits routingFits failedFits
   lookup-fits k l = rw (lt-ltb s (g .n) h, lt-ltb k (2 ^ g .m) l)
 
-  pub joinRequest-fits : (j routing : ℕ) → j < g .n → listed (g .n) routing ≡ true → messageFits g (placed (joinRequest j routing) s) ≡ true
+  pub joinRequest-fits : (j routing : ℕ) → j < g .n → listed (g .n) routing ≡ true
+      → messageFits g (placed (joinRequest j routing) s) ≡ true
   unfolding messageFits fieldsFit wordFits flagFits carriedFits ownerFits routingFits failedFits
   joinRequest-fits j routing l e = rw (lt-ltb s (g .n) h, lt-ltb j (g .n) l, e)
 

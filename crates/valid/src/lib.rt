@@ -2,8 +2,8 @@
 ghost use mathlib.Core.Path.{_≡_};
 ghost use Prim.Native.Nat.{ℕ, _^_, _≤_, _<_};
 ghost use lib.Dec.{ltb};
-ghost use Rattle.rules.specs.Fits.{numbersFit, idFits, sideFits, leafFits, othersFit, nodeFits, isBlank, slotFits, wordFits, flagFits, carriedFits, ownerFits, routingFits, failedFits, fieldsFit, messageFits};
-ghost use Rattle.table.specs.Table.{ringOf};
+ghost use Rattle.rules.specs.Fits.{numbersFit, idFits, sideFits, leafFits, othersFit, nodeFits, isBlank, slotFits};
+ghost use Rattle.rules.specs.Fits.{wordFits, flagFits, carriedFits, ownerFits, routingFits, failedFits, fieldsFit, messageFits};
 ghost use Rattle.table.specs.Valid.{nodesFit, messagesFit, poolFits, validOf};
 use rules::Message;
 use rules::Node;

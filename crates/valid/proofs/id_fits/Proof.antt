@@ -31,7 +31,9 @@ element-copy-out-result c = search needs
 
 returns-2 : tie.Need-returns-2
 unfolding idFits
-returns-2 c = rw (c .before .before .below-size .ensures, ne-eqb (c .before .before .before .before .args .s) 0 (c .before .if1 .left), sub-one)
+returns-2 c =
+    let b = c .before .before in
+    rw (b .below-size .ensures, ne-eqb (b .before .before .args .s) 0 (c .before .if1 .left), sub-one)
 
 pub id-fits-spec : {M : Type 1} → statement M
 id-fits-spec =

@@ -1,4 +1,5 @@
--- `valid::messages_fit` meets its contract. The invariant: the messages passed obey their kinds. The measure: the places left. Assumes nothing.
+-- `valid::messages_fit` meets its contract. The invariant: the messages passed obey their kinds. The measure: the places left.
+-- Assumes nothing.
 use borrow.Author.Tests.{not-true, not-false}
 use mathlib.Core.Path.{_≡_, refl, sym, _∙_}
 use mathlib.Core.Bool.{Bool, true}
