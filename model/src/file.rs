@@ -96,7 +96,10 @@ impl Header {
 
     fn wrong_length<R: Reading>(&self, r: R, length: usize) -> Refusal {
         let short = length < total(self.n as usize, self.count as usize);
-        r.pick(Slip::AnyShortIsSeven, short, false).then_some(Refusal::Short).unwrap_or(Refusal::Lengths)
+        if short && r.takes(Slip::AnyShortIsSeven) {
+            return Refusal::Short;
+        }
+        Refusal::Lengths
     }
 }
 

@@ -1,13 +1,22 @@
 //! Where an equal message waits, by hashing, so that "no two messages are equal" costs one walk.
 
-use crate::message::{Fields, Message, Pool};
+use crate::message::{Message, Pool};
 
 const SIZE: usize = 512;
 
-/// Open addressing; an entry is a place plus 1, or 0. At most half of the entries are used.
+/// Open addressing. An entry is 0 or a place plus 1, with more of the hash in its upper bits.
+/// At most half of the entries are used.
 pub(crate) struct Index {
     entries: [u16; SIZE],
 }
+
+/// Where to look for a message: the first entry, and what its upper bits are.
+struct Hash {
+    entry: usize,
+    upper: u16,
+}
+
+const PLACE: u16 = 0x1ff;
 
 impl Index {
     #[inline]
@@ -17,41 +26,53 @@ impl Index {
 
     /// Notes the message of `place`; false if an equal one is noted, which then stays.
     #[inline]
-    pub fn note(&mut self, pool: &Pool, place: usize, fields: &Fields) -> bool {
-        let (entry, found) = self.seek(pool, &pool[place], fields);
-        if found.is_none() {
-            self.entries[entry] = place as u16 + 1;
+    pub fn note(&mut self, pool: &Pool, place: usize) -> bool {
+        let hash = Hash::of(&pool[place]);
+        match self.seek(&hash, pool, &pool[place]) {
+            Ok(_) => false,
+            Err(entry) => {
+                self.entries[entry] = hash.upper | (place as u16 + 1);
+                true
+            }
         }
-        found.is_none()
     }
 
     /// The place of the first waiting message equal to this one.
     #[inline]
     pub fn find(&self, pool: &Pool, message: &Message) -> Option<usize> {
-        self.seek(pool, message, &message.fields()).1
+        self.seek(&Hash::of(message), pool, message).ok()
     }
 
+    /// The place of an equal message, or the entry where it would be noted.
     #[inline]
-    fn seek(&self, pool: &Pool, message: &Message, fields: &Fields) -> (usize, Option<usize>) {
-        let mut entry = hash(fields);
+    fn seek(&self, hash: &Hash, pool: &Pool, message: &Message) -> Result<usize, usize> {
+        let mut entry = hash.entry;
         loop {
-            let place = match self.entries[entry] {
-                0 => return (entry, None),
-                noted => usize::from(noted) - 1,
-            };
-            if pool[place] == *message {
-                return (entry, Some(place));
+            let noted = self.entries[entry];
+            if noted == 0 {
+                return Err(entry);
+            }
+            let place = usize::from(noted & PLACE) - 1;
+            if noted & !PLACE == hash.upper && pool[place] == *message {
+                return Ok(place);
             }
             entry = (entry + 1) % SIZE;
         }
     }
 }
 
+impl Hash {
+    #[inline]
+    fn of(message: &Message) -> Hash {
+        let [a, b, c, d] = message.words();
+        let mixed = mix(a ^ 0x9e37_79b9_7f4a_7c15, b ^ 0xbf58_476d_1ce4_e5b9)
+            ^ mix(c ^ 0x94d0_49bb_1331_11eb, d ^ 0xd6e8_feb8_6659_fd93).rotate_left(32);
+        Hash { entry: mixed as usize % SIZE, upper: (mixed >> 48) as u16 & !PLACE }
+    }
+}
+
 #[inline]
-fn hash(fields: &Fields) -> usize {
-    const ODD: [u64; 4] =
-        [0x9e37_79b9_7f4a_7c15, 0xbf58_476d_1ce4_e5b9, 0x94d0_49bb_1331_11eb, 0xd6e8_feb8_6659_fd93];
-    let words = fields.words();
-    let sum = (0..4).fold(0u64, |sum, i| sum.wrapping_add((words[i] ^ words[i] >> 32).wrapping_mul(ODD[i])));
-    (sum >> 55) as usize
+fn mix(a: u64, b: u64) -> u64 {
+    let product = u128::from(a) * u128::from(b);
+    product as u64 ^ (product >> 64) as u64
 }

@@ -3,10 +3,13 @@
 //! The right reading is the crate's plain functions. Each `*_as` function takes a [`Reading`],
 //! so that misreadings of 01 run through the same source.
 
+mod actions;
+mod change;
 mod file;
 pub mod gen;
 mod hop;
 mod index;
+mod listing;
 pub mod marks;
 mod message;
 mod reading;
@@ -21,8 +24,6 @@ mod take;
 mod valid;
 mod view;
 pub mod wire;
-
-mod listing;
 
 pub use file::{load, load_as, total, write, write_as, HEADER, LARGEST, MESSAGE, NODE};
 pub use listing::{listing, listing_as};

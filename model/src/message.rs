@@ -77,6 +77,31 @@ impl Message {
         self.fields().to as usize
     }
 
+    /// Four words that differ where the messages differ.
+    #[inline]
+    pub(crate) fn words(&self) -> [u64; 4] {
+        let head = |kind: u64, to: u8, from: u8| kind | u64::from(to) << 8 | u64::from(from) << 16;
+        match *self {
+            Message::Blank => [0; 4],
+            Message::Lookup { to, key } => [head(1, to, 0), key.into(), 0, 0],
+            Message::JoinRequest { to, node, routing } => [head(2, to, node), 0, 0, routing],
+            Message::JoinReply { to, owner, routing, sides } => {
+                [head(3, to, owner), sides.left, sides.right, routing]
+            }
+            Message::LsProbe { to, node, sides, failed } => {
+                [head(4, to, node), sides.left, sides.right, failed]
+            }
+            Message::LsProbeReply { to, node, sides, failed } => {
+                [head(5, to, node), sides.left, sides.right, failed]
+            }
+            Message::NoLegalRoute { to, key } => [head(6, to, 0), key.into(), 0, 0],
+            Message::LeaseRequest { to, node } => [head(7, to, node), 0, 0, 0],
+            Message::BroadcastLSet { to, owner, sides, grant } => {
+                [head(8, to, owner), sides.left, sides.right, grant.into()]
+            }
+        }
+    }
+
     /// The fields as the record has them; a field that the kind lacks is 0.
     #[inline]
     pub fn fields(&self) -> Fields {
@@ -140,16 +165,5 @@ impl Fields {
     #[inline]
     fn with_probe(self, node: u8, sides: Sides, failed: u64) -> Fields {
         Fields { node_or_key: node.into(), owner: node.into(), failed, ..self }.with_sides(sides)
-    }
-
-    /// Four words that differ where the messages differ.
-    #[inline]
-    pub(crate) fn words(&self) -> [u64; 4] {
-        let head = u64::from(self.kind)
-            | u64::from(self.to) << 8
-            | u64::from(self.owner) << 16
-            | u64::from(self.flag) << 24
-            | u64::from(self.node_or_key) << 32;
-        [head, self.left, self.right, self.routing | self.failed]
     }
 }

@@ -2,7 +2,7 @@
 
 use crate::index::Index;
 use crate::marks::{below, has};
-use crate::message::{Fields, Message, Pool};
+use crate::message::{Message, Pool};
 use crate::reading::{Reading, Right, Slip};
 use crate::refusal::{refuse_if, Refusal};
 use crate::table::{Node, Sides, Table};
@@ -27,9 +27,8 @@ pub(crate) fn check<R: Reading>(r: R, table: &Table, pool: &Pool, index: &mut In
     let limits = Limits::of(r, table)?;
     refuse_if(!limits.nodes_obey(table), Refusal::Invalid)?;
     for place in 0..table.count {
-        let fields = pool[place].fields();
-        refuse_if(!limits.message_obeys(&fields), Refusal::Invalid)?;
-        let alone = index.note(pool, place, &fields);
+        refuse_if(!limits.message_obeys(&pool[place]), Refusal::Invalid)?;
+        let alone = index.note(pool, place);
         refuse_if(!alone && !r.takes(Slip::EqualAccepted), Refusal::Invalid)?;
     }
     Ok(())
@@ -38,7 +37,7 @@ pub(crate) fn check<R: Reading>(r: R, table: &Table, pool: &Pool, index: &mut In
 /// What the numbers of a table allow.
 struct Limits<R> {
     l: u32,
-    n: u32,
+    n: usize,
     top: u64,
     listed: u64,
     r: R,
@@ -56,7 +55,7 @@ impl<R: Reading> Limits<R> {
         refuse_if(!ranges, Refusal::Invalid)?;
         let top = r.pick(Slip::IdAtN, 1 << m, (1 << m) - 1);
         let listed = r.pick(Slip::MarkPastN, !0, below(n));
-        Ok(Limits { l, n: n as u32, top, listed, r })
+        Ok(Limits { l, n, top, listed, r })
     }
 
     #[inline]
@@ -80,7 +79,7 @@ impl<R: Reading> Limits<R> {
             not_self |= routing | lease | grant;
         }
         let all = sides.left | sides.right | probing | failed | routing | lease | grant;
-        all & !self.listed == 0 && !has(not_self, slot) && self.sides_fit(sides)
+        self.listed(all) && !has(not_self, slot) && self.sides_fit(sides)
     }
 
     #[inline]
@@ -92,28 +91,64 @@ impl<R: Reading> Limits<R> {
         sides.left.count_ones() <= most && sides.right.count_ones() <= most
     }
 
-    /// Fields that a kind lacks are 0 and obey every rule.
     #[inline]
-    fn message_obeys(&self, fields: &Fields) -> bool {
-        let Fields { kind, to, node_or_key, owner, routing, left, right, failed, .. } = *fields;
-        let value = match kind {
-            0 => false,
-            1 | 6 => u64::from(node_or_key) <= self.top || self.r.takes(Slip::CarriedKeyFree),
-            _ => node_or_key < self.n,
-        };
-        let slots = to < self.n && owner < self.n;
-        let marks = (routing | left | right | failed) & !self.listed == 0;
-        let own = !has(left | right, owner as usize) || self.r.takes(Slip::CarriedOwnerInSide);
-        let sides = self.sides_fit(Sides { left, right }) || self.r.takes(Slip::CarriedSidesFree);
-        value && slots && marks && own && sides && !self.slipped_rules(fields)
+    fn message_obeys(&self, message: &Message) -> bool {
+        match *message {
+            Message::Blank => false,
+            Message::Lookup { to, key } | Message::NoLegalRoute { to, key } => self.slot(to) && self.key(key),
+            Message::JoinRequest { to, node, routing } => {
+                self.slots(to, node) && self.listed(routing) && self.sent(to, node)
+            }
+            Message::JoinReply { to, owner, routing, sides } => {
+                self.slots(to, owner) && self.listed(routing) && self.leaves(owner, sides)
+            }
+            Message::LsProbe { to, node, sides, failed }
+            | Message::LsProbeReply { to, node, sides, failed } => {
+                self.slots(to, node)
+                    && self.listed(failed)
+                    && self.leaves(node, sides)
+                    && self.sent(to, node)
+                    && !(self.r.takes(Slip::SenderInFailed) && has(failed, node.into()))
+            }
+            Message::LeaseRequest { to, node } => self.slots(to, node) && self.sent(to, node),
+            Message::BroadcastLSet { to, owner, sides, .. } => {
+                self.slots(to, owner) && self.leaves(owner, sides)
+            }
+        }
     }
 
-    /// Rules that 01 does not have.
     #[inline]
-    fn slipped_rules(&self, fields: &Fields) -> bool {
-        let probe = matches!(fields.kind, 4 | 5);
-        let sent = matches!(fields.kind, 2 | 4 | 5 | 7);
-        self.r.takes(Slip::SenderInFailed) && probe && has(fields.failed, fields.owner as usize)
-            || self.r.takes(Slip::SentToItself) && sent && fields.node_or_key == fields.to
+    fn slot(&self, slot: u8) -> bool {
+        usize::from(slot) < self.n
+    }
+
+    #[inline]
+    fn slots(&self, to: u8, other: u8) -> bool {
+        self.slot(to.max(other))
+    }
+
+    #[inline]
+    fn key(&self, key: u32) -> bool {
+        u64::from(key) <= self.top || self.r.takes(Slip::CarriedKeyFree)
+    }
+
+    #[inline]
+    fn listed(&self, set: u64) -> bool {
+        set & !self.listed == 0
+    }
+
+    /// A carried leaf set obeys the node rules for its owner, which is listed.
+    #[inline]
+    fn leaves(&self, owner: u8, sides: Sides) -> bool {
+        let both = sides.left | sides.right;
+        self.listed(both)
+            && (!has(both, owner.into()) || self.r.takes(Slip::CarriedOwnerInSide))
+            && (self.sides_fit(sides) || self.r.takes(Slip::CarriedSidesFree))
+    }
+
+    /// A rule that 01 does not have.
+    #[inline]
+    fn sent(&self, to: u8, node: u8) -> bool {
+        !(self.r.takes(Slip::SentToItself) && to == node)
     }
 }

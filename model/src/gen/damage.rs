@@ -12,7 +12,7 @@ pub fn damaged(rng: &mut Rng, mut file: Vec<u8>) -> Vec<u8> {
             0 | 1 => header(rng, &mut file),
             2 => length(rng, &mut file),
             3 => recount(rng, &mut file, &sound),
-            4 | 5 | 6 => node(rng, &mut file, &sound),
+            4..=6 => node(rng, &mut file, &sound),
             7..=10 => message(rng, &mut file, &sound),
             _ => flip(rng, &mut file),
         }
@@ -70,7 +70,7 @@ fn put_long(file: &mut [u8], at: usize, long: u64) {
 fn header(rng: &mut Rng, file: &mut [u8]) {
     let nth = rng.below(8);
     let old = word_at(file, 4 * nth);
-    let near = [old.wrapping_add(1), old.wrapping_sub(1), 0, 1, u32::MAX, rng.next() as u32, old ^ 1 << 31];
+    let near = [old.wrapping_add(1), old.wrapping_sub(1), 0, 1, u32::MAX, rng.any() as u32, old ^ 1 << 31];
     let edges =
         [2, 32, 33, 8, 9, 64, 65, 256, 257, 1 << 8, 1 << 16, old.wrapping_add(56), old.wrapping_add(64)];
     let word = if rng.one_in(2) { rng.pick(&near) } else { rng.pick(&edges) };
@@ -110,7 +110,7 @@ fn recount(rng: &mut Rng, file: &mut Vec<u8>, sound: &Sound) {
 fn node(rng: &mut Rng, file: &mut [u8], sound: &Sound) {
     let slot = rng.below(sound.n);
     let other = rng.below(sound.n);
-    let any = rng.next() as u32;
+    let any = rng.any() as u32;
     let at = HEADER + NODE * slot;
     let set = at + 8 + 8 * rng.below(7);
     let side = at + 8 + 8 * rng.below(2);
@@ -125,7 +125,7 @@ fn node(rng: &mut Rng, file: &mut [u8], sound: &Sound) {
         4 => put_long(file, set, long_at(file, set) | sound.past(rng)),
         5 => put_long(file, set, long_at(file, set) | bit(slot)),
         6 | 7 => put_long(file, side, overfull(rng, sound, slot)),
-        _ => put_long(file, set, rng.next()),
+        _ => put_long(file, set, rng.any()),
     }
 }
 
@@ -149,7 +149,7 @@ fn message(rng: &mut Rng, file: &mut [u8], sound: &Sound) {
     let set = at + 24 + 8 * rng.below(4);
     let side = at + 24 + 8 + 8 * rng.below(2);
     let (n, owner) = (sound.n as u32, word_at(file, at + 16) as usize & 63);
-    let any = rng.next() as u32;
+    let any = rng.any() as u32;
     match rng.below(14) {
         0 => put_word(file, at, rng.pick(&[0, 9, 10, u32::MAX, 256 + word_at(file, at)])),
         1 => put_word(file, at, 1 + rng.below(8) as u32),

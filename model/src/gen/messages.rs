@@ -31,7 +31,7 @@ pub fn key_from(rng: &mut Rng, table: &Table, slot: usize) -> u32 {
         5 => a + gap / 2 + 1,
         6 => a + whole / 2,
         7 => rng.pick(&[0, whole - 1]),
-        _ => rng.next(),
+        _ => rng.any(),
     };
     (key % whole) as u32
 }

@@ -161,7 +161,7 @@ fn fit(rng: &mut Rng, case: &mut Case, kind: usize, i: usize, j: usize) -> usize
 fn fit_failed(rng: &mut Rng, node: &mut Node, i: usize, j: usize, others: u64) {
     let sender = bit(j) & !bit(i);
     match rng.below(6) {
-        0 => node.failed = rng.next() & others,
+        0 => node.failed = rng.any() & others,
         1 => node.failed |= sender,
         2 if node.sides.left != 0 => {
             let out = bit(rng.member(node.sides.left));
@@ -206,7 +206,7 @@ fn crowd(rng: &mut Rng, case: &mut Case, action: Action) -> Action {
     };
     let mut added = added(case, action);
     if rng.one_in(3) {
-        let kept = rng.next();
+        let kept = rng.any();
         let echoed = |nth: usize| kept >> (nth & 63) & 1 == 1;
         added.iter().enumerate().filter(|(nth, _)| echoed(*nth)).for_each(|(_, m)| case.push(*m));
         added.retain(|m| case.place_of(m).is_none());
@@ -247,27 +247,19 @@ pub fn stray(rng: &mut Rng, table: &Table, action: Action) -> Action {
     }
     let wide = |rng: &mut Rng, limit: usize| {
         let within = rng.below(limit.max(1));
-        let next = rng.next() as usize;
-        rng.pick(&[
-            limit,
-            limit + 1,
-            64,
-            65,
-            256,
-            257,
-            usize::MAX,
-            (1 << 32) + within,
-            (1 << 8) + within,
-            next,
-            within,
-        ])
+        match rng.below(4) {
+            0 => rng.any() as usize,
+            1 => rng.pick(&[within, (1 << 8) + within, (1 << 32) + within]),
+            2 => rng.pick(&[64, 65, 256, 257, usize::MAX]),
+            _ => rng.pick(&[limit, limit + 1]),
+        }
     };
     let mut slot = |old: usize| if rng.one_in(2) { wide(rng, table.n) } else { old };
     match action {
         Action::Lookup { at, key } => {
             let at = slot(at);
             let whole = 1u64 << table.m;
-            let keys = [whole, whole + key, (1 << 32) + key, u64::MAX, rng.next(), key];
+            let keys = [whole, whole + key, (1 << 32) + key, u64::MAX, rng.any(), key];
             Action::Lookup { at, key: rng.pick(&keys) }
         }
         Action::Join { node, seed } => Action::Join { node: slot(node), seed: slot(seed) },

@@ -155,7 +155,7 @@ impl Requests {
             _ => {
                 let length = rng.below(60);
                 for _ in 0..length {
-                    out.push(rng.next() as u8);
+                    out.push(rng.any() as u8);
                 }
                 out[from..].iter_mut().take(1).for_each(|kind| *kind %= 7);
             }

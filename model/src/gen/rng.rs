@@ -10,7 +10,7 @@ impl Rng {
         Rng(seed)
     }
 
-    pub fn next(&mut self) -> u64 {
+    pub fn any(&mut self) -> u64 {
         self.0 = self.0.wrapping_add(0x9e37_79b9_7f4a_7c15);
         let mut z = self.0;
         z = (z ^ (z >> 30)).wrapping_mul(0xbf58_476d_1ce4_e5b9);
@@ -20,7 +20,7 @@ impl Rng {
 
     /// A number below `limit`, which is not 0.
     pub fn below(&mut self, limit: usize) -> usize {
-        ((u128::from(self.next()) * limit as u128) >> 64) as usize
+        ((u128::from(self.any()) * limit as u128) >> 64) as usize
     }
 
     /// True in one of `many` cases.
@@ -54,10 +54,10 @@ impl Rng {
     pub fn subset(&mut self, set: u64) -> u64 {
         let chosen = match self.below(8) {
             0 | 1 => 0,
-            2 => self.next() & self.next() & self.next(),
-            3 => self.next() & self.next(),
-            4 => self.next(),
-            5 => self.next() | self.next(),
+            2 => self.any() & self.any() & self.any(),
+            3 => self.any() & self.any(),
+            4 => self.any(),
+            5 => self.any() | self.any(),
             6 => {
                 let most = 1 + self.below(3);
                 self.members(set, most)
@@ -72,7 +72,7 @@ impl Rng {
         match self.below(4) {
             0 | 1 => 0,
             2 => self.subset(set),
-            _ => self.next() & self.next() & self.next() & set,
+            _ => self.any() & self.any() & self.any() & set,
         }
     }
 

@@ -9,7 +9,7 @@ pub fn start(rng: &mut Rng) -> Request<'static> {
     let ring = ring(rng);
     let mut ids: Vec<u32> = ring.listed().iter().map(|node| node.id).collect();
     let (mut m, mut l) = (u64::from(ring.m), u64::from(ring.l));
-    let some = rng.next() & below(ring.n);
+    let some = rng.any() & below(ring.n);
     let mut ready = rng.pick(&[below(ring.n), some, 1]);
     let faults = rng.pick(&[0, 0, 0, 1, 1, 2]);
     for _ in 0..faults {

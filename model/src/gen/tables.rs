@@ -35,7 +35,7 @@ fn ids(rng: &mut Rng, m: u32) -> Vec<u32> {
 /// `n` rising ids: scattered, in a row, evenly apart, at the ends of the ring or in heaps.
 pub fn spread(rng: &mut Rng, whole: u64, n: usize) -> Vec<u32> {
     let around_0 = whole - 1 - rng.below(n) as u64;
-    let from = if rng.one_in(3) { around_0 } else { rng.next() % whole };
+    let from = if rng.one_in(3) { around_0 } else { rng.any() % whole };
     let apart = (whole / n as u64).max(1);
     let style = rng.below(6);
     let mut ids: Vec<u32> = (0..n as u64)
@@ -43,7 +43,7 @@ pub fn spread(rng: &mut Rng, whole: u64, n: usize) -> Vec<u32> {
             0 => from + nth,
             1 => from + nth * apart,
             2 => nth * apart,
-            _ => rng.next(),
+            _ => rng.any(),
         })
         .map(|id| (id % whole) as u32)
         .collect();
@@ -57,7 +57,7 @@ pub fn spread(rng: &mut Rng, whole: u64, n: usize) -> Vec<u32> {
     ids.dedup();
     while ids.len() < n {
         let near = rng.pick(&ids);
-        let id = if rng.one_in(2) { rng.next() } else { u64::from(near) + 1 + rng.below(3) as u64 } % whole;
+        let id = if rng.one_in(2) { rng.any() } else { u64::from(near) + 1 + rng.below(3) as u64 } % whole;
         if let Err(place) = ids.binary_search(&(id as u32)) {
             ids.insert(place, id as u32);
         }
@@ -115,7 +115,7 @@ pub fn sides(rng: &mut Rng, table: &Table, slot: usize, around: u64) -> Sides {
         5 => Sides::EMPTY,
         6 => Sides { left: nearest.right, right: nearest.left },
         7 => rng.pick(&[Sides { left: 0, ..nearest }, Sides { right: 0, ..nearest }]),
-        8 => view.add(slot, Sides::EMPTY, rng.next() & others),
+        8 => view.add(slot, Sides::EMPTY, rng.any() & others),
         9 => Sides { left: rng.members(others, l), right: rng.members(others, l) },
         _ => {
             let (left, right) = (rng.below(l + 1), rng.below(l + 1));
@@ -128,7 +128,7 @@ pub fn sides(rng: &mut Rng, table: &Table, slot: usize, around: u64) -> Sides {
 pub fn settled(rng: &mut Rng) -> Case {
     let mut table = ring(rng);
     let listed = below(table.n);
-    let some = rng.next() & listed;
+    let some = rng.any() & listed;
     let ready = rng.pick(&[listed, some, some]) | bit(rng.below(table.n));
     for slot in 0..table.n {
         table.nodes[slot].status = if ready & bit(slot) != 0 { Status::Ready } else { Status::Dead };

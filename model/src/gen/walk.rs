@@ -23,7 +23,7 @@ impl Walk {
         let ready = match rng.below(3) {
             0 => 1 << rng.below(ring.n),
             1 => below(ring.n),
-            _ => rng.next() & below(ring.n),
+            _ => rng.any() & below(ring.n),
         };
         let ready = if ready == 0 { 1 } else { ready };
         let mut case = Case { table: Table::BLANK, pool: EMPTY_POOL };

@@ -96,7 +96,7 @@ pub fn judge(request: &[u8]) -> Verdict {
     let rest = &request[1 + arguments..];
     match request[0] {
         1 if !(1..=6).contains(&words[0]) => malformed(),
-        2 if rest.len() % 4 != 0 => malformed(),
+        2 if !rest.len().is_multiple_of(4) => malformed(),
         2 => others::start(words[0], words[1], words[2], rest),
         4 => Verdict::done(others::listing(rest)),
         kind => {

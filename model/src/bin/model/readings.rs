@@ -33,8 +33,7 @@ pub fn readings(seed: u64, count: u64) -> io::Result<bool> {
         }
     }
     println!("{} misreadings, {count} requests of seed {seed}", records.len());
-    let good = records.iter().map(|record| report(record)).filter(|good| !good).count() == 0;
-    Ok(good)
+    Ok(records.iter().map(report).filter(|good| !good).count() == 0)
 }
 
 /// Prints one line; true if the misreading is told apart, or equivalent and not told apart.

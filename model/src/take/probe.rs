@@ -1,10 +1,10 @@
-//! Take, by kind of message.
+//! Messages that build leaf sets: kinds 3, 4 and 5.
 
+use crate::change::{Change, Scene};
 use crate::marks::{bit, has, slots};
 use crate::message::Message;
 use crate::reading::{Reading, Slip};
 use crate::refusal::{refuse_if, Refusal};
-use crate::step::{Change, Scene};
 use crate::table::{Sides, Status};
 use crate::view::View;
 
@@ -16,85 +16,14 @@ struct Heard {
 }
 
 impl<R: Reading> Scene<'_, R> {
-    #[inline]
-    pub(crate) fn take(&self, place: usize) -> Result<Change, Refusal> {
-        let i = self.pool[place].to();
-        let mut change = self.change(i);
-        change.taken = Some(place);
-        match self.pool[place] {
-            Message::Lookup { key, .. } => self.take_lookup(&mut change, key),
-            Message::JoinRequest { node, routing, .. } => {
-                self.take_join_request(&mut change, node.into(), routing)
-            }
-            Message::JoinReply { owner, routing, sides, .. } => {
-                self.take_join_reply(&mut change, routing, sides.content(owner.into()))
-            }
-            Message::LsProbe { node, sides, failed, .. } => {
-                self.take_probe(&mut change, node.into(), sides, failed)
-            }
-            Message::LsProbeReply { node, sides, failed, .. } => {
-                self.take_probe_reply(&mut change, node.into(), sides, failed)
-            }
-            Message::LeaseRequest { node, .. } => self.take_lease_request(&mut change, node.into()),
-            Message::BroadcastLSet { owner, sides, grant, .. } => {
-                self.take_broadcast(&mut change, owner.into(), sides, grant)
-            }
-            Message::NoLegalRoute { .. } | Message::Blank => self.take_no_route(&change),
-        }?;
-        Ok(change)
-    }
-
-    /// Delivers where i covers the key, else routes.
-    #[inline]
-    fn take_lookup(&self, change: &mut Change, key: u32) -> Result<(), Refusal> {
-        let i = change.slot;
-        self.needs_ready(change)?;
-        if self.view.covers(i, key) {
-            return Ok(());
-        }
-        let Some(hop) = self.view.next_hop(i, key) else {
-            return self.no_route(change, key);
-        };
-        change.send(self, Message::Lookup { to: hop as u8, key });
-        Ok(())
-    }
-
-    fn needs_ready(&self, change: &Change) -> Result<(), Refusal> {
-        let ok = self.view.r.takes(Slip::OkRoutes) && change.node.status == Status::Ok;
-        refuse_if(change.node.status != Status::Ready && !ok, Refusal::Status)
-    }
-
-    fn no_route(&self, change: &mut Change, key: u32) -> Result<(), Refusal> {
-        if !self.view.r.takes(Slip::NoRouteDropped) {
-            change.send(self, Message::NoLegalRoute { to: change.slot as u8, key });
-        }
-        Ok(())
-    }
-
-    #[inline]
-    fn take_join_request(&self, change: &mut Change, j: usize, told: u64) -> Result<(), Refusal> {
-        let (view, r, i) = (&self.view, self.view.r, change.slot);
-        let node = change.node;
-        self.needs_ready(change)?;
-        let known = node.sides.content(i) & !r.pick(Slip::JoinContentWithoutI, bit(i), 0);
-        refuse_if(has(known, j) && !r.takes(Slip::JoinOfMember), Refusal::Partner)?;
-        let key = view.table.id(j);
-        if view.covers(i, key) {
-            let routing = told | r.pick(Slip::ReplyCarriesRouting, node.routing, 0);
-            change.send(self, Message::JoinReply { to: j as u8, owner: i as u8, routing, sides: node.sides });
-            return Ok(());
-        }
-        let Some(hop) = view.next_hop(i, key) else {
-            return self.no_route(change, r.pick(Slip::NoRouteNamesSlot, j as u32, key));
-        };
-        let routing = told | r.pick(Slip::ForwardKeepsRouting, 0, node.routing);
-        change.send(self, Message::JoinRequest { to: hop as u8, node: j as u8, routing });
-        Ok(())
-    }
-
     /// `told` is the content of the leaf set in the reply.
     #[inline]
-    fn take_join_reply(&self, change: &mut Change, routing: u64, told: u64) -> Result<(), Refusal> {
+    pub(super) fn take_join_reply(
+        &self,
+        change: &mut Change,
+        routing: u64,
+        told: u64,
+    ) -> Result<(), Refusal> {
         let (view, r, i) = (&self.view, self.view.r, change.slot);
         let node = change.node;
         let dead = node.status == Status::Dead;
@@ -130,7 +59,13 @@ impl<R: Reading> Scene<'_, R> {
     }
 
     #[inline]
-    fn take_probe(&self, change: &mut Change, j: usize, told: Sides, lost: u64) -> Result<(), Refusal> {
+    pub(super) fn take_probe(
+        &self,
+        change: &mut Change,
+        j: usize,
+        told: Sides,
+        lost: u64,
+    ) -> Result<(), Refusal> {
         let (r, i) = (self.view.r, change.slot);
         self.needs_leaf_set(change)?;
         refuse_if(j == i, Refusal::Partner)?;
@@ -152,7 +87,13 @@ impl<R: Reading> Scene<'_, R> {
     }
 
     #[inline]
-    fn take_probe_reply(&self, change: &mut Change, j: usize, told: Sides, lost: u64) -> Result<(), Refusal> {
+    pub(super) fn take_probe_reply(
+        &self,
+        change: &mut Change,
+        j: usize,
+        told: Sides,
+        lost: u64,
+    ) -> Result<(), Refusal> {
         let (view, r, i) = (&self.view, self.view.r, change.slot);
         let node = change.node;
         self.needs_leaf_set(change)?;
@@ -206,66 +147,6 @@ impl<R: Reading> Scene<'_, R> {
         node.routing |= r.pick(Slip::RoutingGainsNothing, 0, bit(j));
         node.routing |= r.pick(Slip::RoutingGainsContent, told.content(j), 0);
         node.probing = probing;
-    }
-
-    /// A NoLegalRoute never leaves.
-    fn take_no_route(&self, change: &Change) -> Result<(), Refusal> {
-        let r = self.view.r;
-        let dead = change.node.status == Status::Dead;
-        refuse_if(r.takes(Slip::NoRouteTwoFirst) && dead, Refusal::Status)?;
-        refuse_if(!r.takes(Slip::NoRouteTaken), Refusal::Partner)
-    }
-
-    #[inline]
-    fn take_lease_request(&self, change: &mut Change, j: usize) -> Result<(), Refusal> {
-        let (view, r, i) = (&self.view, self.view.r, change.slot);
-        let sides = change.node.sides;
-        refuse_if(!change.node.status.is_member(), Refusal::Status)?;
-        refuse_if(view.is_empty(sides) && !r.takes(Slip::RequestToEmpty), Refusal::LeafSet)?;
-        let near = if r.takes(Slip::GrantToMembers) {
-            has(sides.content(i), j)
-        } else {
-            view.neighbours(i, sides).include(j)
-        };
-        if near || r.takes(Slip::GrantToAnyone) {
-            change.node.grant |= bit(j);
-        }
-        let grant = near || r.takes(Slip::FlagAlwaysSet);
-        change.send(self, Message::BroadcastLSet { to: j as u8, owner: i as u8, sides, grant });
-        Ok(())
-    }
-
-    #[inline]
-    fn take_broadcast(&self, change: &mut Change, j: usize, told: Sides, grant: bool) -> Result<(), Refusal> {
-        let (view, r, i) = (&self.view, self.view.r, change.slot);
-        let node = change.node;
-        let news = told.content(j) & !r.pick(Slip::BroadcastAddsFailed, 0, node.failed);
-        let sides = view.add(i, node.sides, news);
-        let judged = r.pick(Slip::CompleteAfterAdding, sides, node.sides);
-        refuse_if(!node.status.is_member(), Refusal::Status)?;
-        refuse_if(j == i && r.takes(Slip::BroadcastFiveBeforeFour), Refusal::Partner)?;
-        refuse_if(!view.is_complete(judged), Refusal::LeafSet)?;
-        refuse_if(j == i, Refusal::Partner)?;
-        let (old, new) = (view.neighbours(i, node.sides), view.neighbours(i, sides));
-        let near = r.pick(Slip::LeaseFromOldNeighbour, old, new).include(j) || r.takes(Slip::LeaseFromAnyone);
-        change.node.sides = sides;
-        if (grant || r.takes(Slip::LeaseWithoutFlag)) && near {
-            change.node.lease |= bit(j);
-        }
-        let lease = r.pick(Slip::ReadyBeforeGain, node.lease, change.node.lease);
-        let held = match new.marks() & !lease {
-            0 => true,
-            lacking => r.takes(Slip::ReadyWithOneLease) && lacking != new.marks(),
-        };
-        let same = new == old
-            || r.takes(Slip::ReadyWhenChanged)
-            || r.takes(Slip::ReadyWhenSwapped) && new.marks() == old.marks();
-        if held && same {
-            change.node.status = Status::Ready;
-        } else if r.takes(Slip::BroadcastDemotes) {
-            change.node.status = Status::Ok;
-        }
-        Ok(())
     }
 }
 
