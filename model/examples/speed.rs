@@ -23,10 +23,10 @@ fn ring(n: usize, count: usize) -> (Table, Pool) {
     let (mut table, mut pool) = (Table::BLANK, EMPTY_POOL);
     let ids: Vec<u32> = (0..n as u32).map(|slot| slot * (u32::MAX / n as u32) + slot).collect();
     start(32, 4, &ids, u64::MAX >> (64 - n), &mut table, &mut pool).expect("the start is right");
-    for place in 0..count {
+    for (place, message) in pool[..count].iter_mut().enumerate() {
         let (to, node) = ((place % n) as u8, ((place * 7 + place / 64) % n) as u8);
         let (sides, mark) = (table.nodes[usize::from(node)].sides, 1u64 << (place % n));
-        pool[place] = match place * 5 % 8 {
+        *message = match place * 5 % 8 {
             0 => Message::Lookup { to, key: place as u32 },
             1 => Message::JoinRequest { to, node, routing: mark },
             2 => Message::JoinReply { to, owner: node, routing: mark, sides },

@@ -9,10 +9,6 @@ use crate::table::Status;
 use crate::view::Neighbours;
 
 impl<R: Reading> Scene<'_, R> {
-    fn waiting(&self) -> &[Message] {
-        &self.pool[..self.view.table.count]
-    }
-
     #[inline]
     pub fn lookup(&self, change: &mut Change, key: u32) -> Result<(), Refusal> {
         let r = self.view.r;
@@ -35,7 +31,8 @@ impl<R: Reading> Scene<'_, R> {
             Status::Ready => true,
             status => r.takes(Slip::JoinSeedOk) && status == Status::Ok,
         };
-        let allowed = node.status == Status::Dead && seed_serves;
+        let joins = node.status == Status::Dead || r.takes(Slip::JoinFromWait) && node.status == Status::Wait;
+        let allowed = joins && seed_serves;
         let waits = || self.waiting().iter().any(|message| self.is_request_of(message, i, seed));
         let full = !self.view.is_empty(node.sides);
         refuse_if(r.takes(Slip::JoinThreeBeforeTwo) && waits(), Refusal::Waits)?;
@@ -66,13 +63,16 @@ impl<R: Reading> Scene<'_, R> {
     pub fn request_lease(&self, change: &mut Change) -> Result<(), Refusal> {
         let (view, r, i, node) = (&self.view, self.view.r, change.slot, change.node);
         let allowed = node.status == Status::Ok || r.takes(Slip::RequestWhenReady) && node.status.is_member();
+        let empty = view.is_empty(node.sides);
+        refuse_if(r.takes(Slip::RequestFourBeforeTwo) && empty, Refusal::LeafSet)?;
         refuse_if(!allowed, Refusal::Status)?;
-        refuse_if(view.is_empty(node.sides), Refusal::LeafSet)?;
+        refuse_if(empty, Refusal::LeafSet)?;
         let Neighbours(left, right) = view.neighbours(i, node.sides);
         let (first, second) = r.pick(Slip::RequestRightFirst, (right, left), (left, right));
         let lacks = |to: usize| {
             let held = has(node.lease, to) && !r.takes(Slip::RequestAlways);
-            !held && !(r.takes(Slip::RequestNotItself) && to == i)
+            let spared = r.takes(Slip::RequestNotItself) && to == i;
+            !held && !spared
         };
         let message = |to: usize| Message::LeaseRequest { to: to as u8, node: i as u8 };
         if lacks(first) {
@@ -87,9 +87,11 @@ impl<R: Reading> Scene<'_, R> {
     #[inline]
     pub fn lease_expired(&self, change: &mut Change, j: usize) -> Result<(), Refusal> {
         let (view, r, i, node) = (&self.view, self.view.r, change.slot, change.node);
-        refuse_if(!self.serves(node.status), Refusal::Status)?;
         let own = i == j && !r.takes(Slip::ExpiryOfOwn);
-        refuse_if(own || !has(node.lease, j), Refusal::Partner)?;
+        let stranger = own || !has(node.lease, j);
+        refuse_if(r.takes(Slip::ExpiryFiveBeforeTwo) && stranger, Refusal::Partner)?;
+        refuse_if(!self.serves(node.status), Refusal::Status)?;
+        refuse_if(stranger, Refusal::Partner)?;
         let near = view.neighbours(i, node.sides).include(j) || r.takes(Slip::AnyExpiryDemotes);
         change.node.lease &= !bit(j);
         if node.status == Status::Ready && near && !r.takes(Slip::ExpiryKeepsReady) {
@@ -101,14 +103,16 @@ impl<R: Reading> Scene<'_, R> {
     #[inline]
     pub fn grant_expired(&self, change: &mut Change, j: usize) -> Result<(), Refusal> {
         let (r, i, node) = (self.view.r, change.slot, change.node);
-        refuse_if(!self.serves(node.status), Refusal::Status)?;
         let own = i == j && !r.takes(Slip::ExpiryOfOwn);
         let lease = self.view.table.nodes[j].lease;
         let mut held = has(lease, i) && !r.takes(Slip::GrantIgnoresLease);
         if r.takes(Slip::GrantLooksAtOwnLease) {
             held = has(node.lease, j);
         }
-        refuse_if(own || !has(node.grant, j) || held, Refusal::Partner)?;
+        let stranger = own || !has(node.grant, j) || held;
+        refuse_if(r.takes(Slip::ExpiryFiveBeforeTwo) && stranger, Refusal::Partner)?;
+        refuse_if(!self.serves(node.status), Refusal::Status)?;
+        refuse_if(stranger, Refusal::Partner)?;
         change.node.grant &= !bit(j);
         Ok(())
     }

@@ -3,6 +3,7 @@
 use crate::index::Index;
 use crate::message::{Message, Pool};
 use crate::reading::{Reading, Slip};
+use crate::slips;
 use crate::table::{Node, Table};
 use crate::view::View;
 
@@ -11,6 +12,12 @@ pub(crate) struct Scene<'a, R> {
     pub view: View<'a, R>,
     pub pool: &'a Pool,
     pub index: &'a Index,
+}
+
+impl<R: Reading> Scene<'_, R> {
+    pub fn waiting(&self) -> &[Message] {
+        &self.pool[..self.view.table.count]
+    }
 }
 
 /// One node's new content, the message taken and the messages added.
@@ -53,7 +60,10 @@ impl Change {
     pub fn send<R: Reading>(&mut self, scene: &Scene<R>, message: Message) {
         let r = scene.view.r;
         self.sent += 1;
-        let fresh = scene.index.find(scene.pool, &message).is_none() || r.takes(Slip::EqualKept);
+        let mut fresh = scene.index.find(scene.pool, &message).is_none() || r.takes(Slip::EqualKept);
+        if r.takes(Slip::EqualWithoutSets) {
+            fresh = !scene.waiting().iter().any(|other| slips::same_ends(other, &message));
+        }
         self.fresh += usize::from(fresh);
         if fresh || r.takes(Slip::EqualMovesToEnd) {
             self.added[self.len] = message;

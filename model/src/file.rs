@@ -5,7 +5,7 @@ use crate::message::{Fields, Message, Pool, EMPTY_POOL};
 use crate::reading::{Reading, Right, Slip};
 use crate::refusal::{refuse_if, Refusal};
 use crate::table::{Node, Sides, Status, Table};
-use crate::valid::{check, lent, lent_mut};
+use crate::valid::{check, in_limits, lent, lent_mut};
 
 pub const HEADER: usize = 32;
 pub const NODE: usize = 64;
@@ -75,9 +75,7 @@ impl Header {
 
     #[inline]
     fn in_range<R: Reading>(&self, r: R) -> bool {
-        let counts = Table::M.contains(&self.m)
-            && Table::L.contains(&self.l)
-            && (1..=Table::NODES as u32).contains(&self.n)
+        let counts = in_limits(r, self.m, self.l, self.n as usize)
             && self.count <= Table::MESSAGES as u32 - r.pick(Slip::Count256Refused, 1, 0);
         let crowded = r.takes(Slip::CrowdedIsEight) && u64::from(self.n) > 1 << (self.m & 63);
         counts && (self.last == 0 || r.takes(Slip::LastWordFree)) && !crowded

@@ -14,6 +14,9 @@ impl<R: Reading> View<'_, R> {
         let leaves = node.sides.content(i);
         let usable = self.usable(node);
         if self.leaf_branch(i, key) {
+            if self.r.takes(Slip::LeafNotNearer) {
+                return self.nearest(leaves & usable & !bit(i), key);
+            }
             let hop = self.nearest_nearer(leaves & usable, i, key);
             if hop.is_some() || !self.r.takes(Slip::LeafFallsThrough) {
                 return hop;

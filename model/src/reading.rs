@@ -129,6 +129,8 @@ slips! {
 
     /// The next hop is nearer by plain distance, without the tie.
     HopPlainDistance,
+    /// The leaf branch takes the nearest other node, nearer than i or not.
+    LeafNotNearer,
     /// The test for the leaf branch names the key.
     LeafTestNamesKey,
     /// The test for the leaf branch does not look at overlap.
@@ -158,6 +160,8 @@ slips! {
 
     /// Equal messages are kept twice.
     EqualKept,
+    /// Messages that differ in their sets or flag only are held equal.
+    EqualWithoutSets,
     /// Of two equal messages the new one stays, at the end.
     EqualMovesToEnd,
     /// Messages are added at the front.
@@ -189,6 +193,8 @@ slips! {
     JoinFourBeforeThree,
     /// Join gives 3 only for a request that waits at the same seed.
     JoinWaitsAtSeed,
+    /// Join takes a node that waits.
+    JoinFromWait,
     /// Join takes a seed that is ok.
     JoinSeedOk,
     /// Join takes any leaf set.
@@ -201,6 +207,8 @@ slips! {
     JoinResetsRouting,
     /// Join at oneself is refused as 5.
     JoinOfItselfIsFive,
+    /// RequestLease and kind 7 give 4 before 2.
+    RequestFourBeforeTwo,
     /// RequestLease also from a ready node.
     RequestWhenReady,
     /// RequestLease also to neighbours in lease.
@@ -209,6 +217,8 @@ slips! {
     RequestRightFirst,
     /// RequestLease never sends to the node itself.
     RequestNotItself,
+    /// LeaseExpired and GrantExpired give 5 before 2.
+    ExpiryFiveBeforeTwo,
     /// LeaseExpired and GrantExpired also while waiting.
     ExpiryWhenWait,
     /// LeaseExpired and GrantExpired also for i = j.
@@ -234,6 +244,8 @@ slips! {
     NoRouteTaken,
     /// NoLegalRoute gives 2 at a dead node.
     NoRouteTwoFirst,
+    /// Kind 2 gives 5 before 2.
+    JoinFiveBeforeTwo,
     /// Kind 2 gives 5 for members other than i only.
     JoinContentWithoutI,
     /// Kind 2 never gives 5.
@@ -251,6 +263,10 @@ slips! {
     ReplyOnlyWait,
     /// Kind 3 leaves failed as it is.
     ReplyKeepsFailed,
+    /// Kind 3 leaves the owner out of the content.
+    ReplyWithoutOwner,
+    /// Kind 3 probes all of m's content.
+    ReplyProbesAllTold,
     /// Kind 3 drops m's routing set.
     ReplyRoutingLost,
     /// Kind 3 does not add the content to the routing set.
@@ -260,6 +276,8 @@ slips! {
 
     // Take of kinds 4 and 5.
 
+    /// Kinds 4 and 5 give 5 before 4.
+    ProbeFiveBeforeFour,
     /// Kinds 4 and 5 give 4 for an empty leaf set whatever the status.
     ProbeFourAnyStatus,
     /// j stays in failed.
@@ -306,6 +324,8 @@ slips! {
     OkWhileProbing,
     /// Kind 5 makes a node ok from any status.
     OkFromAnyStatus,
+    /// Kind 5 makes a node ok whatever its leaf set.
+    OkAlways,
     /// Kind 5 judges the old leaf set for ok.
     OkJudgesOldSet,
     /// Kind 5 asks for a complete leaf set, overlap or not.
@@ -315,6 +335,8 @@ slips! {
 
     /// Kind 7 is taken with an empty leaf set.
     RequestToEmpty,
+    /// Kind 7 sets the flag and does not keep the grant.
+    GrantNotKept,
     /// Kind 7 grants to any member of the leaf set.
     GrantToMembers,
     /// Kind 7 grants to anyone, and flags neighbours only.
@@ -327,6 +349,8 @@ slips! {
     CompleteAfterAdding,
     /// Kind 8 adds failed nodes too.
     BroadcastAddsFailed,
+    /// Kind 8 adds m's content to the routing set.
+    BroadcastGainsRouting,
     /// Kind 8 gains the lease of an old neighbour.
     LeaseFromOldNeighbour,
     /// Kind 8 gains the lease of anyone.
@@ -409,6 +433,8 @@ slips! {
     NineBeforeEight,
     /// The last header word may be anything.
     LastWordFree,
+    /// M = 32, L = 8 and n = 64 are too many.
+    TopsRefused,
     /// 256 messages are too many.
     Count256Refused,
     /// More nodes than ids give 8.

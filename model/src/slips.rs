@@ -1,6 +1,7 @@
 //! Bodies of misreadings that are longer than a word.
 
-use crate::marks::{bit, slots};
+use crate::marks::{bit, keep_down, keep_up, slots};
+use crate::message::Message;
 use crate::reading::{Reading, Slip};
 use crate::table::Sides;
 use crate::view::View;
@@ -19,6 +20,15 @@ pub(crate) fn signed_most<R: Reading>(
 ) -> Option<usize> {
     let id = |slot| view.table.id(slot);
     slots(set).find(|&most| slots(set).all(|other| other == most || signed(id(most), id(other)) < 0))
+}
+
+/// Equal but for the sets and the flag.
+pub(crate) fn same_ends(one: &Message, other: &Message) -> bool {
+    let ends = |message: &Message| {
+        let fields = message.fields();
+        (fields.kind, fields.to, fields.node_or_key, fields.owner)
+    };
+    ends(one) == ends(other)
 }
 
 /// The misreadings of adding to a leaf set.
@@ -54,7 +64,7 @@ fn add_half_each<R: Reading>(view: &View<R>, owner: usize, sides: Sides, set: u6
     let up = slots(set).filter(above).fold(0, |kept, slot| kept | bit(slot));
     let (left, right) = ((sides.left | up) & !bit(owner), (sides.right | (set & !up)) & !bit(owner));
     let l = view.table.l;
-    Sides { left: crate::marks::keep_up(left, owner, l), right: crate::marks::keep_down(right, owner, l) }
+    Sides { left: keep_up(left, owner, l), right: keep_down(right, owner, l) }
 }
 
 fn add_only_to_room<R: Reading>(view: &View<R>, owner: usize, sides: Sides, set: u64) -> Sides {
@@ -62,8 +72,8 @@ fn add_only_to_room<R: Reading>(view: &View<R>, owner: usize, sides: Sides, set:
     let room = |side: u64| l.saturating_sub(side.count_ones());
     let (left, right) = (set & !sides.left, set & !sides.right);
     Sides {
-        left: sides.left | crate::marks::keep_up(left, owner, room(sides.left)),
-        right: sides.right | crate::marks::keep_down(right, owner, room(sides.right)),
+        left: sides.left | keep_up(left, owner, room(sides.left)),
+        right: sides.right | keep_down(right, owner, room(sides.right)),
     }
 }
 

@@ -6,7 +6,7 @@ use crate::reading::{Reading, Right, Slip};
 use crate::refusal::{refuse_if, Refusal};
 use crate::ring::Ring;
 use crate::table::{Node, Sides, Status, Table};
-use crate::valid::lent_mut;
+use crate::valid::{in_limits, lent_mut};
 use crate::view::View;
 
 /// Starts the nodes of `ready` as ready and the others as dead, or refuses and changes nothing.
@@ -32,8 +32,7 @@ pub fn start_as<R: Reading>(
 ) -> Result<(), Refusal> {
     let pool = lent_mut(pool)?;
     let (bits, most) = (u32::try_from(m).unwrap_or(0), u32::try_from(l).unwrap_or(0));
-    let counts =
-        Table::M.contains(&bits) && Table::L.contains(&most) && (1..=Table::NODES).contains(&ids.len());
+    let counts = in_limits(r, bits, most, ids.len());
     let rising = ids.windows(2).all(|pair| pair[0] < pair[1]);
     if r.takes(Slip::StartTenBeforeEight) {
         refuse_if(!rising || ready == 0, Refusal::Invalid)?;

@@ -21,6 +21,14 @@ pub(crate) fn lent_mut(pool: &mut [Message]) -> Result<&mut Pool, Refusal> {
     pool.try_into().map_err(|_| Refusal::Invalid)
 }
 
+/// Whether M, L and the number of nodes are in range.
+#[inline]
+pub(crate) fn in_limits<R: Reading>(r: R, m: u32, l: u32, n: usize) -> bool {
+    let tops = m == 32 || l == 8 || n == 64;
+    let ranges = Table::M.contains(&m) && Table::L.contains(&l) && (1..=Table::NODES).contains(&n);
+    ranges && !(r.takes(Slip::TopsRefused) && tops)
+}
+
 /// Refuses an invalid table; of a valid one notes every message in the index.
 #[inline]
 pub(crate) fn check<R: Reading>(r: R, table: &Table, pool: &Pool, index: &mut Index) -> Result<(), Refusal> {
@@ -48,10 +56,7 @@ impl<R: Reading> Limits<R> {
     #[inline]
     fn of(r: R, table: &Table) -> Result<Limits<R>, Refusal> {
         let Table { m, l, n, count, .. } = *table;
-        let ranges = Table::M.contains(&m)
-            && Table::L.contains(&l)
-            && (1..=Table::NODES).contains(&n)
-            && count <= Table::MESSAGES;
+        let ranges = in_limits(Right, m, l, n) && count <= Table::MESSAGES;
         refuse_if(!ranges, Refusal::Invalid)?;
         let top = r.pick(Slip::IdAtN, 1 << m, (1 << m) - 1);
         let listed = r.pick(Slip::MarkPastN, !0, below(n));

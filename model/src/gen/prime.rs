@@ -163,9 +163,14 @@ fn fit_failed(rng: &mut Rng, node: &mut Node, i: usize, j: usize, others: u64) {
     match rng.below(6) {
         0 => node.failed = rng.any() & others,
         1 => node.failed |= sender,
-        2 if node.sides.left != 0 => {
-            let out = bit(rng.member(node.sides.left));
-            node.sides = Sides { left: node.sides.left & !out | sender, right: node.sides.right & !sender };
+        2 => {
+            let Sides { left, right } = node.sides;
+            let alone = [
+                Sides { left: sender, right: right & !sender },
+                Sides { left: left & !sender, right: sender },
+                Sides { left: sender, right: 0 },
+            ];
+            node.sides = rng.pick(&alone);
             node.failed |= sender;
         }
         3 => node.sides = Sides { left: node.sides.left & !sender, right: node.sides.right & !sender },
@@ -215,9 +220,9 @@ fn crowd(rng: &mut Rng, case: &mut Case, action: Action) -> Action {
     let count = match rng.below(24) {
         0 => 255,
         1 => 256,
-        2 | 3 => (brink + rng.below(3)).saturating_sub(1).min(Table::MESSAGES),
-        4 => rng.below(257),
-        5..=9 => rng.below(30),
+        2..=5 => (brink + rng.below(3)).saturating_sub(1).min(Table::MESSAGES),
+        6 => rng.below(257),
+        7..=11 => rng.below(30),
         _ => 0,
     };
     fill(rng, case, count);

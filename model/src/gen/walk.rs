@@ -72,7 +72,8 @@ fn any(rng: &mut Rng, case: &Case) -> Action {
             rng.member(set)
         }
     };
-    let action = match rng.below(24) {
+    let kinds = if table.count == 0 && !rng.one_in(20) { 9 } else { 24 };
+    let action = match rng.below(kinds) {
         0 => Action::Lookup { at: rng.below(n), key: key(rng, table).into() },
         1..=3 => Action::Join { node: with(rng, Status::Dead), seed: with(rng, Status::Ready) },
         4..=6 => Action::RequestLease { node: with(rng, Status::Ok) },

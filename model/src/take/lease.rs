@@ -12,14 +12,16 @@ impl<R: Reading> Scene<'_, R> {
     pub(super) fn take_lease_request(&self, change: &mut Change, j: usize) -> Result<(), Refusal> {
         let (view, r, i) = (&self.view, self.view.r, change.slot);
         let sides = change.node.sides;
+        let empty = view.is_empty(sides) && !r.takes(Slip::RequestToEmpty);
+        refuse_if(r.takes(Slip::RequestFourBeforeTwo) && empty, Refusal::LeafSet)?;
         refuse_if(!change.node.status.is_member(), Refusal::Status)?;
-        refuse_if(view.is_empty(sides) && !r.takes(Slip::RequestToEmpty), Refusal::LeafSet)?;
+        refuse_if(empty, Refusal::LeafSet)?;
         let near = if r.takes(Slip::GrantToMembers) {
             has(sides.content(i), j)
         } else {
             view.neighbours(i, sides).include(j)
         };
-        if near || r.takes(Slip::GrantToAnyone) {
+        if near && !r.takes(Slip::GrantNotKept) || r.takes(Slip::GrantToAnyone) {
             change.node.grant |= bit(j);
         }
         let grant = near || r.takes(Slip::FlagAlwaysSet);
@@ -47,6 +49,7 @@ impl<R: Reading> Scene<'_, R> {
         let (old, new) = (view.neighbours(i, node.sides), view.neighbours(i, sides));
         let near = r.pick(Slip::LeaseFromOldNeighbour, old, new).include(j) || r.takes(Slip::LeaseFromAnyone);
         change.node.sides = sides;
+        change.node.routing |= r.pick(Slip::BroadcastGainsRouting, told.content(j), 0);
         if (grant || r.takes(Slip::LeaseWithoutFlag)) && near {
             change.node.lease |= bit(j);
         }

@@ -22,7 +22,7 @@ impl<R: Reading> Scene<'_, R> {
                 self.take_join_request(change, node.into(), routing)
             }
             Message::JoinReply { owner, routing, sides, .. } => {
-                self.take_join_reply(change, routing, sides.content(owner.into()))
+                self.take_join_reply(change, owner.into(), routing, sides)
             }
             Message::LsProbe { node, sides, failed, .. } => {
                 self.take_probe(change, node.into(), sides, failed)

@@ -16,23 +16,24 @@ struct Heard {
 }
 
 impl<R: Reading> Scene<'_, R> {
-    /// `told` is the content of the leaf set in the reply.
     #[inline]
     pub(super) fn take_join_reply(
         &self,
         change: &mut Change,
+        owner: usize,
         routing: u64,
-        told: u64,
+        told: Sides,
     ) -> Result<(), Refusal> {
         let (view, r, i) = (&self.view, self.view.r, change.slot);
         let node = change.node;
+        let told = told.content(owner) & !r.pick(Slip::ReplyWithoutOwner, bit(owner), 0);
         let dead = node.status == Status::Dead;
         refuse_if(dead || r.takes(Slip::ReplyOnlyWait) && node.status != Status::Wait, Refusal::Status)?;
         refuse_if(node.probing != 0 && r.takes(Slip::ReplyFiveBeforeFour), Refusal::Partner)?;
         refuse_if(!view.is_empty(node.sides), Refusal::LeafSet)?;
         refuse_if(node.probing != 0, Refusal::Partner)?;
         let sides = view.add(i, node.sides, told);
-        let probing = sides.content(i) & !bit(i);
+        let probing = r.pick(Slip::ReplyProbesAllTold, told, sides.content(i)) & !bit(i);
         change.node.routing |= r.pick(Slip::ReplyRoutingLost, 0, routing);
         change.node.routing |= r.pick(Slip::ReplyContentLost, 0, told);
         change.node.sides = sides;
@@ -67,6 +68,7 @@ impl<R: Reading> Scene<'_, R> {
         lost: u64,
     ) -> Result<(), Refusal> {
         let (r, i) = (self.view.r, change.slot);
+        refuse_if(r.takes(Slip::ProbeFiveBeforeFour) && j == i, Refusal::Partner)?;
         self.needs_leaf_set(change)?;
         refuse_if(j == i, Refusal::Partner)?;
         let heard = self.view.hear(i, j, told, lost);
@@ -96,8 +98,9 @@ impl<R: Reading> Scene<'_, R> {
     ) -> Result<(), Refusal> {
         let (view, r, i) = (&self.view, self.view.r, change.slot);
         let node = change.node;
-        self.needs_leaf_set(change)?;
         let asked = has(node.probing, j) || r.takes(Slip::ReplyFromAnyone);
+        refuse_if(r.takes(Slip::ProbeFiveBeforeFour) && !asked, Refusal::Partner)?;
+        self.needs_leaf_set(change)?;
         refuse_if(j == i || !asked, Refusal::Partner)?;
         let heard = view.hear(i, j, told, lost);
         let gone =
@@ -123,7 +126,7 @@ impl<R: Reading> Scene<'_, R> {
     /// Overlaps or is complete.
     fn whole(&self, sides: Sides) -> bool {
         let overlap = self.view.overlap(sides) && !self.view.r.takes(Slip::OkOnlyComplete);
-        overlap || self.view.is_complete(sides)
+        overlap || self.view.is_complete(sides) || self.view.r.takes(Slip::OkAlways)
     }
 
     /// Not dead, and not wait with an empty leaf set.

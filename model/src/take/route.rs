@@ -39,9 +39,11 @@ impl<R: Reading> Scene<'_, R> {
     pub(super) fn take_join_request(&self, change: &mut Change, j: usize, told: u64) -> Result<(), Refusal> {
         let (view, r, i) = (&self.view, self.view.r, change.slot);
         let node = change.node;
-        self.needs_ready(change)?;
         let known = node.sides.content(i) & !r.pick(Slip::JoinContentWithoutI, bit(i), 0);
-        refuse_if(has(known, j) && !r.takes(Slip::JoinOfMember), Refusal::Partner)?;
+        let member = has(known, j) && !r.takes(Slip::JoinOfMember);
+        refuse_if(r.takes(Slip::JoinFiveBeforeTwo) && member, Refusal::Partner)?;
+        self.needs_ready(change)?;
+        refuse_if(member, Refusal::Partner)?;
         let key = view.table.id(j);
         if view.covers(i, key) {
             let routing = told | r.pick(Slip::ReplyCarriesRouting, node.routing, 0);
