@@ -141,7 +141,8 @@ fn message(rng: &mut Rng, file: &mut [u8], sound: &Sound) {
         return flip(rng, file);
     }
     let first = HEADER + NODE * sound.n;
-    let wanted = 1 + rng.below(8) as u32;
+    let flag = rng.one_in(10);
+    let wanted = if flag { 8 } else { 1 + rng.below(8) as u32 };
     let records: Vec<usize> = (0..sound.count).map(|place| first + MESSAGE * place).collect();
     let found = records.iter().find(|at| word_at(file, **at) == wanted).copied();
     let at = found.unwrap_or(rng.pick(&records));
@@ -150,7 +151,7 @@ fn message(rng: &mut Rng, file: &mut [u8], sound: &Sound) {
     let side = at + 24 + 8 + 8 * rng.below(2);
     let (n, owner) = (sound.n as u32, word_at(file, at + 16) as usize & 63);
     let any = rng.any() as u32;
-    match rng.below(14) {
+    match if flag { 12 } else { rng.below(14) } {
         0 => put_word(file, at, rng.pick(&[0, 9, 10, u32::MAX, 256 + word_at(file, at)])),
         1 => put_word(file, at, 1 + rng.below(8) as u32),
         2 => put_word(file, word, rng.pick(&[n, n.wrapping_add(1), 64, 255, 256, 257, u32::MAX])),

@@ -3,6 +3,7 @@
 use super::case::Case;
 use super::rng::Rng;
 use super::tables::sides;
+use crate::index::Index;
 use crate::marks::{below, bit};
 use crate::message::Message;
 use crate::reading::Right;
@@ -38,10 +39,12 @@ pub fn key_from(rng: &mut Rng, table: &Table, slot: usize) -> u32 {
 
 /// A carried leaf set: what its owner holds, or another.
 pub fn carried(rng: &mut Rng, table: &Table, owner: usize) -> Sides {
-    match rng.below(4) {
+    let (l, others) = (table.l as usize, below(table.n) & !bit(owner));
+    match rng.below(5) {
         0 | 1 => table.nodes[owner].sides,
-        2 => View::new(Right, table).add(owner, Sides::EMPTY, below(table.n)),
-        _ => sides(rng, table, owner, below(table.n)),
+        2 => View::new(Right, table).add(owner, Sides::EMPTY, others),
+        3 => Sides { left: rng.members(others, l), right: rng.members(others, l) },
+        _ => sides(rng, table, owner, others),
     }
 }
 
@@ -75,13 +78,19 @@ fn lost(rng: &mut Rng, table: &Table, to: usize) -> u64 {
 
 /// Adds any messages until `count` wait, as far as there are so many different ones.
 pub fn fill(rng: &mut Rng, case: &mut Case, count: usize) {
+    let Case { table, pool } = case;
+    let mut index = Index::new();
+    for place in 0..table.count {
+        index.note(pool, place);
+    }
     let only = rng.below(30);
     let mut tries = 4 * count;
-    while case.table.count < count && tries > 0 {
+    while table.count < count && tries > 0 {
         tries -= 1;
         let kind = if (1..=8).contains(&only) { only } else { 1 + rng.below(8) };
-        let (to, from) = (rng.below(case.table.n), rng.below(case.table.n));
-        let message = message(rng, &case.table, kind, to, from);
-        case.push(message);
+        let (to, from) = (rng.below(table.n), rng.below(table.n));
+        pool[table.count] = message(rng, table, kind, to, from);
+        table.count += usize::from(index.note(pool, table.count));
     }
+    pool[table.count..].fill(Message::Blank);
 }

@@ -119,8 +119,8 @@ fn fit(rng: &mut Rng, case: &mut Case, kind: usize, i: usize, j: usize) -> usize
         1 | 2 => {
             node.status = if rng.one_in(10) { Status::Ok } else { Status::Ready };
             if rng.one_in(3) {
-                node.routing |= others;
-                node.failed = rng.few(node.failed);
+                node.routing = rng.subset(others);
+                node.failed = rng.subset(others);
                 let Sides { left, right } = node.sides;
                 node.sides = Sides { left: right, right: left };
             }

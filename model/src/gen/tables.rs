@@ -75,9 +75,14 @@ pub fn table(rng: &mut Rng) -> Case {
     let listed = below(table.n);
     let live = table.marks(|node| node.status != Status::Dead);
     let ready = table.marks(|node| node.status == Status::Ready);
+    let crossed = rng.one_in(8);
     for slot in 0..table.n {
         let around = rng.pick(&[listed, live, ready, ready]);
-        let sides = sides(rng, &table, slot, around);
+        let mut sides = sides(rng, &table, slot, around);
+        if crossed {
+            let nearest = View::new(Right, &table).add(slot, Sides::EMPTY, around);
+            sides = Sides { left: nearest.right, right: nearest.left };
+        }
         let near = View::new(Right, &table).neighbours(slot, sides).marks();
         let others = listed & !bit(slot);
         let node = &mut table.nodes[slot];

@@ -10,8 +10,8 @@ use std::io;
 use std::process::ExitCode;
 
 const USAGE: &str = "usage:
-  model serve                             answers requests on standard input until it ends
-  model requests SEED COUNT               writes requests to standard output
+  model serve [MISREADING]                answers requests on standard input until it ends
+  model requests SEED COUNT [FROM]        writes requests to standard output, from the given one on
   model compare SEED COUNT -- CMD ARGS..  compares the driver CMD with the model
   model readings [SEED COUNT]             shows that requests tell each misreading apart
 ";
@@ -32,8 +32,12 @@ fn main() -> ExitCode {
 /// Whether all is well.
 fn run(args: &[&str]) -> io::Result<bool> {
     match *args {
-        ["serve"] => serve::serve().map(|()| true),
-        ["requests", seed, count] => serve::requests(number(seed)?, number(count)?).map(|()| true),
+        ["serve"] => serve::serve(None).map(|()| true),
+        ["serve", slip] => serve::serve(Some(slip)).map(|()| true),
+        ["requests", seed, count] => serve::requests(number(seed)?, number(count)?, 0).map(|()| true),
+        ["requests", seed, count, from] => {
+            serve::requests(number(seed)?, number(count)?, number(from)?).map(|()| true)
+        }
         ["compare", seed, count, "--", ref command @ ..] if !command.is_empty() => {
             compare::compare(number(seed)?, number(count)?, command)
         }

@@ -3,7 +3,6 @@
 use model::marks::slots;
 use model::wire::{Request, MALFORMED};
 use model::{HEADER, MESSAGE, NODE};
-use std::fmt::Write;
 
 const KINDS: [&str; 9] = [
     "blank",
@@ -19,17 +18,28 @@ const KINDS: [&str; 9] = [
 
 /// The first difference: the request, and what the two replies hold.
 pub fn difference(nth: usize, asked: &[u8], wanted: &[u8], got: &[u8]) -> String {
-    let mut text = format!("request {nth} is answered otherwise\n\n{}", request(asked));
     let (wanted, got) = (reply(asked, wanted), reply(asked, got));
-    let _ = write!(text, "\nthe model replies: {}\nthe driver replies: {}\n", first(&wanted), first(&got));
-    for pair in wanted.lines().zip(got.lines()).filter(|pair| pair.0 != pair.1).skip(1).take(20) {
-        let _ = write!(text, "- {}\n+ {}\n", pair.0, pair.1);
+    let (mut wanted, mut got) = (wanted.lines(), got.lines());
+    let heads = (wanted.next().unwrap_or_default(), got.next().unwrap_or_default());
+    let mut text = format!(
+        "request {nth} is answered otherwise\n\n{}\nthe model replies: {}\nthe driver replies: {}\n",
+        request(asked),
+        heads.0,
+        heads.1
+    );
+    let mut shown = 0;
+    loop {
+        match (wanted.next(), got.next()) {
+            (None, None) => return text,
+            (one, other) if one == other => {}
+            _ if shown == 20 => return text + "and more\n",
+            (one, other) => {
+                shown += 1;
+                one.iter().for_each(|line| text += &format!("- {line}\n"));
+                other.iter().for_each(|line| text += &format!("+ {line}\n"));
+            }
+        }
     }
-    text
-}
-
-fn first(text: &str) -> &str {
-    text.lines().next().unwrap_or("nothing")
 }
 
 /// A request in words.
@@ -67,39 +77,61 @@ fn reply(asked: &[u8], bytes: &[u8]) -> String {
 /// A table file in words, as far as there are bytes.
 fn file(bytes: &[u8]) -> String {
     let mut text = format!("file of {} bytes\n", bytes.len());
-    let word = |at: usize| bytes.get(at..at + 4).map_or(0, |b| u32::from_le_bytes([b[0], b[1], b[2], b[3]]));
-    let long = |at: usize| u64::from(word(at)) | u64::from(word(at + 4)) << 32;
-    let header: Vec<u32> = (0..8).map(|nth| word(4 * nth)).collect();
-    let _ = writeln!(
-        text,
-        "M {} L {} n {} messages {} nodes at {} messages at {} total {} last {}",
-        header[0], header[1], header[2], header[3], header[4], header[5], header[6], header[7]
-    );
+    let header: Vec<u32> = (0..8).map(|nth| word(bytes, 4 * nth)).collect();
+    for (name, word) in
+        ["M", "L", "n", "messages", "nodes at", "messages at", "total", "last"].iter().zip(&header)
+    {
+        text += &format!("{name} {word} ");
+    }
+    text += "\n";
     let (n, count) = (header[2].min(64) as usize, header[3].min(256) as usize);
-    let whole = |at: usize, size: usize| at + size <= bytes.len();
-    for (slot, at) in (0..n).map(|slot| (slot, HEADER + NODE * slot)).filter(|(_, at)| whole(*at, NODE)) {
-        let status = ["dead", "wait", "ok", "ready"].get(word(at + 4) as usize).copied().unwrap_or("?");
-        let _ = write!(text, "node {slot}: id {} {status}({})", word(at), word(at + 4));
-        for (nth, name) in
-            ["left", "right", "probing", "failed", "routing", "lease", "grant"].iter().enumerate()
-        {
-            let _ = write!(text, " {name} {}", set(long(at + 8 + 8 * nth)));
-        }
-        text.push('\n');
+    let nodes = (0..n).map(|slot| HEADER + NODE * slot).filter_map(|at| bytes.get(at..at + NODE));
+    for (slot, record) in nodes.enumerate() {
+        text += &format!("node {slot}: {}\n", node(record));
     }
     let first = HEADER + NODE * n;
-    for (place, at) in
-        (0..count).map(|place| (place, first + MESSAGE * place)).filter(|(_, at)| whole(*at, MESSAGE))
-    {
-        let kind = KINDS.get(word(at) as usize).copied().unwrap_or("?");
-        let _ = write!(text, "message {place}: {kind}({})", word(at));
-        for (nth, name) in ["to", "node/key", "flag", "owner", "sixth"].iter().enumerate() {
-            let _ = write!(text, " {name} {}", word(at + 4 + 4 * nth));
+    let messages =
+        (0..count).map(|place| first + MESSAGE * place).filter_map(|at| bytes.get(at..at + MESSAGE));
+    for (place, record) in messages.enumerate() {
+        text += &format!("message {place}: {}\n", message(record));
+    }
+    text
+}
+
+fn word(bytes: &[u8], at: usize) -> u32 {
+    bytes.get(at..at + 4).map_or(0, |b| u32::from_le_bytes([b[0], b[1], b[2], b[3]]))
+}
+
+fn long(bytes: &[u8], at: usize) -> u64 {
+    u64::from(word(bytes, at)) | u64::from(word(bytes, at + 4)) << 32
+}
+
+fn node(record: &[u8]) -> String {
+    let (id, status) = (word(record, 0), word(record, 4));
+    let name =
+        ["dead", "wait", "ok", "ready"].get(status as usize).map_or(status.to_string(), |n| n.to_string());
+    let sets = ["left", "right", "probing", "failed", "routing", "lease", "grant"];
+    let sets =
+        sets.iter().enumerate().map(|(nth, name)| format!(" {name} {}", set(long(record, 8 + 8 * nth))));
+    format!("id {id} {name}{}", sets.collect::<String>())
+}
+
+/// Kind, destination and node or key, and whatever else is not 0.
+fn message(record: &[u8]) -> String {
+    let kind = word(record, 0);
+    let name = KINDS.get(kind as usize).map_or(kind.to_string(), |name| name.to_string());
+    let mut text = format!("{name} to {} node/key {}", word(record, 4), word(record, 8));
+    for (nth, name) in ["flag", "owner", "sixth"].iter().enumerate() {
+        match word(record, 12 + 4 * nth) {
+            0 => {}
+            word => text += &format!(" {name} {word}"),
         }
-        for (nth, name) in ["routing", "left", "right", "failed"].iter().enumerate() {
-            let _ = write!(text, " {name} {}", set(long(at + 24 + 8 * nth)));
+    }
+    for (nth, name) in ["routing", "left", "right", "failed"].iter().enumerate() {
+        match long(record, 24 + 8 * nth) {
+            0 => {}
+            marks => text += &format!(" {name} {}", set(marks)),
         }
-        text.push('\n');
     }
     text
 }
