@@ -1,5 +1,5 @@
--- The table of chains. A link of bucket h, seen from place j, is one more than the last place before j with that bucket, or 0. Following links from j passes over
--- no place of j's bucket, so a message equal to j's would be met. Assumes nothing.
+-- The table of chains. A link of bucket h, seen from place j, is one more than the last place before j with that bucket, or 0. Following
+-- links from j passes over no place of j's bucket, so a message equal to j's would be met. Assumes nothing.
 use Prim.Native.Nat.{ℕ, _+_, _-_, _%_, _<_, _≤_}
 use mathlib.Core.Path.{_≡_, refl, sym, _∙_, ap}
 use mathlib.Core.Bool.{Bool, true, false, not}

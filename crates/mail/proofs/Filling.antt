@@ -1,11 +1,11 @@
--- The loop of `send_each`: what waits, followed by the copies that are left to add, is the list that is to wait (Filling). So the loop ends with that list, or with
--- 256 messages and a copy that is left. Assumes nothing.
+-- The loop of `send_each`: what waits, followed by the copies that are left to add, is the list that is to wait (Filling). So the loop
+-- ends with that list, or with 256 messages and a copy that is left. Assumes nothing.
 use mathlib.Core.Path.{_≡_, refl, sym, _∙_, ap}
 use mathlib.Core.Bool.{true, false}
 use mathlib.Core.List.{List, [], _∷_, _++_, append-nil}
-use Prim.Native.Nat.{ℕ, _+_, _<_, _≤_}
+use Prim.Native.Nat.{ℕ, _<_, _≤_}
 use native.Mathlib.Omega.{arith}
-use lib.ListN.{length, length-append}
+use lib.ListN.{length-append}
 use lib.Seq.{append-snoc}
 use Rattle.marks.specs.declared.Found.the-variants.{At, Nothing}
 use Rattle.marks.specs.Marks.{without, removeOf, lowestOf, sizeOf}
@@ -39,7 +39,8 @@ filling-more m all p rest s e h k =
       left =
           ap (λ (q : Pool). waiting q ++ copies m (removeOf rest s)) to
           ∙ ap (λ (l : List Message). l ++ copies m (removeOf rest s)) (waiting-laid (waiting p ++ (z ∷ [])))
-          ∙ append-snoc (waiting p) z (copies m (removeOf rest s)) ∙ ap (λ (l : List Message). waiting p ++ l) (sym (copies-more m rest s e)) ∙ k .left;
+          ∙ append-snoc (waiting p) z (copies m (removeOf rest s))
+          ∙ ap (λ (l : List Message). waiting p ++ l) (sym (copies-more m rest s e)) ∙ k .left;
     }
 
 pub fewer : (rest s : ℕ) → lowestOf rest ≡ At s → sizeOf (removeOf rest s) < sizeOf rest

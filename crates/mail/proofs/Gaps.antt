@@ -1,8 +1,8 @@
--- The loops that write places. Tidying: of the places below `at`, those past the count are blank (Blanked). Removing: the places below `at` are those of the list
--- without the message, and those from it on are as they were (Closed). Assumes nothing.
+-- The loops that write places. Tidying: of the places below `at`, those past the count are blank (Blanked). Removing: the places below
+-- `at` are those of the list without the message, and those from it on are as they were (Closed). Assumes nothing.
 use mathlib.Core.Path.{_≡_, refl, sym, _∙_, ap, ap₂}
 use mathlib.Core.List.{List, [], _∷_, _++_, append-nil, append-assoc}
-use Prim.Native.Nat.{ℕ, suc, _+_, _-_, _<_, _≤_}
+use Prim.Native.Nat.{ℕ, _+_, _-_, _<_, _≤_}
 use native.Mathlib.Numerals.{add-one}
 use native.Mathlib.Omega.{arith}
 use lib.ListN.{length, length-set, getD, take, set, replicate, replicate-append-replicate}
@@ -49,10 +49,12 @@ blanked-more n p q at h k =
       head =
           front (q .places) at blank (omega (arith, k .long)) ∙ ap (λ (l : List Message). l ++ (blank ∷ [])) (k .head)
           ∙ append-assoc (take n (p .places)) (replicate (at - n) blank) (blank ∷ [])
-          ∙ ap (λ (l : List Message). take n (p .places) ++ l) (replicate-append-replicate (at - n) 1 blank ∙ ap (λ (i : ℕ). replicate i blank) e);
+          ∙ ap (λ (l : List Message). take n (p .places) ++ l)
+          (replicate-append-replicate (at - n) 1 blank ∙ ap (λ (i : ℕ). replicate i blank) e);
     }
 
-pub blanked-end : (p q : Pool) (at : ℕ) → p .count ≤ 256 → length (p .places) ≡ 256 → 256 ≤ at → Blanked (p .count) p q at → q ≡ laid (waiting p)
+pub blanked-end : (p q : Pool) (at : ℕ) → p .count ≤ 256 → length (p .places) ≡ 256 → 256 ≤ at → Blanked (p .count) p q at
+    → q ≡ laid (waiting p)
 blanked-end p q at h l d k =
     let n : length (waiting p) ≡ p .count = length-take-le (p .count) (p .places) (omega arith) in
     let e : at - p .count ≡ 256 - length (waiting p) = omega (arith, k .within) in

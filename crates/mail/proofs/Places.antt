@@ -1,5 +1,5 @@
--- The loops over places. A pool by value has 256 of them, so what waits has the pool's count; a search that passed the places below `at` ends as the
--- definition says. Assumes nothing.
+-- The loops over places. A pool by value has 256 of them, so what waits has the pool's count; a search that passed the places below `at`
+-- ends as the definition says. Assumes nothing.
 use mathlib.Core.Path.{_≡_, refl, sym, _∙_, ap}
 use mathlib.Core.Bool.{Bool, true, false, _&&_}
 use mathlib.Core.List.{List, [], _∷_, _++_}
@@ -67,7 +67,8 @@ module _ (m : Message) (b : List ℕ) (places : List Message) (n : ℕ) (e : b �
   there : (i : ℕ) → i < n → alike (getD (take n places) i blank) m ≡ sameTo 9 (fieldsOf (getD places i blank)) b
   unfolding alike
   there i l =
-      ap (λ (x : Message). alike x m) (getD-take n places i blank l) ∙ ap (λ (r : List ℕ). sameTo 9 (fieldsOf (getD places i blank)) r) (sym e)
+      ap (λ (x : Message). alike x m) (getD-take n places i blank l)
+      ∙ ap (λ (r : List ℕ). sameTo 9 (fieldsOf (getD places i blank)) r) (sym e)
 
   pub missed : (at : ℕ) → n ≤ at → Passed b places at → firstEqual (take n places) m ≡ Nothing
   missed at h k =
@@ -117,4 +118,5 @@ module _ (i : ℕ) (places : List Message) (n : ℕ) (long : length places ≡ 2
 
   pub asked : (at : ℕ) → at < n → isJoin i (getD places at blank) ≡ true → joinWaits (take n places) i ≡ true
   asked at h e =
-      join-at (take n places) i at (omega (arith, length-take-le n places (omega arith))) (ap (isJoin i) (getD-take n places at blank h) ∙ e)
+      join-at (take n places) i at (omega (arith, length-take-le n places (omega arith)))
+      (ap (isJoin i) (getD-take n places at blank h) ∙ e)

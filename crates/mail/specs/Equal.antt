@@ -1,7 +1,7 @@
--- When two messages are equal, and whether an equal one waits. Two messages are alike exactly if their nine fields are equal, so alike is an equivalence; an
--- equal waits in two lists that follow each other exactly if one waits in either. Assumes nothing.
+-- When two messages are equal, and whether an equal one waits. Two messages are alike exactly if their nine fields are equal, so alike is
+-- an equivalence; an equal waits in two lists that follow each other exactly if one waits in either. Assumes nothing.
 use mathlib.Core.Path.{_≡_, refl, sym, _∙_, ap}
-use mathlib.Core.Bool.{Bool, true, false, cond, _&&_, _||_, or-assoc, or-false}
+use mathlib.Core.Bool.{Bool, true, false, cond, _||_, or-assoc, or-false}
 use mathlib.Core.List.{List, [], _∷_, _++_}
 use Prim.Native.Nat.{ℕ, zero, suc, _+_, _<_}
 use native.Mathlib.Omega.{arith}
@@ -59,12 +59,14 @@ pub first-equal-at : (xs : List Message) (m : Message) (s : ℕ) → s < length 
 unfolding firstEqual
 first-equal-at xs m s h e f = first-from m xs 0 s h e f ∙ ap At (omega arith)
 
-none-from : (m : Message) (xs : List Message) (p : ℕ) → ((t : ℕ) → t < length xs → alike (getD xs t blank) m ≡ false) → firstFrom m xs p ≡ Nothing
+none-from : (m : Message) (xs : List Message) (p : ℕ)
+    → ((t : ℕ) → t < length xs → alike (getD xs t blank) m ≡ false) → firstFrom m xs p ≡ Nothing
 unfolding firstFrom
 none-from m [] p f = refl
 none-from m (x ∷ xs) p f = rw (f 0 (omega arith)) (none-from m xs (p + 1) (λ t l. f (suc t) (omega arith)))
 
-pub first-equal-none : (xs : List Message) (m : Message) → ((t : ℕ) → t < length xs → alike (getD xs t blank) m ≡ false) → firstEqual xs m ≡ Nothing
+pub first-equal-none : (xs : List Message) (m : Message)
+    → ((t : ℕ) → t < length xs → alike (getD xs t blank) m ≡ false) → firstEqual xs m ≡ Nothing
 unfolding firstEqual
 first-equal-none xs m f = none-from m xs 0 f
 
@@ -94,11 +96,14 @@ waits-cons x xs m = go (alike x m)
 
 pub waits-append : (xs ys : List Message) (m : Message) → waits (xs ++ ys) m ≡ (waits xs m || waits ys m)
 waits-append [] ys m = rw (waits-nil m)
-waits-append (x ∷ xs) ys m = rw (waits-cons x (xs ++ ys) m, waits-cons x xs m, waits-append xs ys m) (sym (or-assoc (alike x m) (waits xs m) (waits ys m)))
+waits-append (x ∷ xs) ys m =
+    rw (waits-cons x (xs ++ ys) m, waits-cons x xs m, waits-append xs ys m)
+    (sym (or-assoc (alike x m) (waits xs m) (waits ys m)))
 
 pub waits-last : (xs : List Message) (x m : Message) → waits (xs ++ (x ∷ [])) m ≡ (waits xs m || alike x m)
 waits-last xs x m =
-    waits-append xs (x ∷ []) m ∙ ap (λ (b : Bool). waits xs m || b) (waits-cons x [] m ∙ ap (λ (b : Bool). alike x m || b) (waits-nil m) ∙ or-false (alike x m))
+    let one : waits (x ∷ []) m ≡ alike x m = waits-cons x [] m ∙ rw (waits-nil m) (or-false (alike x m)) in
+    waits-append xs (x ∷ []) m ∙ ap (λ (b : Bool). waits xs m || b) one
 
 -- ---- adding
 

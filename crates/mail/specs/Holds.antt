@@ -1,10 +1,10 @@
--- A pool in the making holds a list: nothing more, one message more, one sending after another. Lists only grow by sending, so what did not fit before does not
--- fit after. Assumes nothing.
+-- A pool in the making holds a list: nothing more, one message more, one sending after another. Lists only grow by sending, so what did
+-- not fit before does not fit after. Assumes nothing.
 use mathlib.Core.Path.{_≡_, refl, sym, _∙_, ap}
 use mathlib.Core.Bool.{Bool, true, false, _&&_, and-true}
 use mathlib.Core.Logic.{_⊎_, inl, inr}
-use mathlib.Core.List.{List, [], _∷_, _++_}
-use Prim.Native.Nat.{ℕ, _+_, _<_, _≤_}
+use mathlib.Core.List.{List}
+use Prim.Native.Nat.{ℕ, _<_, _≤_}
 use native.Mathlib.Omega.{arith}
 use borrow.Author.Tests.{le-leb, lt-leb, leb-true, leb-false, lt-ltb, le-ltb}
 use lib.Dec.{leb}
@@ -20,7 +20,7 @@ use Rattle.rules.specs.Mail.{firstEqual, added, sent}
 use Rattle.rules.specs.Nodes.{placed}
 use Rattle.rules.specs.Plans.{addedTo, mailed}
 use Rattle.mail.specs.declared.Sent.{Sent}
-use Rattle.mail.specs.Sending.{Neat, Going, Holds, slotted, MailedOut}
+use Rattle.mail.specs.Sending.{Going, Holds, slotted, MailedOut}
 use Rattle.mail.specs.Equal.{added-nothing}
 use Rattle.mail.specs.Laid.{waiting-laid, neat-laid, neat-count, grown, grown-laid}
 use Rattle.mail.specs.Sends.{sent-is}
@@ -105,7 +105,8 @@ holds-sent b ys x m set r h k = go (x .fits) refl
       where
         over : (b ≡ false) ⊎ (leb (length ys) 256 ≡ false) → (b && leb (length (sent m set ys)) 256) ≡ false
         over (inl d) = and-fails-left _ d
-        over (inr d) = and-fails-right b (lt-leb (length (sent m set ys)) 256 (omega (arith, sent-longer m set ys, leb-false (length ys) 256 d)))
+        over (inr d) =
+            and-fails-right b (lt-leb (length (sent m set ys)) 256 (omega (arith, sent-longer m set ys, leb-false (length ys) 256 d)))
 
 -- where the plan's slot is one of the 64, all found room exactly if the list is not too long
 pub mailed-fits : (plan : Plan) (ys : List Message) (r : Sent) → slotted (plan .to) ≡ true → MailedOut plan ys r

@@ -1,5 +1,6 @@
--- What adding, removing and sending keep, for every property of messages: that all have it (All), and that no two are equal (Apart). What Equal, Laid, Sends and
--- Holds say of the pool is passed on, so that a user names this file alone. By induction on the list. Assumes nothing.
+-- What adding, removing and sending keep, for every property of messages: that all have it (All), and that no two are equal (Apart). What
+-- Equal, Laid, Sends and Holds say of the pool is passed on, so that a user names this file alone. By induction on the list. Assumes
+-- nothing.
 use mathlib.Core.Path.{_≡_, refl, sym, _∙_, ap}
 use mathlib.Core.Logic.{_⊎_, inl, inr, ⊎-elim, _↔_}
 use mathlib.Core.Bool.{Bool, true, false, cond, _||_, not}
@@ -64,13 +65,16 @@ pub test-all : (f : Message → Bool) (xs : List Message) → allTo (length xs) 
 test-all f xs e = all-index xs (λ i l. each (length xs) (λ j. f (getD xs j blank)) i e l)
 
 -- the same of a pool's places
-pub all-laid : (f : Message → Bool) (ys : List Message) → All (λ x. f x ≡ true) ys → allTo (length ys) (λ i. f (messageAt (laid ys) i)) ≡ true
+pub all-laid : (f : Message → Bool) (ys : List Message) → All (λ x. f x ≡ true) ys
+    → allTo (length ys) (λ i. f (messageAt (laid ys) i)) ≡ true
 all-laid f ys h = all-of (length ys) (λ i. f (messageAt (laid ys) i)) (λ i l. ap f (laid-at ys i l) ∙ all-at h i l)
 
 pub waiting-all : (f : Message → Bool) (p : Pool) → allTo (p .count) (λ i. f (messageAt p i)) ≡ true → All (λ x. f x ≡ true) (waiting p)
 waiting-all f p e =
-    all-index (waiting p)
-    (λ i l. let k : i < p .count = omega (arith, waiting-short p) in ap f (waiting-at p i k) ∙ each (p .count) (λ j. f (messageAt p j)) i e k)
+    all-index (waiting p) (λ i l. here i (omega (arith, waiting-short p)))
+  where
+    here : (i : ℕ) → i < p .count → f (getD (waiting p) i blank) ≡ true
+    here i l = ap f (waiting-at p i l) ∙ each (p .count) (λ j. f (messageAt p j)) i e l
 
 -- ---- what adding, removing and sending keep
 
@@ -95,14 +99,17 @@ module _ {P : Message → Type 0} where
   all-sent-to m set zero l f h = h
   all-sent-to {xs} m set (suc n) l f h = go (has set n) refl (all-sent-to m set n (omega arith) f h)
     where
-      go : (b : Bool) → has set n ≡ b → All P (sentTo m set n xs) → All P (cond b (added (sentTo m set n xs) (placed m n)) (sentTo m set n xs))
+      go : (b : Bool) → has set n ≡ b → All P (sentTo m set n xs)
+          → All P (cond b (added (sentTo m set n xs) (placed m n)) (sentTo m set n xs))
       go true e k = all-added (placed m n) (f n (omega arith) e) k
       go false e k = k
 
-  pub all-sent : {xs : List Message} (m : Message) (set : ℕ) → ((s : ℕ) → s < 64 → has set s ≡ true → P (placed m s)) → All P xs → All P (sent m set xs)
+  pub all-sent : {xs : List Message} (m : Message) (set : ℕ) → ((s : ℕ) → s < 64 → has set s ≡ true → P (placed m s)) → All P xs
+      → All P (sent m set xs)
   all-sent m set f h = all-sent-to m set 64 (omega arith) f h
 
-  pub all-added-to : {xs : List Message} (to : Found) (m : Message) → ((s : ℕ) → to ≡ At s → P (placed m s)) → All P xs → All P (addedTo to m xs)
+  pub all-added-to : {xs : List Message} (to : Found) (m : Message) → ((s : ℕ) → to ≡ At s → P (placed m s)) → All P xs
+      → All P (addedTo to m xs)
   all-added-to (At s) m f h = all-added (placed m s) (f s refl) h
   all-added-to Nothing m f h = h
 
@@ -130,7 +137,8 @@ apart-at (apart-cons d h) (suc i) (suc j) l k = apart-at h i j (omega arith) (om
 pub apart-index : (xs : List Message) → ((i j : ℕ) → i < j → j < length xs → alike (getD xs i blank) (getD xs j blank) ≡ false) → Apart xs
 apart-index [] f = apart-nil
 apart-index (x ∷ xs) f =
-    apart-cons (all-index xs (λ j l. f 0 (suc j) (omega arith) (omega arith))) (apart-index xs (λ i j l k. f (suc i) (suc j) (omega arith) (omega arith)))
+    apart-cons (all-index xs (λ j l. f 0 (suc j) (omega arith) (omega arith)))
+    (apart-index xs (λ i j l k. f (suc i) (suc j) (omega arith) (omega arith)))
 
 pub apart-different : (xs : List Message) → Apart xs ↔ (allDifferent xs ≡ true)
 unfolding allDifferent
@@ -213,14 +221,18 @@ mailed-is x ys = sent-is (x .each) (x .all) (addedTo (x .to) (x .first) ys)
 pub mailed-after : (x : Plan) (ys : List Message) → (zs : List Message) × (mailed x ys ≡ ys ++ zs)
 mailed-after x ys = go (added-to-cases (x .to) (x .first) ys)
   where
-    new : List Message
-    new = copies (x .each) (without (x .all) (heldOf (x .each) (addedTo (x .to) (x .first) ys)))
+    first : List Message
+    first = addedTo (x .to) (x .first) ys
 
-    go : (addedTo (x .to) (x .first) ys ≡ ys) ⊎ ((s : ℕ) × (x .to ≡ At s) × (addedTo (x .to) (x .first) ys ≡ ys ++ (placed (x .first) s ∷ [])))
+    new : List Message
+    new = copies (x .each) (without (x .all) (heldOf (x .each) first))
+
+    go : (first ≡ ys) ⊎ ((s : ℕ) × (x .to ≡ At s) × (first ≡ ys ++ (placed (x .first) s ∷ [])))
         → (zs : List Message) × (mailed x ys ≡ ys ++ zs)
     go (inl e) = (new, mailed-is x ys ∙ ap (λ (l : List Message). l ++ new) e)
     go (inr e) =
-        (placed (x .first) (e .0) ∷ new, mailed-is x ys ∙ ap (λ (l : List Message). l ++ new) (e .2) ∙ append-snoc ys (placed (x .first) (e .0)) new)
+        let z = placed (x .first) (e .0) in
+        (z ∷ new, mailed-is x ys ∙ ap (λ (l : List Message). l ++ new) (e .2) ∙ append-snoc ys z new)
 
 pub mailed-quiet : (v : Node) (ys : List Message) → mailed (quietPlan v) ys ≡ ys
 unfolding mailed
@@ -262,7 +274,8 @@ pub added-to-length : (to : Found) (m : Message) (xs : List Message)
 added-to-length (At s) m xs = added-length xs (placed m s)
 added-to-length Nothing m xs = (omega arith, omega arith)
 
-pub mailed-length : (x : Plan) (ys : List Message) → (length ys ≤ length (mailed x ys)) × (length (mailed x ys) ≤ length ys + 1 + sizeOf (x .all))
+pub mailed-length : (x : Plan) (ys : List Message)
+    → (length ys ≤ length (mailed x ys)) × (length (mailed x ys) ≤ length ys + 1 + sizeOf (x .all))
 unfolding mailed
 mailed-length x ys =
     let one = added-to-length (x .to) (x .first) ys in

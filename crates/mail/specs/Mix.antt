@@ -1,5 +1,5 @@
--- A number made of a message's fields, and its bucket. Any function of the fields would do: all that is used of it is that equal messages have one bucket.
--- Assumes nothing.
+-- A number made of a message's fields, and its bucket. Any function of the fields would do: all that is used of it is that equal messages
+-- have one bucket. Assumes nothing.
 use mathlib.Core.List.{List}
 use Prim.Native.Nat.{ℕ, _-_, _*_, _/_, _%_, _^_}
 use lib.Bits.{bitXor}

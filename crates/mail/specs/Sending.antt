@@ -1,7 +1,7 @@
--- What sending promises. A pool in the making is followed by a list: as long as all found room it is that list laid out (Holds). Definitions only; their laws
--- are in Sends. Assumes nothing.
+-- What sending promises. A pool in the making is followed by a list: as long as all found room it is that list laid out (Holds).
+-- Definitions only; their laws are in Sends and Holds. Assumes nothing.
 use mathlib.Core.Path.{_≡_}
-use mathlib.Core.Bool.{Bool, true, false, cond, _&&_}
+use mathlib.Core.Bool.{Bool, true, cond, _&&_}
 use mathlib.Core.List.{List, [], _∷_, _++_}
 use Prim.Native.Nat.{ℕ, zero, suc, _≤_}
 use lib.Dec.{leb, ltb}

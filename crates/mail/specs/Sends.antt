@@ -1,15 +1,15 @@
--- Sending to a set of slots, at once: what is added is a copy for each slot of the set to which no equal waits, in rising order, for copies with different
--- destinations are never equal. And what Holds says of one message more, and of one sending after another. Assumes nothing.
+-- Sending to a set of slots, at once: what is added is a copy for each slot of the set to which no equal waits, in rising order, for
+-- copies with different destinations are never equal. And what Holds says of one message more, and of one sending after another. Assumes
+-- nothing.
 use mathlib.Core.Path.{_≡_, refl, sym, _∙_, ap}
 use mathlib.Core.Logic.{_⊎_, inl, inr}
 use mathlib.Core.Bool.{Bool, true, false, cond, _&&_, _||_, not, or-false, and-true}
 use mathlib.Core.List.{List, [], _∷_, _++_, append-nil, append-assoc}
-use Prim.Native.Nat.{ℕ, zero, suc, _+_, _<_, _≤_}
+use Prim.Native.Nat.{ℕ, zero, suc, _<_, _≤_}
 use native.Mathlib.Nat.{eq-or-lt-of-le, le-of-suc-le-suc}
 use native.Mathlib.Omega.{arith}
 use borrow.Author.Tests.{eq-eqb, ne-eqb, eqb-true}
 use lib.Dec.{eqb}
-use Rattle.marks.specs.declared.Found.{Found}
 use Rattle.marks.specs.declared.Found.the-variants.{At, Nothing}
 use Rattle.marks.specs.Marks.{has, without, addOf, removeOf, lowestOf}
 use Rattle.marks.specs.Laws.{has-zero, has-gather, gather-same, gather-none, has-without, has-remove, First, lowest-found, first-none}
@@ -89,7 +89,8 @@ sent-to : (m : Message) (set : ℕ) (xs : List Message) (n : ℕ) → n ≤ 64 �
 unfolding sentTo copiesTo
 sent-to m set xs zero h = sym (append-nil xs)
 sent-to m set xs (suc n) h =
-    let old : waits ys z ≡ waits xs z = waits-append xs (copiesTo m d n) z ∙ rw (copies-fresh m d n n (omega arith)) (or-false (waits xs z)) in
+    let old : waits ys z ≡ waits xs z =
+    waits-append xs (copiesTo m d n) z ∙ rw (copies-fresh m d n n (omega arith)) (or-false (waits xs z)) in
     let one : added ys z ≡ cond (waits xs z) ys (ys ++ (z ∷ [])) =
     added-is ys z ∙ ap (λ (b : Bool). cond b ys (ys ++ (z ∷ []))) old in
     rw (sent-to m set xs n (omega arith), one, has-without set (heldOf m xs) n h, has-held m xs n h) (go (has set n) (waits xs z))
@@ -131,7 +132,8 @@ pub copies-end : (m : Message) (set : ℕ) → lowestOf set ≡ Nothing → copi
 unfolding lowestOf
 copies-end m set e = copies-none m set 64 (first-none 64 (has set) e)
 
-copies-from : (m : Message) (set s n : ℕ) → First 64 (has set) s → s < n → n ≤ 64 → copiesTo m set n ≡ placed m s ∷ copiesTo m (removeOf set s) n
+copies-from : (m : Message) (set s n : ℕ) → First 64 (has set) s → s < n → n ≤ 64
+    → copiesTo m set n ≡ placed m s ∷ copiesTo m (removeOf set s) n
 unfolding copiesTo
 copies-from m set s zero i l h = absurd (omega arith)
 copies-from m set s (suc n) i l h = go (λ k. copies-from m set s n i k (omega arith)) (eq-or-lt-of-le (le-of-suc-le-suc l))
@@ -145,7 +147,8 @@ copies-from m set s (suc n) i l h = go (λ k. copies-from m set s n i k (omega a
     go f (inl e) =
         let none : copiesTo m set n ≡ [] = copies-none m set n (λ t k. i .least t (omega arith)) in
         let gone : copiesTo m (removeOf set s) n ≡ [] =
-        copies-none m (removeOf set s) n (λ t k. has-remove set s t (omega arith) ∙ and-fails-left (not (eqb t s)) (i .least t (omega arith))) in
+        copies-none m (removeOf set s) n
+        (λ t k. has-remove set s t (omega arith) ∙ and-fails-left (not (eqb t s)) (i .least t (omega arith))) in
         let here : has set n ≡ true = rw e at (i .holds) in
         let last : has (removeOf set s) n ≡ false = rest ∙ and-fails-right (has set n) (true-not (eq-eqb n s (sym e))) in
         rw (none, gone, here, last) (ap (λ (t : ℕ). placed m t ∷ []) (sym e))

@@ -1,11 +1,13 @@
-// The pool by value: the first equal message, adding, removing, sending. Each is the definition on the list of waiting messages; places past the count come out blank.
+// The pool by value: the first equal message, adding, removing, sending. Each is the definition on the list of waiting messages; places
+// past the count come out blank.
 ghost use mathlib.Core.Path.{_≡_};
 ghost use mathlib.Core.Bool.{_&&_};
-ghost use Prim.Native.Nat.{ℕ, _≤_, _<_};
+ghost use Prim.Native.Nat.{_≤_, _<_};
 ghost use Rattle.rules.specs.Mail.{fieldsOf, allDifferent, firstEqual, added, sent, removedAt};
 ghost use Rattle.rules.specs.Mail.{alike as alikeOf};
 ghost use Rattle.rules.specs.Actions.{joinWaits};
-ghost use Rattle.rules.specs.Plans.{addedTo, mailed};
+ghost use Rattle.rules.specs.Actions.{waits as waitsOf};
+ghost use Rattle.rules.specs.Plans.{addedTo};
 ghost use Rattle.rules.specs.Pool.{waiting, laid, messageAt};
 ghost use Rattle.mail.specs.Sending.{Neat, Going, Holds, MailedOut, heldOf, heldWith, slotted};
 ghost use Rattle.mail.specs.Mix.{mixOf, bucketOf};
@@ -77,6 +79,18 @@ pub fn first_equal(p: Pool, m: Message) -> Found
         break 'places Found::At(at);
     };
     found
+}
+
+// Does a message equal to m wait?
+pub fn waits(p: Pool, m: Message) -> bool
+    requires { ⌜ p .count ≤ 256 ⌝ }
+    ensures { λ r. ⌜ r ≡ waitsOf (waiting p) m ⌝ }
+{
+    let at = first_equal(p, m);
+    match at {
+        Found::At(_) => true,
+        Found::Nothing => false,
+    }
 }
 
 // Does a JoinRequest of node i wait?
@@ -159,8 +173,8 @@ pub fn bucket(m: Message) -> usize
     (mix(m) % 1021) as usize
 }
 
-// Are no two waiting messages equal? A message is compared only with the earlier ones of its own bucket: `heads` has one more than the last place
-// of each bucket, and `next` one more than the place before of the same bucket; 0 is none.
+// Are no two waiting messages equal? A message is compared only with the earlier ones of its own bucket: `heads` has one more than the
+// last place of each bucket, and `next` one more than the place before of the same bucket; 0 is none.
 pub fn all_different(p: Pool) -> bool
     requires { ⌜ p .count ≤ 256 ⌝ }
     ensures { λ r. ⌜ r ≡ allDifferent (waiting p) ⌝ }

@@ -1,7 +1,8 @@
--- `mail::all_different` meets its contract. Before place j the table has every place below j in its chain (Chained), and no two of them are equal (Differ); on the
--- way down a chain all at or above the link differ from j's message (Walk). The measures: the places left, and the link. Assumes nothing.
+-- `mail::all_different` meets its contract. Before place j the table has every place below j in its chain (Chained), and no two of them
+-- are equal (Differ); on the way down a chain all at or above the link differ from j's message (Walk). The measures: the places left, and
+-- the link. Assumes nothing.
 use Prim.Native.Nat.{_-_, _≤_}
-use mathlib.Core.Path.{_≡_, refl, sym, _∙_}
+use mathlib.Core.Path.{refl, sym, _∙_}
 use native.Mathlib.Omega.{arith}
 use borrow.Author.Needs.{needs}
 use Rattle.mail.proofs.Places.{places-length}
@@ -124,7 +125,8 @@ returns-2 c =
     let s = k .before in
     let w = b .chain .inv .low in
     let same = sym (c .before .alike .ensures) ∙ c .if2 .taken in
-    sym (differ-not _ _ (b .chain .at - 1) (k .places .j) (places-length (s .args .t1) _ (s .good .0)) (s .pre) (omega arith) (omega arith) same)
+    let long = places-length (s .args .t1) _ (s .good .0) in
+    sym (differ-not _ _ (b .chain .at - 1) (k .places .j) long (s .pre) (omega arith) (omega arith) same)
 
 pub all-different-spec : {M : Type 1} → statement M
 all-different-spec =

@@ -1,5 +1,5 @@
--- `mail::first_equal` meets its contract. At a place: none before it has m's fields (Passed). At a field: those before it are equal. The measures: the places
--- and the fields left. Assumes nothing.
+-- `mail::first_equal` meets its contract. At a place: none before it has m's fields (Passed). At a field: those before it are equal. The
+-- measures: the places and the fields left. Assumes nothing.
 use Prim.Native.Nat.{_≤_, _-_}
 use mathlib.Core.Path.{_≡_, refl, sym}
 use native.Mathlib.Omega.{arith}
@@ -76,7 +76,8 @@ fields-again c = let v = c .before .before .fields .inv in (v .0, omega arith, s
 returns : tie.Need-returns Inv-fields μ-fields Inv-places μ-places
 returns c =
     let s = c .before .before .before in
-    sym (missed _ _ _ _ (c .before .before .fields2 .ensures) (places-length (s .args .t1) _ (s .good .0)) (s .pre) _ (c .if1 .taken) (c .before .places .inv .1))
+    let long = places-length (s .args .t1) _ (s .good .0) in
+    sym (missed _ _ _ _ (c .before .before .fields2 .ensures) long (s .pre) _ (omega arith) (c .before .places .inv .1))
 
 returns-2 : tie.Need-returns-2 Inv-fields μ-fields Inv-places μ-places
 returns-2 c =

@@ -1,4 +1,5 @@
--- `mail::held` meets its contract. The invariant: the set is that of the messages below `at`. The measure: the messages left. Assumes nothing.
+-- `mail::held` meets its contract. The invariant: the set is that of the messages below `at`. The measure: the messages left. Assumes
+-- nothing.
 use borrow.Author.Needs.{needs}
 use mathlib.Core.Path.{_≡_, sym, _∙_, ap}
 use Prim.Native.Nat.{ℕ, _-_, _≤_}
@@ -40,10 +41,11 @@ loop-again c =
     let s = c .before .before .before .before in
     let l = c .before .before .before .loop in
     let m = s .args .m in
-    let more = taken-more (s .args .t1 .places) (l .at) _ (places-length (s .args .t1) _ (s .good .0)) (s .pre) (omega arith) in (
+    let places = s .args .t1 .places in
+    let more = taken-more places (l .at) _ (places-length (s .args .t1) _ (s .good .0)) (s .pre) (omega arith) in (
       omega arith,
-      c .held-with .ensures
-          ∙ ap (λ (h : ℕ). heldWith m h (getD (s .args .t1 .places) (l .at) blank)) (l .inv .1) ∙ sym (ap (heldOf m) more ∙ held-last m _ _),
+      c .held-with .ensures ∙ ap (λ (h : ℕ). heldWith m h (getD places (l .at) blank)) (l .inv .1)
+          ∙ sym (ap (heldOf m) more ∙ held-last m _ _),
     )
 
 returns : tie.Need-returns Inv-loop μ-loop

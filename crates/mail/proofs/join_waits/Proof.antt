@@ -1,4 +1,5 @@
--- `mail::join_waits` meets its contract. The invariant: no place below `at` has a JoinRequest of i. The measure: the messages left. Assumes nothing.
+-- `mail::join_waits` meets its contract. The invariant: no place below `at` has a JoinRequest of i. The measure: the messages left.
+-- Assumes nothing.
 use borrow.Author.Needs.{needs}
 use mathlib.Core.Path.{sym}
 use Prim.Native.Nat.{_-_, _≤_}

@@ -1,5 +1,4 @@
 -- `mail::mail_out` meets its contract: the one message first, then the messages to a set. Assumes nothing.
-use borrow.Author.Needs.{needs}
 use Rattle.rules.specs.Plans.{mailed}
 use Rattle.mail.specs.Holds.{holds-going, holds-sent}
 use Rattle.mail.proofs.mail_out.Statement.{statement}

@@ -1,6 +1,5 @@
 -- `mail::push_to` meets its contract. Assumes nothing.
 use borrow.Author.Needs.{needs}
-use mathlib.Core.Path.{sym}
 use Rattle.mail.specs.Holds.{pushed-nowhere, pushed-slot, pushed-off}
 use Rattle.mail.proofs.push_to.Statement.{statement}
 use Rattle.mail.proofs.push_to.Tie as tie

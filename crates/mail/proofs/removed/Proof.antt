@@ -1,5 +1,5 @@
--- `mail::removed` meets its contract. The invariant: the places below `at` are those of the list without the message, and those from `at` on are as they were.
--- The measure: the messages left. Assumes nothing.
+-- `mail::removed` meets its contract. The invariant: the places below `at` are those of the list without the message, and those from `at`
+-- on are as they were. The measure: the messages left. Assumes nothing.
 use borrow.Author.Needs.{needs}
 use mathlib.Core.Path.{_∙_, ap}
 use Prim.Native.Nat.{_-_}

@@ -1,5 +1,5 @@
--- `mail::send_each` meets its contract. The invariant: what waits, followed by the copies that are left to add, is what is to wait. The measure: how many slots
--- are left. Assumes nothing.
+-- `mail::send_each` meets its contract. The invariant: what waits, followed by the copies that are left to add, is what is to wait. The
+-- measure: how many slots are left. Assumes nothing.
 use borrow.Author.Needs.{needs}
 use borrow.Author.Tests.{not-true, not-false}
 use mathlib.Core.Path.{sym, _∙_}
@@ -85,7 +85,8 @@ slots-again c =
     let n = c .before .before .before .before in
     let to = c .before .to-slot .ensures in
     rw (c .removed .ensures, to)
-    (filling-more _ _ _ _ _ (sym (n .before .before .lowest .ensures) ∙ n .next .given .1) (omega arith) (n .before .before .before .slots .inv))
+    (filling-more _ _ _ _ _ (sym (n .before .before .lowest .ensures) ∙ n .next .given .1)
+    (omega arith) (n .before .before .before .slots .inv))
 
 returns-3 : tie.Need-returns-3 Inv-slots μ-slots
 returns-3 c =

@@ -1,4 +1,5 @@
--- `mail::tidy` meets its contract. The invariant: of the places below `at`, those past the count are blank. The measure: the places left. Assumes nothing.
+-- `mail::tidy` meets its contract. The invariant: of the places below `at`, those past the count are blank. The measure: the places left.
+-- Assumes nothing.
 use borrow.Author.Needs.{needs}
 use Prim.Native.Nat.{_-_}
 use native.Mathlib.Omega.{arith}
