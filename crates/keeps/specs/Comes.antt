@@ -1,5 +1,6 @@
--- What each action and kind plans comes to: one of its refusals, or one of its plans. A property of refusals and one of plans are followed along the chain
--- of tests, once for each plan of 01; what a step keeps, and with which numbers it is refused, are both read off these. Assumes nothing.
+-- What each action and kind plans comes to: one of its refusals, or one of its plans. A property of refusals and one of plans are followed
+-- along the chain of tests, once for each action and kind; what a step keeps (Plans, Takes), and with which numbers it is refused
+-- (Numbers), are both read off these. Assumes nothing.
 use mathlib.Core.Path.{_≡_, refl}
 use mathlib.Core.Bool.{Bool, true, false, cond, _&&_, _||_, not}
 use mathlib.Core.List.{List}

@@ -1,5 +1,6 @@
--- With which numbers each action can be refused: one table, and one theorem that every step's answer is in it (`step-numbers`). 6 is missing where at most
--- one message is added and one was removed, or none is added; 3 is missing from Take; no step answers 7, 8, 9 or 11. Assumes nothing.
+-- The numbers with which each action can be refused: one table (numbersOf), and one theorem that every step's answer is in it
+-- (`step-numbers`). 6 is missing where none is added, or one was removed and at most one is added; 3 is missing from Take; 7, 8, 9 and 11
+-- are missing everywhere. Assumes nothing.
 use mathlib.Core.Path.{_≡_, refl, sym, _∙_, ap}
 use mathlib.Core.Logic.{_⊎_, inl, inr, ⊎-elim}
 use mathlib.Core.Bool.{Bool, true, false, _&&_, _||_, not}
@@ -8,8 +9,8 @@ use Prim.Native.Nat.{ℕ, zero, suc, _+_, _-_, _<_, _≤_}
 use native.Mathlib.Omega.{arith}
 use lib.Dec.{eqb, leb}
 use lib.ListN.{getD, length, length-take, List·getD-eq-default}
-use borrow.Author.Tests.{eqb-true, eqb-false, leb-true, ltb-true, eq-eqb, not-true}
-use Rattle.marks.specs.Bools.{clash, opposed, and-left, and-right, or-cases, lt-or-le}
+use borrow.Author.Tests.{eqb-true, eqb-false, leb-true, ltb-true, not-true}
+use Rattle.marks.specs.Bools.{clash, and-left, and-right, or-cases, lt-or-le}
 use Rattle.rules.specs.declared.Node.{Node}
 use Rattle.rules.specs.declared.Message.{Message}
 use Rattle.rules.specs.declared.Pool.{Pool}
@@ -18,8 +19,6 @@ use Rattle.rules.specs.declared.Action.the-variants.{Lookup, Join, RequestLease
 use Rattle.rules.specs.declared.Refusal.{Refusal}
 use Rattle.rules.specs.declared.Refusal.the-variants as no
 use Rattle.rules.specs.declared.Plan.{Plan}
-use Rattle.rules.specs.Actions.{waits, joinWaits}
-use Rattle.rules.specs.Letters.{lookup}
 use Rattle.rules.specs.Mail.{removedAt}
 use Rattle.rules.specs.Nodes.{placed}
 use Rattle.rules.specs.Numbers.{refusalNumber, answerNumber}
@@ -31,7 +30,7 @@ use Rattle.table.specs.Settled.{deadSet}
 use Rattle.table.specs.Step.{inRange, stepOf}
 use Rattle.table.specs.Table.{nodeAt, idsOf, ringOf}
 use Rattle.mail.specs.Laws.{waiting-short, removed-length, mailed-quiet, mailed-send, added-length}
-use Rattle.sound.specs.Obeys.{Obeys, obeys}
+use Rattle.sound.specs.Obeys.{obeys}
 use Rattle.sound.specs.Sound.{Sound}
 use Rattle.keeps.specs.By.{leftOf, takenOf, plannedOf, RefusedFor, invalid, out-of-range, forbidden, full, by-step}
 use Rattle.keeps.specs.Comes.{Comes, no-comes, go-comes, by-lookup, by-join, by-request-lease, by-lease-expired, by-grant-expired}
@@ -40,7 +39,7 @@ use Rattle.keeps.specs.Comes.{by-take-lease-request, by-take-broadcast, 
 
 -- ---- the table
 
--- Take of each kind, from 0, which is none
+-- Take by kind: none; 1 Lookup; 2 JoinRequest; 3 JoinReply; 4 LSProbe; 5 LSProbeReply; 6 NoLegalRoute; 7 LeaseRequest; 8 BroadcastLSet
 abbrev pub takeNumbers : List (List ℕ)
 takeNumbers =
     []
@@ -54,7 +53,7 @@ takeNumbers =
     ∷ (2 ∷ 4 ∷ 5 ∷ [])
     ∷ []
 
--- with which numbers an action can be refused, besides 1 and 10
+-- the numbers with which an action can be refused, besides 1 and 10
 abbrev pub numbersOf : Pool → Action → List ℕ
 numbersOf p (Lookup i k) = 3 ∷ 6 ∷ []
 numbersOf p (Join i seed) = 2 ∷ 3 ∷ 4 ∷ 6 ∷ []
@@ -171,6 +170,12 @@ row-of-all f [] k all = refl
 row-of-all f (r ∷ rows) zero all = and-left (allOf f r) (allOf (allOf f) rows) all
 row-of-all f (r ∷ rows) (suc k) all = row-of-all f rows k (and-right (allOf f r) (allOf (allOf f) rows) all)
 
+abbrev low : ℕ → Bool
+low x = leb x 6 || eqb x 10
+
+abbrev other : ℕ → ℕ → Bool
+other y x = not (eqb x y)
+
 module _ (t : Table) (p : Pool) (len : ℕ) where
   -- no step answers 7, 8, 9 or 11
   pub step-number-low : (a : Action) → (answerNumber (stepOf t p len a .answer) ≤ 6) ⊎ (answerNumber (stepOf t p len a .answer) ≡ 10)
@@ -179,9 +184,6 @@ module _ (t : Table) (p : Pool) (len : ℕ) where
       ⊎-elim (λ e. inl (leb-true x 6 e)) (λ e. inr (eqb-true x 10 e))
       (or-cases (leb x 6) (eqb x 10) (one-of-all low x (answersOf p a) (step-numbers t p len a) (all a)))
     where
-      low : ℕ → Bool
-      low x = leb x 6 || eqb x 10
-
       all : (a : Action) → allOf low (answersOf p a) ≡ true
       all (Lookup i k) = refl
       all (Join i seed) = refl
@@ -191,20 +193,17 @@ module _ (t : Table) (p : Pool) (len : ℕ) where
       all (Take place) = row-of-all low takeNumbers (messageAt p place .kind) refl
 
   module _ (place : ℕ) where
-    abbrev takes : ℕ
-    takes = answerNumber (stepOf t p len (Take place) .answer)
-
-    abbrev other : ℕ → ℕ → Bool
-    other y x = not (eqb x y)
-
-    not-answered : (y : ℕ) → allOf (other y) (answersOf p (Take place)) ≡ true → takes ≡ y → ⊥
-    not-answered y all = eqb-false takes y (not-true (eqb takes y) (one-of-all (other y) takes (answersOf p (Take place)) (step-numbers t p len (Take place)) all))
+    not-answered : (y : ℕ) → allOf (other y) (answersOf p (Take place)) ≡ true
+        → answerNumber (stepOf t p len (Take place) .answer) ≡ y → ⊥
+    not-answered y all =
+        let x = answerNumber (stepOf t p len (Take place) .answer) in
+        eqb-false x y (not-true (eqb x y) (one-of-all (other y) x (answersOf p (Take place)) (step-numbers t p len (Take place)) all))
 
     -- Take is never refused with 3
     pub take-not-3 : answerNumber (stepOf t p len (Take place) .answer) ≡ 3 → ⊥
     take-not-3 = not-answered 3 (row-of-all (other 3) takeNumbers (messageAt p place .kind) refl)
 
-    -- Take of a Lookup, a JoinRequest, a LeaseRequest or a BroadcastLSet is never refused with 6, nor of a NoLegalRoute
+    -- Take of a Lookup, JoinRequest, NoLegalRoute, LeaseRequest or BroadcastLSet is never refused with 6
     pub take-not-6 : oneOf (messageAt p place .kind) (1 ∷ 2 ∷ 6 ∷ 7 ∷ 8 ∷ []) ≡ true
         → answerNumber (stepOf t p len (Take place) .answer) ≡ 6 → ⊥
     take-not-6 h =

@@ -1,14 +1,13 @@
--- What every plan keeps. A plan is fine (FinePlan) where its node obeys the node rules and has the old id, and each message that it adds obeys its kind.
--- Here for the five actions besides Take, whose kinds are in Takes. Assumes nothing.
+-- What every plan keeps. A plan is fine (FinePlan) where its node has the old id and obeys the node rules, and each message that it adds
+-- obeys its kind. Here for the five actions besides Take, whose kinds are in Takes. Assumes nothing.
 use mathlib.Core.Path.{_≡_, refl}
-use mathlib.Core.Bool.{Bool, true, false, cond, _&&_, _||_, not}
+use mathlib.Core.Bool.{Bool, true, false, cond}
 use mathlib.Core.List.{List}
 use Prim.Native.Nat.{ℕ, _^_, _<_}
 use native.Mathlib.Omega.{arith}
-use Rattle.marks.specs.Marks.{has, listed, removeOf, single, without}
+use Rattle.marks.specs.Marks.{has, listed, single}
 use Rattle.marks.specs.Bools.{opposed}
 use Rattle.marks.specs.Laws.{has-zero, listed-has, listed-zero, listed-remove, listed-single, listed-without}
-use Rattle.marks.specs.declared.Found.{Found}
 use Rattle.marks.specs.declared.Found.the-variants.{At, Nothing}
 use Rattle.rules.specs.declared.Way.the-variants.{Up, Down}
 use Rattle.rules.specs.declared.Ring.{Ring}
@@ -16,17 +15,14 @@ use Rattle.rules.specs.declared.Status.{Status}
 use Rattle.rules.specs.declared.Status.the-variants as status
 use Rattle.rules.specs.declared.Node.{Node}
 use Rattle.rules.specs.declared.Message.{Message}
-use Rattle.rules.specs.declared.Refusal.{Refusal}
-use Rattle.rules.specs.declared.Refusal.the-variants as no
 use Rattle.rules.specs.declared.Plan.{Plan}
 use Rattle.rules.specs.declared.Planned.{Planned}
-use Rattle.rules.specs.declared.Planned.the-variants.{No, Go}
-use Rattle.rules.specs.Actions.{unlessIn, leasePlan, isNeighbour, planLookup, planJoin, planRequestLease, planLeaseExpired, planGrantExpired}
+use Rattle.rules.specs.Actions.{unlessIn, leasePlan, planLookup, planJoin, planRequestLease, planLeaseExpired, planGrantExpired}
 use Rattle.rules.specs.Fits.{nodeFits, messageFits}
 use Rattle.rules.specs.Leaf.{leftNeighbour, rightNeighbour}
-use Rattle.rules.specs.Letters.{lookup, joinRequest, leaseRequest}
+use Rattle.rules.specs.Letters.{leaseRequest}
 use Rattle.rules.specs.Nodes.{sidesOf, placed}
-use Rattle.rules.specs.Plans.{isReady, withStatus, withLeases, quietPlan, sendPlan}
+use Rattle.rules.specs.Plans.{withStatus, withLeases, quietPlan, sendPlan}
 use Rattle.rules.specs.Pool.{blank}
 use Rattle.laws.specs.Leaf.{seen-listed}
 use Rattle.mail.specs.Laws.{Fine}
@@ -74,9 +70,11 @@ unless-to P m set h s p = go (has set h)
 module _ {g : Ring} {i : ℕ} {v : Node} where
   -- a plan that sends nothing, and one that sends one message
   pub quiet-fine : {w : Node} → w .id ≡ v .id → NodeRules g i w → FinePlan g i v (quietPlan w)
-  quiet-fine e r = record { same-id = e; rules = r; mail = record { one = λ s. none-to (Fits g) blank s; rest = λ s l. none-sent (Fits g) blank s } }
+  quiet-fine e r =
+      record { same-id = e; rules = r; mail = record { one = λ s. none-to (Fits g) blank s; rest = λ s l. none-sent (Fits g) blank s } }
 
-  pub send-fine : {w : Node} {m : Message} {h : ℕ} → w .id ≡ v .id → NodeRules g i w → Fits g (placed m h) → FinePlan g i v (sendPlan w m h)
+  pub send-fine : {w : Node} {m : Message} {h : ℕ} → w .id ≡ v .id → NodeRules g i w → Fits g (placed m h)
+      → FinePlan g i v (sendPlan w m h)
   send-fine {m = m} {h = h} e r f =
       record { same-id = e; rules = r; mail = record { one = λ s. one-to (Fits g) m h s f; rest = λ s l. none-sent (Fits g) blank s } }
 

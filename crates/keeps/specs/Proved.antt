@@ -1,6 +1,6 @@
--- What every step keeps, proved. A done step writes one node by a fine plan, so its ids stay and its node obeys the rules; what waits afterwards is what waited,
--- less one, and what the plan added, each with no equal. Assumes nothing.
-use mathlib.Core.Path.{_≡_, refl, sym, _∙_, ap}
+-- What every step keeps, proved. A done step writes one node by a fine plan, so the ids stay and the node obeys its rules; what waits
+-- afterwards is what waited, less the message taken, and what the plan added where no equal waits. Assumes nothing.
+use mathlib.Core.Path.{_≡_, refl}
 use mathlib.Core.Logic.{_⊎_, inl, inr}
 use mathlib.Core.Bool.{true}
 use mathlib.Core.List.{List}
@@ -23,7 +23,7 @@ use Rattle.rules.specs.Letters.{lookup}
 use Rattle.rules.specs.Mail.{removedAt}
 use Rattle.rules.specs.Nodes.{noNode, placed}
 use Rattle.rules.specs.Plans.{mailed}
-use Rattle.rules.specs.Pool.{messageAt, waiting, laid}
+use Rattle.rules.specs.Pool.{messageAt, waiting}
 use Rattle.table.specs.declared.Table.{Table}
 use Rattle.table.specs.Settled.{deadSet}
 use Rattle.table.specs.Step.{inRange}
@@ -86,7 +86,8 @@ written-ids t i v e = map-set-same idOf (t .nodes) i v noNode e
 
 -- ---- the messages that wait when additions begin
 
-by-left : (C : List Message → Type 0) (p : Pool) (a : Action) → C (waiting p) → ((place : ℕ) → C (removedAt (waiting p) place)) → C (leftOf p a)
+by-left : (C : List Message → Type 0) (p : Pool) (a : Action) → C (waiting p) → ((place : ℕ) → C (removedAt (waiting p) place))
+    → C (leftOf p a)
 by-left C p (Lookup i k) all less = all
 by-left C p (Join i seed) all less = all
 by-left C p (RequestLease i) all less = all

@@ -1,5 +1,5 @@
--- What Take plans is refused or fine, for each kind of message that obeys its kind. The leaf set after adding obeys the node rules for its owner, the sets of
--- other nodes are made of listed sets without the owner, and what is sent carries those. Assumes nothing.
+-- What Take plans is refused or fine, for each message that obeys its kind. The idea: a leaf set after adding obeys the rules for its
+-- owner, the sets of other nodes are made of listed sets without the owner, and what is sent carries those. Assumes nothing.
 use mathlib.Core.Path.{_≡_, refl, _∙_, ap}
 use mathlib.Core.Bool.{Bool, true, false, cond, _&&_, not}
 use mathlib.Core.List.{List}
@@ -7,7 +7,7 @@ use Prim.Native.Nat.{ℕ, _^_, _<_}
 use native.Mathlib.Omega.{arith}
 use lib.Dec.{eqb}
 use borrow.Author.Tests.{eq-eqb}
-use Rattle.marks.specs.Marks.{has, listed, union, meet, without, addOf, removeOf}
+use Rattle.marks.specs.Marks.{has, listed, union, without, addOf, removeOf}
 use Rattle.marks.specs.Bools.{and-fails-left, and-fails-right, or-fails, true-not}
 use Rattle.marks.specs.Laws.{has-zero, has-union, has-without, has-remove, listed-has, listed-zero}
 use Rattle.marks.specs.Laws.{listed-union, listed-meet, listed-without, listed-add, listed-remove}
@@ -20,19 +20,21 @@ use Rattle.rules.specs.declared.Hop.the-variants.{To}
 use Rattle.rules.specs.Asks.{Listed}
 use Rattle.rules.specs.Hop.{nextHop}
 use Rattle.rules.specs.Fits.{hasKey, hasNode, hasLeaf, leafFits}
-use Rattle.rules.specs.Leaf.{contentOf, leafWith, leafWithOne, leftNeighbour, rightNeighbour}
+use Rattle.rules.specs.Leaf.{contentOf, leafWith, leafWithOne}
 use Rattle.rules.specs.Letters.{lsProbe, lsProbeReply}
-use Rattle.rules.specs.Nodes.{sidesOf, carriedOf}
+use Rattle.rules.specs.Nodes.{sidesOf, carriedOf, placed}
 use Rattle.rules.specs.Pick.{idAt}
 use Rattle.rules.specs.Pool.{blank}
-use Rattle.rules.specs.Take.{joinReplyPlan, failedWithout, probes1, probes2, probesOf, stillProbing, probePlanOf, replyPlanOf, broadcastPlan, grantPlan, learntNode}
+use Rattle.rules.specs.Take.{joinReplyPlan, failedWithout, probes2, probesOf, learntNode, probePlanOf, replyPlanOf}
+use Rattle.rules.specs.Take.{grantPlan, newNeighbour, broadcastPlan}
 use Rattle.rules.specs.Take.{planTakeLookup, planTakeJoinRequest, planTakeJoinReply, planTakeProbe, planTakeProbeReply}
-use Rattle.rules.specs.Take.{planTakeLeaseRequest, planTakeBroadcast, planTake, newNeighbour}
+use Rattle.rules.specs.Take.{planTakeLeaseRequest, planTakeBroadcast, planTake}
 use Rattle.laws.specs.Leaf.{content-listed, leaf-fits, leaf-one-fits}
 use Rattle.laws.specs.Hop.{hop-listed}
 use Rattle.sound.specs.Nodes.{LeafRules, OtherRules, NodeRules, leaf-rules, rules-leaf}
 use Rattle.sound.specs.Obeys.{Obeys}
-use Rattle.sound.specs.Made.{lookup-fits, joinRequest-fits, joinReply-fits, lsProbe-fits, lsProbeReply-fits, noLegalRoute-fits, broadcast-fits}
+use Rattle.sound.specs.Made.{lookup-fits, joinRequest-fits, joinReply-fits, lsProbe-fits, lsProbeReply-fits}
+use Rattle.sound.specs.Made.{noLegalRoute-fits, broadcast-fits}
 use Rattle.keeps.specs.Comes.{by-take-lookup, by-take-join-request, by-take-join-reply, by-take-probe, by-take-probe-reply}
 use Rattle.keeps.specs.Comes.{by-take-lease-request, by-take-broadcast, by-take}
 use Rattle.keeps.specs.Plans.{Fits, FinePlan, FinePlanned, none-to, one-to, quiet-fine, send-fine, leases-rules}
@@ -133,8 +135,8 @@ module _ {g : Ring} {ids : List ℕ} (l : Listed g ids) {i : ℕ} (hi : i < g .n
         };
       }
 
-  pub fine-take-join-reply : (m : Message) → m .owner < g .n → leafFits g (m .owner) (carriedOf m) ≡ true → listed (g .n) (m .routing) ≡ true
-      → FinePlanned g i v (planTakeJoinReply g ids i v m)
+  pub fine-take-join-reply : (m : Message) → m .owner < g .n → leafFits g (m .owner) (carriedOf m) ≡ true
+      → listed (g .n) (m .routing) ≡ true → FinePlanned g i v (planTakeJoinReply g ids i v m)
   fine-take-join-reply m h f e =
       by-take-join-reply g ids i v m tt tt tt (fine-joined (m .routing) _ e (leaf-content (leaf-rules g (m .owner) (carriedOf m) f) h))
 
@@ -161,22 +163,39 @@ module _ {g : Ring} {ids : List ℕ} (l : Listed g ids) {i : ℕ} (hi : i < g .n
       }
 
   module _ (m : Message) (h : m .word < g .n) where
+    -- F, S and P
+    abbrev trusted : ℕ
+    trusted = failedWithout v (m .word)
+
+    abbrev heard : Sides
+    heard = leafWithOne g ids i (sidesOf v) (m .word)
+
+    abbrev asked : ℕ
+    asked = probesOf g ids i v heard trusted m
+
+    trusted-rules : OtherRules g i trusted
+    trusted-rules = others-remove low (m .word) (r .failed)
+
+    heard-rules : LeafRules g i heard
+    heard-rules = with-one-rules (m .word)
+
+    asked-rules : OtherRules g i asked
+    asked-rules = probes-rules heard trusted m heard-rules
+
+    -- an LSProbe(S, F) to each of P
+    asked-fit : (t : ℕ) → t < 64 → has asked t ≡ true → Fits g (placed (lsProbe i heard trusted) t)
+    asked-fit t k e =
+        let there = listed-has (g .n) asked t (asked-rules .inside) k e in
+        lsProbe-fits g t there i heard trusted hi (rules-leaf heard-rules) (trusted-rules .inside)
+
     fine-probe : FinePlan g i v (probePlanOf g ids i v m)
     unfolding probePlanOf
     fine-probe =
-        let j = m .word in
-        let f = failedWithout v j in
-        let s = leafWithOne g ids i (sidesOf v) j in
-        let failed = others-remove {g = g} low j (r .failed) in
-        let leaf = with-one-rules j in
-        let p = probes-rules s f m leaf in
+        let reply = lsProbeReply-fits g (m .word) h i heard trusted hi (rules-leaf heard-rules) (trusted-rules .inside) in
         record {
           same-id = refl;
-          rules = learnt-rules j (v .status) h leaf failed (others-union low (r .probing) p);
-          mail = record {
-            one = λ t. one-to (Fits g) (lsProbeReply i s f) j t (lsProbeReply-fits g j h i s f hi (rules-leaf leaf) (failed .inside));
-            rest = λ t k e. lsProbe-fits g t (listed-has (g .n) _ t (p .inside) k e) i s f hi (rules-leaf leaf) (failed .inside);
-          };
+          rules = learnt-rules (m .word) (v .status) h heard-rules trusted-rules (others-union low (r .probing) asked-rules);
+          mail = record { one = λ t. one-to (Fits g) (lsProbeReply i heard trusted) (m .word) t reply; rest = asked-fit };
         }
 
     pub fine-take-probe : FinePlanned g i v (planTakeProbe g ids i v m)
@@ -185,20 +204,11 @@ module _ {g : Ring} {ids : List ℕ} (l : Listed g ids) {i : ℕ} (hi : i < g .n
     fine-reply : FinePlan g i v (replyPlanOf g ids i v m)
     unfolding replyPlanOf
     fine-reply =
-        let j = m .word in
-        let f = failedWithout v j in
-        let s = leafWithOne g ids i (sidesOf v) j in
-        let failed = others-remove {g = g} low j (r .failed) in
-        let leaf = with-one-rules j in
-        let p = probes-rules s f m leaf in
-        let probing = others-remove {g = g} low j (others-without low (v .failed) (others-union low (r .probing) p)) in
+        let probing = others-without {g = g} low (v .failed) (others-union low (r .probing) asked-rules) in
         record {
           same-id = refl;
-          rules = learnt-rules j _ h leaf failed probing;
-          mail = record {
-            one = λ t. none-to (Fits g) blank t;
-            rest = λ t k e. lsProbe-fits g t (listed-has (g .n) _ t (p .inside) k e) i s f hi (rules-leaf leaf) (failed .inside);
-          };
+          rules = learnt-rules (m .word) _ h heard-rules trusted-rules (others-remove low (m .word) probing);
+          mail = record { one = λ t. none-to (Fits g) blank t; rest = asked-fit };
         }
 
     pub fine-take-probe-reply : FinePlanned g i v (planTakeProbeReply g ids i v m)
