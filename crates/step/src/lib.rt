@@ -12,7 +12,6 @@ ghost use Rattle.table.specs.Settle.{refusedOf, doneOf, carriedOut};
 ghost use Rattle.table.specs.Settle.{settle as settleOf};
 ghost use Rattle.table.specs.Valid.{validOf};
 ghost use Rattle.table.specs.Step.{inRange, actOf, stepOf};
-use marks::Found;
 use rules::Action;
 use rules::Answer;
 use rules::Message;
@@ -63,10 +62,7 @@ pub fn lookup(t: Table, p: Pool, i: usize, k: u64) -> Stepped
 {
     let key = k as u32;
     let wanted = parts::to_slot(route::lookup_of(key), i as u32);
-    let waits = match mail::first_equal(p, wanted) {
-        Found::At(_) => true,
-        Found::Nothing => false,
-    };
+    let waits = mail::waits(p, wanted);
     let v = table::node_at(t, i);
     let what = route::plan_lookup(waits, i, key, v);
     settle::settled_by(t, p, mail::tidy(p), i, what)
