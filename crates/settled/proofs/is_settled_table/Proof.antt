@@ -1,7 +1,7 @@
--- `settled::is_settled_table` meets its contract. The invariant: the nodes below i are calm. The measure: the slots left. A turn decides the one test
--- of Laws by the node's status. Assumes nothing.
+-- `settled::is_settled_table` meets its contract. The invariant: the nodes below i are calm (Laws). The measure: the slots left.
+-- A turn decides whether a node is calm by its status. Assumes nothing.
 use borrow.Author.Needs.{needs}
-use borrow.Author.Tests.{eq-eqb, ne-eqb, not-true, not-false}
+use borrow.Author.Tests.{not-true, not-false}
 use mathlib.Core.Path.{_≡_, refl, sym, _∙_}
 use mathlib.Core.Logic.{⊎-elim}
 use mathlib.Core.List.{List}
@@ -15,7 +15,7 @@ use Rattle.rules.specs.declared.Ring.{Ring}
 use Rattle.rules.specs.Plans.{isDead, isReady}
 use Rattle.table.specs.declared.Table.{Table}
 use Rattle.table.specs.Table.{nodeAt, idsOf, ringOf}
-use Rattle.table.specs.Settled.{readySet, settledAt, isSettled}
+use Rattle.table.specs.Settled.{readySet, settledAt}
 use Rattle.settled.proofs.Laws.{calmIn, calm-ready, calm-other, settled-none, settled-not, settled-all}
 use Rattle.settled.proofs.is_settled_table.Statement.{statement}
 use Rattle.settled.proofs.is_settled_table.Tie as tie
@@ -33,21 +33,27 @@ tableAt l = l .before .before .before .before .before .args .t1
 abbrev nodeIn : tie.At-loop Inv-loop μ-loop → Node
 nodeIn l = nodeAt (tableAt l) (l .loop .i)
 
+-- what settled_at is asked there
+abbrev fineAt : tie.At-loop Inv-loop μ-loop → Bool
+fineAt l =
+    let b = l .before .before in
+    settledAt (b .ring-of .result) (l .before .ids .result) (b .before .before .ready-set .result) (l .loop .i) (nodeIn l)
+
 low : (l : tie.At-loop Inv-loop μ-loop) → tableAt l .n ≤ 64
 low l = l .before .before .before .before .before .pre .n-high
 
--- what was asked once, before the loop
-fine : (g : Ring) (ids : List ℕ) (ready i : ℕ) (v : Node) (t : Table) → g ≡ ringOf t → ids ≡ idsOf t → ready ≡ readySet t
+-- what was asked once, before the loop, is of the table
+asked : (g : Ring) (ids : List ℕ) (ready i : ℕ) (v : Node) (t : Table) → g ≡ ringOf t → ids ≡ idsOf t → ready ≡ readySet t
     → settledAt g ids ready i v ≡ settledAt (ringOf t) (idsOf t) (readySet t) i v
-fine g ids ready i v t p q e = rw (p, q, e)
+asked g ids ready i v t p q e = rw (p, q, e)
 
 -- a turn at a ready node, and at another
-turn-ready : (l : tie.At-loop Inv-loop μ-loop) (r : Bool) → isReady (nodeIn l .status) ≡ true
-    → r ≡ settledAt (l .before .before .ring-of .result) (l .before .ids .result) (l .before .before .before .before .ready-set .result) (l .loop .i) (nodeIn l)
+turn-ready : (l : tie.At-loop Inv-loop μ-loop) (r : Bool) → isReady (nodeIn l .status) ≡ true → r ≡ fineAt l
     → calmIn (tableAt l) (l .loop .i) ≡ r
 turn-ready l r up s =
+    let b = l .before .before in
     calm-ready (isDead (nodeIn l .status)) _ _ up
-    ∙ sym (s ∙ fine _ _ _ _ _ _ (l .before .before .ring-of .ensures) (l .before .ids .ensures) (l .before .before .before .before .ready-set .ensures))
+    ∙ sym (s ∙ asked _ _ _ _ _ _ (b .ring-of .ensures) (l .before .ids .ensures) (b .before .before .ready-set .ensures))
 
 turn-other : (l : tie.At-loop Inv-loop μ-loop) (r : Bool) → isReady (nodeIn l .status) ≡ false → r ≡ isDead (nodeIn l .status)
     → calmIn (tableAt l) (l .loop .i) ≡ r
@@ -81,7 +87,8 @@ is-ready-requires c κs = search needs
 settled-at-requires : tie.Need-settled-at-requires Inv-loop μ-loop
 settled-at-requires c κs =
     let l = c .before .before .before .before .before in
-    (rw (l .before .before .ring-of .ensures, l .before .ids .ensures) (l .before .before .before .before .before .pre), omega (arith, low l))
+    let b = l .before .before in
+    (rw (b .ring-of .ensures, l .before .ids .ensures) (b .before .before .before .pre), omega (arith, low l))
 
 returns-2 : tie.Need-returns-2 Inv-loop μ-loop
 returns-2 c =
@@ -101,7 +108,8 @@ returns-3 c =
     let r = d .before .before in
     let l = r .before .before .before in
     sym (settled-not (tableAt l) (l .loop .i) (omega arith)
-    (turn-other l (d .is-dead .result) (sym (r .is-ready .ensures) ∙ d .before .if2 .left) (d .is-dead .ensures) ∙ not-true _ (c .if4 .taken)))
+    (turn-other l (d .is-dead .result) (sym (r .is-ready .ensures) ∙ d .before .if2 .left) (d .is-dead .ensures)
+    ∙ not-true _ (c .if4 .taken)))
 
 add-i : tie.Need-add-i Inv-loop μ-loop
 add-i c = omega (arith, low (c .before .before .before .before))
@@ -116,7 +124,8 @@ loop-again c =
       omega arith,
       more (l .loop .i) (calmIn (tableAt l)) (l .loop .inv .1) (⊎-elim
           (λ w. turn-ready l (w .2 .result) (sym (r .is-ready .ensures) ∙ w .0 .taken) (w .2 .ensures) ∙ not-false _ (w .3 .left))
-          (λ w. turn-other l (w .1 .result) (sym (r .is-ready .ensures) ∙ w .0 .left) (w .1 .ensures) ∙ not-false _ (w .2 .left)) (c .if2 .came)),
+          (λ w. turn-other l (w .1 .result) (sym (r .is-ready .ensures) ∙ w .0 .left) (w .1 .ensures) ∙ not-false _ (w .2 .left))
+          (c .if2 .came)),
     )
 
 returns-4 : tie.Need-returns-4 Inv-loop μ-loop

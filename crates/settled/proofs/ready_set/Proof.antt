@@ -1,4 +1,5 @@
--- `settled::ready_set` meets its contract. The invariant: the ready nodes below s are gathered. The measure: the slots left. Assumes nothing.
+-- `settled::ready_set` meets its contract. The invariant: the ready nodes below s are gathered. The measure: the slots left.
+-- Assumes nothing.
 use borrow.Author.Needs.{needs}
 use mathlib.Core.Path.{_≡_, refl, sym, _∙_}
 use mathlib.Core.Logic.{inl, inr, ⊎-elim}

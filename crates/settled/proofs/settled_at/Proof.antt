@@ -27,7 +27,14 @@ unfolding settledAt
 returns c =
     let d = c .before in
     let u = d .before .before in
-    rw (c .both .ensures, d .seen4 .ensures, d .before .seen3 .ensures, u .seen2 .ensures, u .before .seen .ensures, u .before .before .removed .ensures)
+    rw (
+      c .both .ensures,
+      d .seen4 .ensures,
+      d .before .seen3 .ensures,
+      u .seen2 .ensures,
+      u .before .seen .ensures,
+      u .before .before .removed .ensures,
+    )
 
 pub settled-at-spec : {M : Type 1} → statement M
 settled-at-spec =
