@@ -131,16 +131,18 @@ decode-all-at ws size (suc n) (suc s) bs h =
     let more : size * suc s ≡ size + size * s = omega arith in
     rw (more, decode-all-at ws size n s (drop size bs) (omega arith), drop-drop)
 
-pub decode-encode-all : (ws : List ℕ) (size : ℕ) (rs : List (List ℕ)) (rest : List ℕ) → bytesIn ws ≡ size
-    → ((i : ℕ) → i < length rs → Fit ws (getD rs i [])) → decodeAll ws size (length rs) (encodeAll ws rs ++ rest) ≡ rs
+pub decode-encode-all : (ws : List ℕ) (size n : ℕ) (rs : List (List ℕ)) (rest : List ℕ) → bytesIn ws ≡ size → length rs ≡ n
+    → ((i : ℕ) → i < n → Fit ws (getD rs i [])) → decodeAll ws size n (encodeAll ws rs ++ rest) ≡ rs
 unfolding encodeAll decodeAll
-decode-encode-all ws size [] rest e h = refl
-decode-encode-all ws size (r ∷ rs) rest e h =
+decode-encode-all ws size zero [] rest e l h = refl
+decode-encode-all ws size zero (r ∷ rs) rest e l h = absurd (omega arith)
+decode-encode-all ws size (suc n) [] rest e l h = absurd (omega arith)
+decode-encode-all ws size (suc n) (r ∷ rs) rest e l h =
     let here = h zero (omega arith) in
     let more = encodeAll ws rs ++ rest in
     rw (append-assoc, decode-encode ws r more here)
     (rw (drop-at (encode ws r) more size (encode-length ws r (fit-length ws r here) ∙ e))
-    (ap (λ (l : List (List ℕ)). r ∷ l) (decode-encode-all ws size rs rest e (λ i l. h (suc i) (omega arith)))))
+    (ap (λ (l : List (List ℕ)). r ∷ l) (decode-encode-all ws size n rs rest e (omega arith) (λ i k. h (suc i) (omega arith)))))
 
 pub encode-decode-all : (ws : List ℕ) (size n : ℕ) (bs : List ℕ) → bytesIn ws ≡ size → Bytes bs → size * n ≤ length bs
     → encodeAll ws (decodeAll ws size n bs) ≡ take (size * n) bs
