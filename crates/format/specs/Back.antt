@@ -1,9 +1,9 @@
--- What is written of a file that was read: its header, its nodes and its messages are the bytes that were read, and so is the whole (file-back).
--- Assumes nothing.
-use mathlib.Core.Path.{_≡_, refl, sym, _∙_, ap, ap₂}
-use mathlib.Core.Bool.{Bool, true, false, _&&_}
-use mathlib.Core.List.{List, [], _∷_, _++_, map}
-use Prim.Native.Nat.{ℕ, _+_, _-_, _*_, _<_, _≤_}
+-- What is written of a file that was read: its header, its nodes and its messages are the bytes that were read, and so is the whole
+-- (file-back). Assumes nothing.
+use mathlib.Core.Path.{_≡_, refl, sym, _∙_, ap₂}
+use mathlib.Core.Bool.{true, _&&_}
+use mathlib.Core.List.{List, [], _++_, map}
+use Prim.Native.Nat.{ℕ, _+_, _-_, _*_, _<_}
 use native.Mathlib.Omega.{arith}
 use borrow.Author.Tests.{leb-true, eqb-true}
 use lib.Dec.{eqb, leb}
@@ -11,17 +11,15 @@ use lib.ListN.{length, getD, take, drop, replicate, length-map, length-drop, tak
 use lib.Seq.{take-all, take-at, drop-drop, take-append-seam}
 use Rattle.marks.specs.Bools.{and-left, and-right}
 use Rattle.marks.specs.Laws.{each}
-use Rattle.rules.specs.declared.Node.{Node}
-use Rattle.rules.specs.declared.Message.{Message}
 use Rattle.rules.specs.Limits.{mLow, mHigh, lLow, lHigh, nodesHigh, messagesHigh}
 use Rattle.rules.specs.Fits.{between}
 use Rattle.rules.specs.Nodes.{noNode}
-use Rattle.rules.specs.Pool.{waiting, laid}
 use Rattle.format.specs.Bytes.{encode, encodeAll, decode, decodeAll}
 use Rattle.format.specs.Codec.{Bytes, bytes-drop, decode-length, encode-decode, decode-all-length, decode-all-at, encode-decode-all}
 use Rattle.format.specs.Format.{headerWidths, nodeWidths, messageWidths, nodesAt, messagesAt, totalOf, headerRow, nodeRow, messageRow}
 use Rattle.format.specs.Format.{nodeFrom, messageFrom, fileOf}
-use Rattle.format.specs.Load.{headerWord, fileM, fileL, fileN, fileCount, headerFits, offsetsFit, nodeRows, statusesFit, fileTable, partPool, filePool}
+use Rattle.format.specs.Load.{headerWord, fileM, fileL, fileN, fileCount, headerFits, offsetsFit, nodeRows, statusesFit, fileTable}
+use Rattle.format.specs.Load.{partPool, filePool}
 use Rattle.format.specs.Rows.{header-row-back, node-row-back, message-row-back, map-back}
 use Rattle.format.specs.File.{node-row-at}
 
@@ -58,6 +56,15 @@ header-told bs h o =
       total = eqb-true _ _ (and-left z w zw);
       long = eqb-true _ _ (and-right z w zw);
     }
+
+count-back : (bs : List ℕ) → length (map messageFrom (messageRows bs)) ≡ fileCount bs
+count-back bs =
+    length-map (messageRows bs) messageFrom ∙ decode-all-length messageWidths 56 (fileCount bs) (drop (messagesAt (fileN bs)) bs)
+
+-- the counts of what is read give the length that was read
+pub file-total : (bs : List ℕ) → Header bs → totalOf (fileTable bs .n) (filePool bs .count) ≡ length bs
+unfolding fileTable filePool partPool
+file-total bs k = rw (count-back bs) (sym (k .long))
 
 module _ (bs : List ℕ) (b : Bytes bs) (k : Header bs) where
   header-back : encode headerWidths (headerRow (fileM bs) (fileL bs) (fileN bs) (fileCount bs)) ≡ take 32 bs
@@ -108,7 +115,5 @@ module _ (bs : List ℕ) (b : Bytes bs) (k : Header bs) where
   pub file-back : statusesFit bs ≡ true → fileOf (fileTable bs) (filePool bs) ≡ bs
   unfolding fileOf fileTable filePool partPool
   file-back e =
-      let xs = map messageFrom (messageRows bs) in
-      let count : length xs ≡ fileCount bs =
-      length-map (messageRows bs) messageFrom ∙ decode-all-length messageWidths 56 (fileCount bs) (drop (messagesAt (fileN bs)) bs) in
-      rw (take-append-seam xs, count) (ap₂ _++_ header-back (ap₂ _++_ (nodes-back e) messages-back) ∙ join)
+      rw (take-append-seam (map messageFrom (messageRows bs)), count-back bs)
+      (ap₂ _++_ header-back (ap₂ _++_ (nodes-back e) messages-back) ∙ join)

@@ -1,6 +1,6 @@
--- The laws of Bytes, once for all widths: a number and its bytes, a record and its bytes, records one after the other, and what a reader computes
--- of a record's field. Both round trips go field by field and record by record, by induction on the widths or on the number of records.
--- Assumes nothing.
+-- The laws of Bytes, once for all widths: a number and its bytes, a record and its bytes, records one after the other, and a field of a
+-- record as a reader computes it. Both round trips go field by field and record by record, by induction on the widths or on the number
+-- of records. Assumes nothing.
 use mathlib.Core.Path.{_≡_, refl, sym, _∙_, ap, ap₂}
 use mathlib.Core.List.{List, [], _∷_, _++_, append-assoc}
 use Prim.Native.Nat.{ℕ, zero, suc, _+_, _*_, _/_, _%_, _^_, _<_, _≤_}

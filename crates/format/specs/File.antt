@@ -1,30 +1,30 @@
--- The parts of a table file: the header, the nodes, the messages, how long each is and where it begins. Then what is read of a file that was written
--- (file-table, file-pool), and what is written of a file that was read (file-back). Assumes nothing.
-use mathlib.Core.Path.{_≡_, refl, sym, _∙_, ap, ap₂}
-use mathlib.Core.Bool.{Bool, true, false, _&&_}
-use mathlib.Core.List.{List, [], _∷_, _++_, map, append-nil}
-use Prim.Native.Nat.{ℕ, _+_, _-_, _*_, _<_, _≤_}
+-- The parts of a table file: the header, the nodes, the messages, how long each is and where it begins. Then what is read of a file that
+-- was written: its header, its nodes (file-table) and its messages (file-pool), and that it passes every test. Assumes nothing.
+use mathlib.Core.Path.{_≡_, refl, sym, _∙_, ap}
+use mathlib.Core.Bool.{true}
+use mathlib.Core.List.{List, [], _++_, map, append-nil}
+use Prim.Native.Nat.{ℕ, _+_, _*_, _<_, _≤_}
 use native.Mathlib.Omega.{arith}
-use borrow.Author.Tests.{le-leb}
+use borrow.Author.Tests.{le-leb, eq-eqb}
 use lib.Dec.{leb}
-use lib.ListN.{length, getD, take, drop, replicate, length-append, length-map}
-use lib.Seq.{length-take-le, getD-take, take-at, drop-at, drop-drop}
+use lib.ListN.{length, getD, take, drop, length-append, length-map}
+use lib.Seq.{length-take-le, getD-take, drop-at, drop-drop}
+use Rattle.marks.specs.Bools.{and-both}
 use Rattle.marks.specs.Laws.{all-of}
-use Rattle.rules.specs.declared.Node.{Node}
-use Rattle.rules.specs.declared.Message.{Message}
 use Rattle.rules.specs.declared.Pool.{Pool}
 use Rattle.rules.specs.Numbers.{statusNumber}
 use Rattle.rules.specs.Nodes.{noNode}
 use Rattle.rules.specs.Pool.{blank, messageAt, waiting, laid}
 use Rattle.table.specs.declared.Table.{Table}
-use Rattle.table.specs.Table.{nodeAt}
+use Rattle.table.specs.Table.{nodeAt, ringOf}
 use Rattle.table.specs.Valid.{validOf}
 use Rattle.format.specs.Bytes.{encode, encodeAll, decode, decodeAll}
 use Rattle.format.specs.Codec.{Fit, bytesIn, encode-length, decode-encode, encode-all-length, decode-all-at, decode-encode-all}
-use Rattle.format.specs.Format.{headerWidths, nodeWidths, messageWidths, nodesAt, messagesAt, totalOf, headerRow, nodeRow, messageRow, nodeFrom, messageFrom, fileOf}
-use Rattle.format.specs.Load.{headerWord, fileN, fileCount, nodeRows, statusesFit, fileTable, partPool, filePool}
+use Rattle.format.specs.Format.{headerWidths, nodeWidths, messageWidths, nodesAt, messagesAt, totalOf, headerRow, nodeRow, messageRow}
+use Rattle.format.specs.Format.{nodeFrom, messageFrom, fileOf}
+use Rattle.format.specs.Load.{fileN, headerFits, offsetsFit, nodeRows, statusesFit, fileTable, partPool, filePool}
 use Rattle.format.specs.Rows.{Held, status-low, node-fit, message-fit, node-back, message-back, map-back, map-at}
-use Rattle.format.specs.Told.{valid-m, valid-l, valid-n, valid-count, valid-slots}
+use Rattle.format.specs.Told.{numbers-told, valid-numbers, valid-m, valid-l, valid-n, valid-count, valid-slots}
 
 -- the parts of a file
 abbrev pub headerBytes : Table → Pool → List ℕ
@@ -49,7 +49,8 @@ module _ {A : Type 0} (f : A → List ℕ) (d : A) (ws : List ℕ) (size n : ℕ
   rows-length e =
       encode-all-length ws (map f (take n xs)) (λ i h. rw (rows-at i (rw rows-long at h)) (e (getD xs i d))) ∙ rw (rows-long, z)
 
-  rows-read : (rest : List ℕ) → ((i : ℕ) → Fit ws (f (getD xs i d))) → decodeAll ws size n (encodeAll ws (map f (take n xs)) ++ rest) ≡ map f (take n xs)
+  rows-read : (rest : List ℕ) → ((i : ℕ) → Fit ws (f (getD xs i d)))
+      → decodeAll ws size n (encodeAll ws (map f (take n xs)) ++ rest) ≡ map f (take n xs)
   rows-read rest k = decode-encode-all ws size n (map f (take n xs)) rest z rows-long (λ i h. rw (rows-at i h) (k i))
 
 -- ---- how long they are, and where they begin
@@ -110,7 +111,8 @@ module _ (t : Table) (p : Pool) (v : validOf t p ≡ true) (k : Held t p) where
   file-message-rows : decodeAll messageWidths 56 (p .count) (messageBytes p) ≡ map messageRow (waiting p)
   file-message-rows =
       ap (decodeAll messageWidths 56 (p .count)) (sym (append-nil (messageBytes p)))
-      ∙ rows-read messageRow blank messageWidths 56 (p .count) (p .places) refl held-count [] (λ q. message-fit (messageAt p q) (k .messages q))
+      ∙ rows-read messageRow blank messageWidths 56 (p .count) (p .places) refl held-count []
+      (λ q. message-fit (messageAt p q) (k .messages q))
 
   pub file-pool : filePool (fileOf t p) ≡ laid (waiting p)
   unfolding filePool partPool
@@ -130,3 +132,18 @@ module _ (t : Table) (p : Pool) (v : validOf t p ≡ true) (k : Held t p) where
 
       one : (s : ℕ) → s < t .n → leb (getD (decode nodeWidths (drop (nodesAt + 64 * s) (fileOf t p))) 1 0) 3 ≡ true
       one s h = rw (row s h) (le-leb (statusNumber (nodeAt t s .status)) 3 (status-low (nodeAt t s .status)))
+
+  pub file-header-fits : headerFits (fileOf t p) ≡ true
+  unfolding headerFits
+  file-header-fits =
+      let g = numbers-told (ringOf t) (valid-numbers t p v) in
+      rw file-header (and-both (g .m) (and-both (g .l) (and-both (g .n) (and-both (le-leb (p .count) 256 (valid-count t p v)) refl))))
+
+  pub file-offsets-fit : offsetsFit (fileOf t p) ≡ true
+  unfolding offsetsFit
+  file-offsets-fit =
+      let total = totalOf (t .n) (p .count) in
+      rw file-header
+      (and-both (eq-eqb nodesAt nodesAt refl)
+      (and-both (eq-eqb (messagesAt (t .n)) (messagesAt (t .n)) refl)
+      (and-both (eq-eqb total total refl) (eq-eqb (length (fileOf t p)) total (file-length t p held-n held-count)))))

@@ -7,3 +7,5 @@ pub mod Load
 pub mod Write
 pub mod File
 pub mod Back
+pub mod Exactly
+pub mod Theorems

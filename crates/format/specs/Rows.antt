@@ -1,5 +1,5 @@
--- Nodes and messages as rows of numbers, and back: what the machine's types hold of every value (Held), so that a row fits its widths; a node or a
--- message is read from its own row; a row is the row of what it says. Assumes nothing.
+-- Nodes and messages as rows of numbers, and back: what the machine's types hold of every value (Held), so that a row fits its widths;
+-- a node or a message is read from its own row; a row is the row of what it says. Assumes nothing.
 use mathlib.Core.Path.{_≡_, refl, sym, _∙_, ap, ap₂}
 use mathlib.Core.Bool.{Bool, true, false, cond, _&&_}
 use mathlib.Core.List.{List, [], _∷_, map}

@@ -1,26 +1,24 @@
--- What validity tells of the parts of a table file: the counts are in range, a slot that is not listed is blank, and the pool may be laid out anew.
--- Assumes nothing.
-use mathlib.Core.Path.{_≡_, refl, sym, _∙_, ap}
-use mathlib.Core.Bool.{Bool, true, false, cond, _&&_, not}
-use mathlib.Core.List.{List, _++_, map}
+-- What validity tells of the parts of a table file: the counts are in range, a slot that is not listed is blank, and the pool may be
+-- laid out anew. Assumes nothing.
+use mathlib.Core.Path.{_≡_, sym, _∙_, ap}
+use mathlib.Core.Bool.{true, _&&_}
+use mathlib.Core.List.{List, _++_}
 use Prim.Native.Nat.{ℕ, _+_, _-_, _<_, _≤_}
 use native.Mathlib.Omega.{arith}
 use borrow.Author.Tests.{leb-true, le-leb, le-ltb}
-use lib.Dec.{leb, ltb}
+use lib.Dec.{leb}
 use lib.ListN.{length, getD, take, drop, replicate, length-drop, length-replicate, getD-replicate, take-append-drop, List·getD-append}
 use lib.Seq.{length-take-le, ext-getD, getD-drop, getD-take, take-append-seam}
 use Rattle.marks.specs.Bools.{and-left, and-right, and-both}
 use Rattle.marks.specs.Laws.{each, all-of}
-use Rattle.marks.specs.Marks.{allTo}
 use Rattle.rules.specs.declared.Node.{Node}
-use Rattle.rules.specs.declared.Message.{Message}
 use Rattle.rules.specs.declared.Pool.{Pool}
 use Rattle.rules.specs.declared.Ring.{Ring}
 use Rattle.rules.specs.Limits.{mLow, mHigh, lLow, lHigh, nodesHigh, messagesHigh}
 use Rattle.rules.specs.Nodes.{noNode}
-use Rattle.rules.specs.Pool.{blank, messageAt, waiting, lay, laid}
+use Rattle.rules.specs.Pool.{blank, messageAt, waiting, laid}
 use Rattle.rules.specs.Mail.{allDifferent}
-use Rattle.rules.specs.Fits.{between, numbersFit, slotFits, messageFits, idFits, nodeFits, isBlank}
+use Rattle.rules.specs.Fits.{between, numbersFit, slotFits, messageFits}
 use Rattle.table.specs.declared.Table.{Table}
 use Rattle.table.specs.Table.{nodeAt, idsOf, ringOf}
 use Rattle.table.specs.Valid.{nodesFit, messagesFit, poolFits, validOf}
