@@ -1,12 +1,14 @@
 // The pool by value: the first equal message, adding, removing, sending. Each is the definition on the list of waiting messages; places past the count come out blank.
 ghost use mathlib.Core.Path.{_≡_};
+ghost use mathlib.Core.Bool.{_&&_};
 ghost use Prim.Native.Nat.{ℕ, _≤_, _<_};
-ghost use Rattle.rules.specs.Mail.{fieldsOf, allDifferent, firstEqual, removedAt};
+ghost use Rattle.rules.specs.Mail.{fieldsOf, allDifferent, firstEqual, added, sent, removedAt};
 ghost use Rattle.rules.specs.Mail.{alike as alikeOf};
 ghost use Rattle.rules.specs.Actions.{joinWaits};
-ghost use Rattle.rules.specs.Plans.{mailed};
+ghost use Rattle.rules.specs.Plans.{addedTo, mailed};
 ghost use Rattle.rules.specs.Pool.{waiting, laid, messageAt};
-ghost use Rattle.mail.specs.Sending.{startOf, pushOf, sendOf, mailOut, Neat};
+ghost use Rattle.mail.specs.Sending.{Neat, Going, Holds, MailedOut, heldOf, heldWith, slotted};
+ghost use Rattle.mail.specs.Mix.{mixOf, bucketOf};
 use marks::Found;
 use rules::Message;
 use rules::Plan;
@@ -132,4 +134,168 @@ pub fn removed(p: Pool, place: usize) -> Pool
     }
     q.count = n - 1;
     tidy(q)
+}
+
+// A number made of the nine fields.
+pub fn mix(m: Message) -> u64
+    ensures { λ r. ⌜ r ≡ mixOf m ⌝ }
+{
+    let low = (m.word as u64)
+        ^ ((m.kind as u64) << 32)
+        ^ ((m.dest as u64) << 36)
+        ^ ((m.flag as u64) << 42)
+        ^ ((m.owner as u64) << 43);
+    low
+        ^ ((m.routing << 7) ^ (m.routing >> 57))
+        ^ ((m.left << 19) ^ (m.left >> 45))
+        ^ ((m.right << 31) ^ (m.right >> 33))
+        ^ ((m.failed << 47) ^ (m.failed >> 17))
+}
+
+// The bucket of a message, below 1021.
+pub fn bucket(m: Message) -> usize
+    ensures { λ r. ⌜ r ≡ bucketOf m ⌝ }
+{
+    (mix(m) % 1021) as usize
+}
+
+// Are no two waiting messages equal? A message is compared only with the earlier ones of its own bucket: `heads` has one more than the last place
+// of each bucket, and `next` one more than the place before of the same bucket; 0 is none.
+pub fn all_different(p: Pool) -> bool
+    requires { ⌜ p .count ≤ 256 ⌝ }
+    ensures { λ r. ⌜ r ≡ allDifferent (waiting p) ⌝ }
+{
+    let n = p.count;
+    let mut heads = [0usize; 1021];
+    let mut next = [0usize; 256];
+    let mut j: usize = 0;
+    let different = 'places: loop {
+        if n <= j {
+            break 'places true;
+        }
+        let m = p.places[j];
+        let h = bucket(m);
+        let first = heads[h];
+        let mut at = first;
+        'chain: while 0 < at {
+            let q = p.places[at - 1];
+            if alike(q, m) {
+                break 'places false;
+            }
+            at = next[at - 1];
+        }
+        next[j] = first;
+        heads[h] = j + 1;
+        j += 1;
+    };
+    different
+}
+
+// Adds m at the end, unless an equal message waits; without room, or if there was none before, it does not fit.
+pub fn push(x: Sent, m: Message) -> Sent
+    requires { ⌜ Going x ⌝ }
+    ensures { λ r. ⌜ Holds (x .fits) (added (waiting (x .pool)) m) r ⌝ }
+{
+    if !x.fits {
+        return x;
+    }
+    let mut p = x.pool;
+    let at = first_equal(p, m);
+    if let Found::At(_) = at {
+        return x;
+    }
+    let n = p.count;
+    if 256 <= n {
+        return Sent { fits: false, pool: p };
+    }
+    p.places[n] = m;
+    p.count = n + 1;
+    Sent { fits: true, pool: p }
+}
+
+// Adds m for a slot, if there is one. A slot that no mark stands for finds no room.
+pub fn push_to(x: Sent, m: Message, to: Found) -> Sent
+    requires { ⌜ Going x ⌝ }
+    ensures { λ r. ⌜ Holds (x .fits && slotted to) (addedTo to m (waiting (x .pool))) r ⌝ }
+{
+    let Found::At(s) = to else {
+        return x;
+    };
+    if s < 64 {
+        push(x, parts::to_slot(m, s as u32))
+    } else {
+        Sent { fits: false, ..x }
+    }
+}
+
+// A set of slots, with q's if q equals m in all but the slot.
+pub fn held_with(set: u64, q: Message, m: Message) -> u64
+    ensures { λ r. ⌜ r ≡ heldWith m set q ⌝ }
+{
+    let one = parts::to_slot(m, q.dest);
+    if alike(q, one) {
+        marks::added(set, q.dest as usize)
+    } else {
+        set
+    }
+}
+
+// The slots to which an equal of m waits.
+pub fn held(p: Pool, m: Message) -> u64
+    requires { ⌜ p .count ≤ 256 ⌝ }
+    ensures { λ r. ⌜ r ≡ heldOf m (waiting p) ⌝ }
+{
+    let n = p.count;
+    let mut set: u64 = 0;
+    let mut at: usize = 0;
+    while at < n {
+        let q = p.places[at];
+        set = held_with(set, q, m);
+        at += 1;
+    }
+    set
+}
+
+// Adds m for each slot of a set, in rising order, as push would.
+pub fn send_each(x: Sent, m: Message, to: u64) -> Sent
+    requires { ⌜ Going x ⌝ }
+    ensures { λ r. ⌜ Holds (x .fits) (sent m to (waiting (x .pool))) r ⌝ }
+{
+    if !x.fits {
+        return x;
+    }
+    if to == 0 {
+        return x;
+    }
+    let mut p = x.pool;
+    let have = held(p, m);
+    let mut rest = marks::less(to, have);
+    let fits = 'slots: loop {
+        let next = marks::lowest(rest);
+        let Found::At(s) = next else {
+            break 'slots true;
+        };
+        let n = p.count;
+        if 256 <= n {
+            break 'slots false;
+        }
+        p.places[n] = parts::to_slot(m, s as u32);
+        p.count = n + 1;
+        rest = marks::removed(rest, s);
+    };
+    Sent { fits, pool: p }
+}
+
+// What waits after a plan, where `from` waited before it.
+pub fn mail_out(from: Pool, plan: Plan) -> Sent
+    requires { ⌜ Neat from ⌝ }
+    ensures { λ r. ⌜ MailedOut plan (waiting from) r ⌝ }
+{
+    let to = plan.to;
+    let first = plan.first;
+    let each = plan.each;
+    let all = plan.all;
+    let start = Sent { fits: true, pool: from };
+    let one = push_to(start, first, to);
+    send_each(one, each, all)
 }

@@ -1,6 +1,7 @@
 // Validity, decided: true exactly for a valid table and pool.
 ghost use mathlib.Core.Path.{_≡_};
-ghost use Prim.Native.Nat.{ℕ, _≤_, _<_};
+ghost use Prim.Native.Nat.{ℕ, _^_, _≤_, _<_};
+ghost use lib.Dec.{ltb};
 ghost use Rattle.rules.specs.Fits.{numbersFit, idFits, sideFits, leafFits, othersFit, nodeFits, isBlank, slotFits, wordFits, flagFits, carriedFits, ownerFits, routingFits, failedFits, fieldsFit, messageFits};
 ghost use Rattle.table.specs.Table.{ringOf};
 ghost use Rattle.table.specs.Valid.{nodesFit, messagesFit, poolFits, validOf};
@@ -17,20 +18,25 @@ pub fn numbers_fit(g: Ring) -> bool
     (2 <= g.m) & (g.m <= 32) & ((1 <= g.l) & (g.l <= 8) & ((1 <= g.n) & (g.n <= 64)))
 }
 
+// Is x below 2^m?
+pub fn below_size(x: u32, m: u32) -> bool
+    requires { ⌜ m ≤ 32 ⌝ }
+    ensures { λ r. ⌜ r ≡ ltb x (2 ^ m) ⌝ }
+{
+    (x as u64) < (1u64 << m)
+}
+
 // Is the id of slot s below 2^m, and above the one before it?
 pub fn id_fits(g: Ring, ids: &[u32; 64], s: usize) -> bool
     requires { ⌜ (g .m ≤ 32) × (s < 64) ⌝ }
     ensures { λ r. ⌜ r ≡ idFits g (now (ids .entry)) s ⌝ }
 {
     let x = ids[s];
-    if (x as u64) >= (1u64 << g.m) {
-        return false;
-    }
+    let below = below_size(x, g.m);
     if s == 0 {
-        return true;
+        return below;
     }
-    let y = ids[s - 1];
-    y < x
+    below & (ids[s - 1] < x)
 }
 
 pub fn side_fits(g: Ring, owner: usize, side: u64) -> bool
@@ -108,7 +114,7 @@ pub fn word_fits(kind: u32, g: Ring, word: u32) -> bool
     ensures { λ r. ⌜ r ≡ wordFits kind g word ⌝ }
 {
     if (kind == 1) | (kind == 6) {
-        return (word as u64) < (1u64 << g.m);
+        return below_size(word, g.m);
     }
     if (kind == 2) | (((kind == 4) | (kind == 5)) | (kind == 7)) {
         (word as usize) < g.n
