@@ -16,15 +16,15 @@ use Rattle.rules.specs.Numbers.{statusNumber}
 use Rattle.rules.specs.Nodes.{noNode}
 use Rattle.rules.specs.Pool.{blank, messageAt, waiting, laid}
 use Rattle.table.specs.declared.Table.{Table}
-use Rattle.table.specs.Table.{nodeAt, ringOf}
-use Rattle.table.specs.Valid.{validOf}
+use Rattle.table.specs.Table.{nodeAt}
+use Rattle.sound.specs.Sound.{Sound}
 use Rattle.format.specs.Bytes.{encode, encodeAll, decode, decodeAll}
 use Rattle.format.specs.Codec.{Fit, bytesIn, encode-length, decode-encode, encode-all-length, decode-all-at, decode-encode-all}
 use Rattle.format.specs.Format.{headerWidths, nodeWidths, messageWidths, nodesAt, messagesAt, totalOf, headerRow, nodeRow, messageRow}
 use Rattle.format.specs.Format.{nodeFrom, messageFrom, fileOf}
 use Rattle.format.specs.Load.{fileN, headerFits, offsetsFit, nodeRows, statusesFit, fileTable, partPool, filePool}
 use Rattle.format.specs.Rows.{Held, status-low, node-fit, message-fit, node-back, message-back, map-back, map-at}
-use Rattle.format.specs.Told.{numbers-told, valid-numbers, valid-m, valid-l, valid-n, valid-count, valid-slots}
+use Rattle.format.specs.Told.{slots-told}
 
 -- the parts of a file
 abbrev pub headerBytes : Table → Pool → List ℕ
@@ -83,18 +83,21 @@ module _ (t : Table) (p : Pool) (hn : t .n ≤ length (t .nodes)) (hc : p .count
 pub node-row-at : (bs : List ℕ) (s : ℕ) → s < fileN bs → getD (nodeRows bs) s [] ≡ decode nodeWidths (drop (nodesAt + 64 * s) bs)
 node-row-at bs s h = decode-all-at nodeWidths 64 (fileN bs) s (drop nodesAt bs) h ∙ ap (decode nodeWidths) (drop-drop (64 * s) nodesAt bs)
 
-module _ (t : Table) (p : Pool) (v : validOf t p ≡ true) (k : Held t p) where
-  pub held-n : t .n ≤ length (t .nodes)
-  held-n = omega (arith, valid-n t p v, k .slots)
+module _ (t : Table) (p : Pool) (v : Sound t p) (k : Held t p) where
+  held-n : t .n ≤ length (t .nodes)
+  held-n = omega (arith, v .numbers .n-high, k .slots)
 
-  pub held-count : p .count ≤ length (p .places)
-  held-count = omega (arith, valid-count t p v, k .places)
+  held-count : p .count ≤ length (p .places)
+  held-count = omega (arith, v .counted, k .places)
+
+  pub file-long : length (fileOf t p) ≡ totalOf (t .n) (p .count)
+  file-long = file-length t p held-n held-count
 
   pub file-header : decode headerWidths (fileOf t p) ≡ headerRow (t .m) (t .l) (t .n) (p .count)
   unfolding fileOf
   file-header =
       decode-encode headerWidths (headerRow (t .m) (t .l) (t .n) (p .count)) (nodeBytes t ++ messageBytes p)
-      (omega (arith, valid-m t p v, valid-l t p v, valid-n t p v, valid-count t p v))
+      (omega (arith, v .numbers, v .counted))
 
   pub file-node-rows : nodeRows (fileOf t p) ≡ map nodeRow (take (t .n) (t .nodes))
   file-node-rows =
@@ -106,7 +109,7 @@ module _ (t : Table) (p : Pool) (v : validOf t p ≡ true) (k : Held t p) where
   file-table =
       let back : map nodeFrom (map nodeRow (take (t .n) (t .nodes))) ≡ take (t .n) (t .nodes) =
       map-back nodeFrom nodeRow noNode (take (t .n) (t .nodes)) (λ i h. node-back _) in
-      rw (file-node-rows, file-header, back, valid-slots t p v (k .slots))
+      rw (file-node-rows, file-header, back, slots-told v (k .slots))
 
   file-message-rows : decodeAll messageWidths 56 (p .count) (messageBytes p) ≡ map messageRow (waiting p)
   file-message-rows =
@@ -136,8 +139,12 @@ module _ (t : Table) (p : Pool) (v : validOf t p ≡ true) (k : Held t p) where
   pub file-header-fits : headerFits (fileOf t p) ≡ true
   unfolding headerFits
   file-header-fits =
-      let g = numbers-told (ringOf t) (valid-numbers t p v) in
-      rw file-header (and-both (g .m) (and-both (g .l) (and-both (g .n) (and-both (le-leb (p .count) 256 (valid-count t p v)) refl))))
+      let g = v .numbers in
+      rw file-header
+      (and-both (and-both (le-leb 2 (t .m) (g .m-low)) (le-leb (t .m) 32 (g .m-high)))
+      (and-both (and-both (le-leb 1 (t .l) (g .l-low)) (le-leb (t .l) 8 (g .l-high)))
+      (and-both (and-both (le-leb 1 (t .n) (g .n-low)) (le-leb (t .n) 64 (g .n-high)))
+      (and-both (le-leb (p .count) 256 (v .counted)) (eq-eqb 0 0 refl)))))
 
   pub file-offsets-fit : offsetsFit (fileOf t p) ≡ true
   unfolding offsetsFit
@@ -146,4 +153,4 @@ module _ (t : Table) (p : Pool) (v : validOf t p ≡ true) (k : Held t p) where
       rw file-header
       (and-both (eq-eqb nodesAt nodesAt refl)
       (and-both (eq-eqb (messagesAt (t .n)) (messagesAt (t .n)) refl)
-      (and-both (eq-eqb total total refl) (eq-eqb (length (fileOf t p)) total (file-length t p held-n held-count)))))
+      (and-both (eq-eqb total total refl) (eq-eqb (length (fileOf t p)) total file-long))))

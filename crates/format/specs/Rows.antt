@@ -1,24 +1,21 @@
 -- Nodes and messages as rows of numbers, and back: what the machine's types hold of every value (Held), so that a row fits its widths;
 -- a node or a message is read from its own row; a row is the row of what it says. Assumes nothing.
-use mathlib.Core.Path.{_≡_, refl, sym, _∙_, ap, ap₂}
-use mathlib.Core.Bool.{Bool, true, false, cond, _&&_}
+use mathlib.Core.Path.{_≡_, refl, sym, ap₂}
+use mathlib.Core.Bool.{Bool, true, false, cond}
 use mathlib.Core.List.{List, [], _∷_, map}
 use Prim.Native.Nat.{ℕ, zero, suc, _+_, _^_, _<_, _≤_}
 use native.Mathlib.Omega.{arith}
 use borrow.Author.Tests.{eqb-true, eqb-false}
 use lib.Dec.{eqb}
-use lib.ListN.{length, getD, drop, replicate, drop-of-length-le}
+use lib.ListN.{length, getD, drop, drop-of-length-le}
 use lib.Seq.{drop-cons}
-use Rattle.marks.specs.Bools.{and-left, and-right}
 use Rattle.rules.specs.declared.Status.{Status}
 use Rattle.rules.specs.declared.Status.the-variants.{Dead, Wait, Ok, Ready}
 use Rattle.rules.specs.declared.Node.{Node}
 use Rattle.rules.specs.declared.Message.{Message}
 use Rattle.rules.specs.declared.Pool.{Pool}
 use Rattle.rules.specs.Numbers.{statusNumber}
-use Rattle.rules.specs.Nodes.{noNode}
 use Rattle.rules.specs.Pool.{messageAt}
-use Rattle.rules.specs.Fits.{isBlank}
 use Rattle.table.specs.declared.Table.{Table}
 use Rattle.table.specs.Table.{nodeAt}
 use Rattle.format.specs.Codec.{Fit}
@@ -127,22 +124,3 @@ pub map-at : {A B : Type 0} (f : A → B) (d : A) (z : B) (xs : List A) (i : ℕ
 map-at f d z [] i h = absurd (omega arith)
 map-at f d z (x ∷ xs) zero h = refl
 map-at f d z (x ∷ xs) (suc i) h = map-at f d z xs i (omega arith)
-
--- ---- a blank slot
-
--- the tests that each number of a row is 0
-unfoldable zerosIn : List ℕ → Bool
-zerosIn [] = true
-zerosIn (x ∷ []) = eqb x 0
-zerosIn (x ∷ y ∷ ys) = eqb x 0 && zerosIn (y ∷ ys)
-
-zeros-all : (xs : List ℕ) → zerosIn xs ≡ true → xs ≡ replicate (length xs) 0
-unfolding zerosIn
-zeros-all [] e = refl
-zeros-all (x ∷ []) e = ap (λ (n : ℕ). n ∷ []) (eqb-true x 0 e)
-zeros-all (x ∷ y ∷ ys) e =
-    ap₂ _∷_ (eqb-true x 0 (and-left (eqb x 0) (zerosIn (y ∷ ys)) e)) (zeros-all (y ∷ ys) (and-right (eqb x 0) (zerosIn (y ∷ ys)) e))
-
-pub blank-node : (v : Node) → isBlank v ≡ true → v ≡ noNode
-unfolding isBlank zerosIn
-blank-node v e = sym (node-back v) ∙ ap nodeFrom (zeros-all (nodeRow v) e)

@@ -28,8 +28,9 @@ use Rattle.format.specs.Format.{totalOf, fileOf}
 use Rattle.format.specs.Load.{headerFits, offsetsFit, statusesFit, fileTable, filePool, loadOf}
 use Rattle.format.specs.Write.{notWritten, wroteOf, writtenOf}
 use Rattle.format.specs.Rows.{Held}
-use Rattle.format.specs.Told.{valid-laid}
-use Rattle.format.specs.File.{held-n, held-count, file-length, file-header-fits, file-offsets-fit, file-statuses, file-table}
+use Rattle.sound.specs.Sound.{sound, sound-valid}
+use Rattle.format.specs.Told.{laid-told}
+use Rattle.format.specs.File.{file-long, file-header-fits, file-offsets-fit, file-statuses, file-table}
 use Rattle.format.specs.File.{file-pool}
 use Rattle.format.specs.Back.{Header, header-told, file-total, file-back}
 use Rattle.format.specs.Exactly.{loadNumber, tooShort, recordsFit, noRoom}
@@ -41,17 +42,18 @@ pub load-of-file : (t : Table) (p : Pool) (t′ : Table) (p′ : Pool) → Held 
     → loadOf (fileOf t p) t′ p′ 256 ≡ doneOf t (laid (waiting p))
 unfolding loadOf
 load-of-file t p t′ p′ k v =
-    let long : 32 ≤ length (fileOf t p) = omega (arith, file-length t p (held-n t p v k) (held-count t p v k)) in
-    rw (le-ltb (length (fileOf t p)) 32 long, file-header-fits t p v k, file-offsets-fit t p v k, file-statuses t p v k)
-    (rw (file-table t p v k, file-pool t p v k, valid-laid t p v (k .places)))
+    let s = sound t p v in
+    let long : 32 ≤ length (fileOf t p) = omega (arith, file-long t p s k) in
+    rw (le-ltb (length (fileOf t p)) 32 long, file-header-fits t p s k, file-offsets-fit t p s k, file-statuses t p s k)
+    (rw (file-table t p s k, file-pool t p s k, sound-valid (laid-told s (k .places))))
 
-pub sound : (t : Table) (p : Pool) → validOf t p ≡ true → isSound t p 256 ≡ true
+is-sound : (t : Table) (p : Pool) → validOf t p ≡ true → isSound t p 256 ≡ true
 unfolding isSound
-sound t p v = v
+is-sound t p v = v
 
-sound-valid : (t : Table) (p : Pool) (len : ℕ) → isSound t p len ≡ true → validOf t p ≡ true
+is-valid : (t : Table) (p : Pool) (len : ℕ) → isSound t p len ≡ true → validOf t p ≡ true
 unfolding isSound
-sound-valid t p len e = and-right (eqb len messagesHigh) (validOf t p) e
+is-valid t p len e = and-right (eqb len messagesHigh) (validOf t p) e
 
 -- what is written when there is room
 pub written : (t : Table) (p : Pool) (len : ℕ) (buf : List ℕ) → isSound t p len ≡ true → totalOf (t .n) (p .count) ≤ length buf
@@ -64,8 +66,8 @@ pub read-of-write : (t : Table) (p : Pool) (buf : List ℕ) (t′ : Table) (p′
     → loadOf (take (totalOf (t .n) (p .count)) (writtenOf t p 256 buf)) t′ p′ 256 ≡ doneOf t (laid (waiting p))
 read-of-write t p buf t′ p′ k v h =
     let total = totalOf (t .n) (p .count) in
-    rw (written t p 256 buf (sound t p v) h)
-    (rw (take-at (fileOf t p) (drop total buf) total (file-length t p (held-n t p v k) (held-count t p v k))) (load-of-file t p t′ p′ k v))
+    rw (written t p 256 buf (is-sound t p v) h)
+    (rw (take-at (fileOf t p) (drop total buf) total (file-long t p (sound t p v) k)) (load-of-file t p t′ p′ k v))
 
 -- ---- write of read
 
@@ -110,7 +112,7 @@ written-of-read bs t p len t′ p′ buf b e h =
     let k = loaded bs t p len t′ p′ e in
     let v : validOf t′ p′ ≡ true = rw (k .table, k .pool) at (k .valid) in
     let total : totalOf (t′ .n) (p′ .count) ≡ length bs = rw (k .table, k .pool) at (file-total bs (k .header)) in
-    rw (written t′ p′ 256 buf (sound t′ p′ v) (omega arith), write-of-read bs t p len t′ p′ b e, total)
+    rw (written t′ p′ 256 buf (is-sound t′ p′ v) (omega arith), write-of-read bs t p len t′ p′ b e, total)
 
 -- ---- refuses exactly
 
@@ -140,7 +142,7 @@ leaves-the-rest t p len bs k =
     go true e true q = (refl, refl)
     go true e false q =
         let total = totalOf (t .n) (p .count) in
-        let v = sound-valid t p len e in
-        let long : length (fileOf t p) ≡ total = file-length t p (held-n t p v k) (held-count t p v k) in
+        let v = sound t p (is-valid t p len e) in
+        let long : length (fileOf t p) ≡ total = file-long t p v k in
         let room : total ≤ length bs = ltb-false (length bs) total q in
         (rw (length-append, length-drop, long) (omega arith), drop-at (fileOf t p) (drop total bs) total long)

@@ -206,11 +206,17 @@ pub fn push(x: Sent, m: Message) -> Sent
     }
     let n = p.count;
     if 256 <= n {
-        return Sent { fits: false, pool: p };
+        return Sent {
+            fits: false,
+            pool: p,
+        };
     }
     p.places[n] = m;
     p.count = n + 1;
-    Sent { fits: true, pool: p }
+    Sent {
+        fits: true,
+        pool: p,
+    }
 }
 
 // Adds m for a slot, if there is one. A slot that no mark stands for finds no room.
@@ -295,7 +301,10 @@ pub fn mail_out(from: Pool, plan: Plan) -> Sent
     let first = plan.first;
     let each = plan.each;
     let all = plan.all;
-    let start = Sent { fits: true, pool: from };
+    let start = Sent {
+        fits: true,
+        pool: from,
+    };
     let one = push_to(start, first, to);
     send_each(one, each, all)
 }

@@ -106,9 +106,11 @@ places-less c = search needs
 places-again : tie.Need-places-again Inv-chain μ-chain Inv-places μ-places
 places-again c =
     let k = c .before .before .before .before .before .places in
-    let b = c .before .before .bucket in
-    (omega arith, more _ _ _ _ (k .inv .1) (omega arith) (b .result) (b .ensures) (omega arith),
-    differ-more _ _ _ (k .inv .2) (c .before .chain .inv) (omega arith))
+    let b = c .before .before .bucket in (
+      omega arith,
+      more _ _ _ _ (k .inv .1) (omega arith) (b .result) (b .ensures) (omega arith),
+      differ-more _ _ _ (k .inv .2) (c .before .chain .inv) (omega arith),
+    )
 
 returns : tie.Need-returns Inv-chain μ-chain Inv-places μ-places
 returns c =

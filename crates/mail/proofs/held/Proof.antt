@@ -40,9 +40,11 @@ loop-again c =
     let s = c .before .before .before .before in
     let l = c .before .before .before .loop in
     let m = s .args .m in
-    let more = taken-more (s .args .t1 .places) (l .at) _ (places-length (s .args .t1) _ (s .good .0)) (s .pre) (c .before .before .loop-test .taken) in
-    (omega arith, c .held-with .ensures
-    ∙ ap (λ (h : ℕ). heldWith m h (getD (s .args .t1 .places) (l .at) blank)) (l .inv .1) ∙ sym (ap (heldOf m) more ∙ held-last m _ _))
+    let more = taken-more (s .args .t1 .places) (l .at) _ (places-length (s .args .t1) _ (s .good .0)) (s .pre) (c .before .before .loop-test .taken) in (
+      omega arith,
+      c .held-with .ensures
+          ∙ ap (λ (h : ℕ). heldWith m h (getD (s .args .t1 .places) (l .at) blank)) (l .inv .1) ∙ sym (ap (heldOf m) more ∙ held-last m _ _),
+    )
 
 returns : tie.Need-returns Inv-loop μ-loop
 returns c =
