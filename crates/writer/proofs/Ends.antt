@@ -1,5 +1,5 @@
--- How a write ends: refused for the list's length, for validity or for the room, or done. Each of `write`'s returns is one of these. Assumes
--- nothing.
+-- How a write ends: refused for the list's length, for validity or for the room, or done. Each of `write`'s returns is one of
+-- these. Assumes nothing.
 use mathlib.Core.Path.{_≡_, _∙_}
 use mathlib.Core.Bool.{true, false}
 use mathlib.Core.List.{List}

@@ -1,5 +1,5 @@
--- Runs that follow one another are one run (follow), and a run of nothing ends a chain of them (stay). The four bytes of a word, stored one by
--- one, are a run, and a long word is two words. Assumes nothing.
+-- Runs that follow one another are one run (follow), and nothing may end or begin a chain of them (ending, stay). The four bytes of a word,
+-- stored one by one, are a run, a long word is two words, and so on up to the whole file. Assumes nothing.
 use mathlib.Core.Path.{_≡_, refl, sym, _∙_, ap}
 use mathlib.Core.List.{List, [], _∷_, _++_, map, append-assoc, append-nil}
 use Prim.Native.Nat.{ℕ, zero, suc, _+_, _*_, _/_, _%_, _<_, _≤_}
@@ -28,7 +28,8 @@ pub ending : {size : ℕ} {buf : List ℕ} {at : ℕ} {vs : List ℕ} {next : �
     → Put size buf at (vs ++ []) next new
 ending p = rw append-nil p
 
-pub follow : {k l : ℕ} {a b c : List ℕ} {at i j : ℕ} {vs ws : List ℕ} → Put k a at vs i b → Put l b i ws j c → Put (k + l) a at (vs ++ ws) j c
+pub follow : {k l : ℕ} {a b c : List ℕ} {at i j : ℕ} {vs ws : List ℕ} → Put k a at vs i b → Put l b i ws j c
+    → Put (k + l) a at (vs ++ ws) j c
 follow {k} {l} {a} {b} {c} {at} {i} {j} {vs} {ws} p q =
     record {
       inside = omega (arith, p .next-is, q .inside, put-length p);
@@ -63,7 +64,8 @@ unfolding bytesOf
 four-bytes l at x h =
     let e : x / 65536 ≡ x / 256 / 256 = omega arith in
     let f : x / 16777216 ≡ x / 256 / 256 / 256 = omega arith in
-    record { inside = h; next-is = refl; sized = refl; new-is = simp unary-clauses (rw (e, f) (simp unary-clauses at (sets-eq (bytesOf 4 x) l at h))) }
+    let g = sets-eq (bytesOf 4 x) l at h in
+    record { inside = h; next-is = refl; sized = refl; new-is = simp unary-clauses (rw (e, f) (simp unary-clauses at g)) }
 
 -- a long word is its lower word, then its upper one
 lower-upper : (lo hi : ℕ) → lo < 4294967296 → bytesOf 4 lo ++ (bytesOf 4 hi ++ []) ≡ bytesOf 8 (lo + 4294967296 * hi)
@@ -87,7 +89,8 @@ eight-bytes x =
     let e : x % 4294967296 + 4294967296 * (x / 4294967296) ≡ x = omega arith in
     lower-upper (x % 4294967296) (x / 4294967296) (omega arith) ∙ ap (bytesOf 8) e
 
-pub long-word : {a b c : List ℕ} {at i j : ℕ} (x : ℕ) → Put 4 a at (bytesOf 4 (x % 4294967296)) i b → Put 4 b i (bytesOf 4 (x / 4294967296)) j c
+pub long-word : {a b c : List ℕ} {at i j : ℕ} (x : ℕ) → Put 4 a at (bytesOf 4 (x % 4294967296)) i b
+    → Put 4 b i (bytesOf 4 (x / 4294967296)) j c
     → Put 8 a at (bytesOf 8 x) j c
 long-word x p q = rw (← (eight-bytes x)) (follow p (ending q))
 
@@ -118,7 +121,12 @@ header-run m l n count p q r s = simp append-assoc at (follow p (follow q (follo
 -- nothing is written yet
 pub stay : (a : List ℕ) (at : ℕ) → at ≤ length a → Put 0 a at [] at a
 stay a at h =
-    record { inside = omega arith; next-is = omega arith; sized = refl; new-is = rw (add-zero at, append-nil) (sym (take-append-drop at a)) }
+    record {
+      inside = omega arith;
+      next-is = omega arith;
+      sized = refl;
+      new-is = rw (add-zero at, append-nil) (sym (take-append-drop at a));
+    }
 
 rows-snoc : {A : Type 0} (f : A → List ℕ) (d : A) (ws : List ℕ) (xs : List A) (s : ℕ) → s < length xs
     → encodeAll ws (map f (take (suc s) xs)) ≡ encodeAll ws (map f (take s xs)) ++ encode ws (f (getD xs s d))
@@ -130,9 +138,9 @@ rows-snoc f d ws (x ∷ xs) (suc s) h =
     ∙ sym (append-assoc (encode ws (f x)) (encodeAll ws (map f (take s xs))) (encode ws (f (getD xs s d))))
 
 -- one record more
-pub rows-more : {A : Type 0} (f : A → List ℕ) (d : A) (ws : List ℕ) (size : ℕ) (xs : List A) (s : ℕ) {a b c : List ℕ} {at i j : ℕ} → s < length xs
-    → Put (size * s) a at (encodeAll ws (map f (take s xs))) i b → Put size b i (encode ws (f (getD xs s d))) j c
-    → Put (size * (s + 1)) a at (encodeAll ws (map f (take (s + 1) xs))) j c
+pub rows-more : {A : Type 0} (f : A → List ℕ) (d : A) (ws : List ℕ) (size : ℕ) (xs : List A) (s : ℕ) {a b c : List ℕ}
+    {at i j : ℕ} → s < length xs → Put (size * s) a at (encodeAll ws (map f (take s xs))) i b
+    → Put size b i (encode ws (f (getD xs s d))) j c → Put (size * (s + 1)) a at (encodeAll ws (map f (take (s + 1) xs))) j c
 rows-more f d ws size xs s h p q =
     let e : size * (s + 1) ≡ size * s + size = omega arith in
     rw (e, add-one, rows-snoc f d ws xs s h) (follow p q)
