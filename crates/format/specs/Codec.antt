@@ -5,10 +5,10 @@ use mathlib.Core.Path.{_≡_, refl, sym, _∙_, ap, ap₂}
 use mathlib.Core.List.{List, [], _∷_, _++_, append-assoc}
 use Prim.Native.Nat.{ℕ, zero, suc, _+_, _*_, _/_, _%_, _^_, _<_, _≤_}
 use native.Mathlib.Nat.{add-assoc, pow-succ'}
-use native.Mathlib.Numerals.{unary-clauses}
+use native.Mathlib.Numerals.{add-one, unary-clauses}
 use native.Mathlib.Omega.{arith}
 use lib.ListN.{length, getD, take, drop, length-append, length-take, length-drop}
-use lib.Seq.{take-at, drop-at, drop-drop, take-add, getD-drop}
+use lib.Seq.{drop-cons, take-at, drop-at, drop-drop, take-add, getD-drop}
 use Rattle.format.specs.Bytes.{bytesOf, numberOf, encode, decode, encodeAll, decodeAll}
 
 -- every byte is below 256
@@ -154,3 +154,32 @@ encode-decode-all ws size (suc n) bs e h l =
     ap₂ _++_ (encode-decode ws bs h (omega arith) ∙ ap (λ (v : ℕ). take v bs) e)
     (encode-decode-all ws size n (drop size bs) e (bytes-drop size bs h) k)
     ∙ sym (rw more (take-add size (size * n) bs))
+
+-- ---- words as a reader computes them
+
+byte-first : (n : ℕ) (bs : List ℕ) (at next : ℕ) → at < length bs → next ≡ at + 1
+    → numberOf (take (suc n) (drop at bs)) ≡ getD bs at 0 + 256 * numberOf (take n (drop next bs))
+unfolding numberOf
+byte-first n bs at next h e = rw (drop-cons bs at 0 h, e, add-one)
+
+pub number-four : (bs : List ℕ) (at : ℕ) → at + 4 ≤ length bs
+    → numberOf (take 4 (drop at bs)) ≡ getD bs at 0 + 256 * getD bs (at + 1) 0 + 65536 * getD bs (at + 2) 0 + 16777216 * getD bs (at + 3) 0
+unfolding numberOf
+number-four bs at h =
+    let a = byte-first 3 bs at (at + 1) (omega arith) (omega arith) in
+    let b = byte-first 2 bs (at + 1) (at + 2) (omega arith) (omega arith) in
+    let c = byte-first 1 bs (at + 2) (at + 3) (omega arith) (omega arith) in
+    let d = byte-first 0 bs (at + 3) (at + 4) (omega arith) (omega arith) in
+    omega (arith, a, b, c, d)
+
+number-append : (bs cs : List ℕ) → numberOf (bs ++ cs) ≡ numberOf bs + 256 ^ length bs * numberOf cs
+unfolding numberOf
+number-append [] cs = omega arith
+number-append (b ∷ bs) cs = rw (number-append bs cs, pow-succ') (omega arith)
+
+pub number-eight : (bs : List ℕ) (at : ℕ) → at + 8 ≤ length bs
+    → numberOf (take 8 (drop at bs)) ≡ numberOf (take 4 (drop at bs)) + 4294967296 * numberOf (take 4 (drop (at + 4) bs))
+number-eight bs at h =
+    let part = drop at bs in
+    let four : length (take 4 part) ≡ 4 = length-take 4 part ∙ (rw length-drop (omega arith)) in
+    ap numberOf (take-add 4 4 part) ∙ number-append (take 4 part) (take 4 (drop 4 part)) ∙ rw (four, drop-drop)
