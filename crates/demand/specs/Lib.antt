@@ -1,2 +1,3 @@
 pub mod Journey
+pub mod Stands
 pub mod Demand
