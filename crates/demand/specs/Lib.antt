@@ -1,3 +1,4 @@
 pub mod Journey
 pub mod Stands
 pub mod Demand
+pub mod Tracks
