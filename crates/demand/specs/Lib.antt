@@ -2,3 +2,4 @@ pub mod Journey
 pub mod Stands
 pub mod Demand
 pub mod Tracks
+pub mod Routings

@@ -121,6 +121,11 @@ lookup-is g m e one =
       o .no-failed (ap hasFailed one),
     )
 
+-- so every message of kind 1 that waits in a valid pool is a Lookup of its word for its destination
+pub lookup-at : {t : Table} {p : Pool} → Sound t p → (q : ℕ) → q < p .count → messageAt p q .kind ≡ 1
+    → LookupAt p q (messageAt p q .word) (messageAt p q .dest)
+lookup-at {t} {p} v q h one = record { waits = h; is = lookup-is (ringOf t) (messageAt p q) (v .message q h) one }
+
 -- one that obeys its kind and is equal to a message with no sixth word is that message
 pub alike-is : (g : Ring) (m x : Message) → messageFits g m ≡ true → x .hops ≡ 0 → alike m x ≡ true → m ≡ x
 alike-is g m x e z a =
