@@ -3,3 +3,4 @@ pub mod Stands
 pub mod Demand
 pub mod Tracks
 pub mod Routings
+pub mod Holder
