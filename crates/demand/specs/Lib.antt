@@ -4,3 +4,4 @@ pub mod Demand
 pub mod Tracks
 pub mod Routings
 pub mod Holder
+pub mod Arrives
