@@ -14,6 +14,7 @@ use borrow.Author.Tests.{eq-eqb, lt-ltb}
 use Rattle.ring.specs.Distance.{nearer}
 use Rattle.ring.specs.Order.{nearer-transitive, nearer-irreflexive}
 use Rattle.marks.specs.Bools.{opposed, bool-false, bool-cases, and-left, and-right, and-both, and-fails-right, or-left, or-right, or-cases, lt-or-le}
+use Rattle.marks.specs.declared.Found.the-variants.{Nothing}
 use Rattle.marks.specs.Marks.{has, tally, sizeOf, meet}
 use Rattle.marks.specs.Laws.{has-gather, has-meet, has-zero, tally-strict, size-zero}
 use Rattle.rules.specs.declared.Way.{Way}
@@ -186,3 +187,67 @@ module _ {t : Table} {p : Pool} (v : Sound t p) (s : isSettled t ≡ true) (k : 
         let to = hop-to (ringOf t) (idsOf t) (deadSet t) d (nodeAt t d) k h e in
         let near = hop-nearer v k d h (r .0) e in
         (awake h (near .0) (to .legal .alive), near .1)
+
+-- ---- nothing equal waits
+
+-- no Lookup of k is among these
+pub record Without (k : ℕ) (ys : List Message) : Type 0 where
+  pub none : (r : ℕ) → r < length ys → getD ys r blank .kind ≡ 1 → getD ys r blank .word ≡ k → ⊥
+
+pub alone-without : {t : Table} {p : Pool} → Sound t p → (q k : ℕ) → q < p .count → Alone p q k → Without k (others p q)
+alone-without {t} {p} v q k h alone = record { none = λ r l. go r l (lt-or-le r q) }
+  where
+    q-in : q < length (waiting p)
+    q-in = omega (arith, count-is v)
+
+    at : (r i : ℕ) → i < p .count → (i ≡ q → ⊥) → getD (others p q) r blank ≡ messageAt p i
+        → getD (others p q) r blank .kind ≡ 1 → getD (others p q) r blank .word ≡ k → ⊥
+    at r i l apart same = rw same (alone i l apart)
+
+    go : (r : ℕ) → r < length (others p q) → (r < q) ⊎ (q ≤ r) → getD (others p q) r blank .kind ≡ 1 → getD (others p q) r blank .word ≡ k → ⊥
+    go r l (inl b) =
+        let low : r < p .count = omega (arith, h) in
+        at r r low (omega arith) (removed-low (waiting p) q q-in r b ∙ waiting-at p r low)
+    go r l (inr b) =
+        let low : r + 1 < p .count = omega (arith, removed-length (waiting p) q q-in, count-is v) in
+        at r (r + 1) low (omega arith) (removed-high (waiting p) q q-in r b ∙ waiting-at p (r + 1) low)
+
+without-found : (k h : ℕ) (ys : List Message) → Without k ys → firstEqual ys (placed (lookup k) h) ≡ Nothing
+without-found k h ys w =
+    first-equal-none ys (placed (lookup k) h) (λ r l.
+    bool-false (alike (getD ys r blank) (placed (lookup k) h)) (λ a.
+    let same : (i : ℕ) → getD (fieldsOf (getD ys r blank)) i 0 ≡ getD (fieldsOf (placed (lookup k) h)) i 0 =
+    λ i. ap (λ (row : List ℕ). getD row i 0) (alike-same (getD ys r blank) (placed (lookup k) h) a) in
+    w .none r l (same 1) (same 2)))
+
+-- the last one removed
+last-removed : (ys : List Message) (m : Message) → removedAt (ys ++ (m ∷ [])) (length ys) ≡ ys
+unfolding removedAt
+last-removed ys m =
+    let gone : drop (suc (length ys)) (ys ++ (m ∷ [])) ≡ [] =
+    drop-of-length-le (ys ++ (m ∷ [])) {i = suc (length ys)} (rw length-append (omega arith)) in
+    rw (take-append-seam ys (m ∷ []), gone) (append-nil ys)
+
+-- ---- the measure
+
+-- how many ready nodes are nearer to k than slot d
+abbrev pub nearerReady : Table → ℕ → ℕ → ℕ
+nearerReady t k d = tally 64 (λ s. has (readySet t) s && nearer (2 ^ t .m) k (idAt (idsOf t) s) (idAt (idsOf t) d))
+
+module _ (t : Table) (k : ℕ) where
+  not-nearer : (d : ℕ) → (has (readySet t) d && nearer (2 ^ t .m) k (idAt (idsOf t) d) (idAt (idsOf t) d)) ≡ false
+  not-nearer d = and-fails-right (has (readySet t) d) (bool-false _ (nearer-irreflexive (2 ^ t .m) k (idAt (idsOf t) d)))
+
+  ready-falls : (h d : ℕ) → h < 64 → has (readySet t) h ≡ true → Nearer t k h d → nearerReady t k h < nearerReady t k d
+  ready-falls h d l r near =
+      tally-strict 64 (λ s. has (readySet t) s && nearer (2 ^ t .m) k (idAt (idsOf t) s) (idAt (idsOf t) h))
+      (λ s. has (readySet t) s && nearer (2 ^ t .m) k (idAt (idsOf t) s) (idAt (idsOf t) d)) h
+      (λ s i f. and-both (and-left (has (readySet t) s) _ f)
+      (nearer-transitive (2 ^ t .m) k (idAt (idsOf t) s) (idAt (idsOf t) h) (idAt (idsOf t) d) (and-right (has (readySet t) s) _ f) near))
+      l (not-nearer h) (and-both r near)
+
+  ready-few : (d : ℕ) → d < 64 → has (readySet t) d ≡ true → nearerReady t k d < sizeOf (readySet t)
+  unfolding sizeOf
+  ready-few d l r =
+      tally-strict 64 (λ s. has (readySet t) s && nearer (2 ^ t .m) k (idAt (idsOf t) s) (idAt (idsOf t) d)) (has (readySet t)) d
+      (λ s i f. and-left (has (readySet t) s) _ f) l (not-nearer d) r
