@@ -43,6 +43,7 @@ use Rattle.laws.specs.Hop.{candidatesOf, content-candidate, hop-some, hop-to}
 use Rattle.laws.specs.Leaf.{has-content, seen-in}
 use Rattle.mail.specs.Laws.{alike-same, first-equal-none, waiting-laid, waiting-at, removed-length, removed-low, removed-high, mailed-length}
 use Rattle.table.specs.declared.Table.{Table}
+use Rattle.table.specs.declared.Stepped.{Stepped}
 use Rattle.table.specs.Table.{nodeAt, idsOf, ringOf}
 use Rattle.table.specs.Settled.{readySet, deadSet, isSettled}
 use Rattle.table.specs.Step.{isSound}
@@ -251,3 +252,84 @@ module _ (t : Table) (k : ℕ) where
   ready-few d l r =
       tally-strict 64 (λ s. has (readySet t) s && nearer (2 ^ t .m) k (idAt (idsOf t) s) (idAt (idsOf t) d)) (has (readySet t)) d
       (λ s i f. and-left (has (readySet t) s) _ f) l (not-nearer d) r
+
+-- ---- the journey
+
+-- from slot d: delivered, the others as they were, after no more routings than ready nodes are nearer
+pub record Settles (t : Table) (k : ℕ) (ys : List Message) (p : Pool) (q d : ℕ) : Type 0 where
+  pub hops : ℕ
+  pub end : ℕ
+  pub delivers : Delivers k t p q hops end t (laid ys)
+  pub few : hops ≤ nearerReady t k d
+  pub ready : Ready t end
+  pub covers : coversAt t end k ≡ true
+
+module _ (kv : KeepsValid) (t : Table) (s : isSettled t ≡ true) (k : ℕ) (hk : k < 2 ^ t .m) (ys : List Message) (w : Without k ys) where
+  module _ (p : Pool) (q d : ℕ) (e : validOf t p ≡ true) (l : LookupAt p q k d) (r : Ready t d) (o : others p q ≡ ys) where
+    ends : coversAt t d k ≡ true → Settles t k ys p q d
+    ends c =
+        let fate : fateOf t p q (Take q) ≡ delivered = fate-taken t p q k d e l r ∙ rw c in
+        let told = subst (Tracked t p q k d (Take q)) fate (tracked t p q k d (Take q) e l) in
+        let arrived = rw (told .took .leaves, o) at (here l (take-done t p q k d e l r) fate) in
+        record { hops = 0; end = d; delivers = arrived; few = omega arith; ready = r; covers = c }
+
+    -- one routing more
+    one-more : (h place : ℕ) → fateOf t p q (Take q) ≡ routed h place → stepped t p (Take q) .table ≡ t → nearerReady t k h < nearerReady t k d
+        → Settles t k ys (stepped t p (Take q) .pool) place h → Settles t k ys p q d
+    one-more h place fate same falls after =
+        let rest =
+        subst (λ (u : Table). Delivers k u (stepped t p (Take q) .pool) place (after .hops) (after .end) t (laid ys)) (sym same) (after .delivers) in
+        record {
+          hops = suc (after .hops);
+          end = after .end;
+          delivers = on l (take-done t p q k d e l r) fate rest;
+          few = omega (arith, after .few);
+          ready = after .ready;
+          covers = after .covers;
+        }
+
+    goes : (h : ℕ) → coversAt t d k ≡ false → hopAt t d k ≡ To h → nearerReady t k h < nearerReady t k d
+        → ((p′ : Pool) (q′ : ℕ) → validOf t p′ ≡ true → LookupAt p′ q′ k h → others p′ q′ ≡ ys → Settles t k ys p′ q′ h)
+        → Settles t k ys p q d
+    goes h c to falls rest =
+        let place = length (others p q) in
+        let next = stepped t p (Take q) in
+        let none : firstEqual (others p q) (placed (lookup k) h) ≡ Nothing = rw o (without-found k h ys w) in
+        let fate : fateOf t p q (Take q) ≡ routed h place = fate-taken t p q k d e l r ∙ rw (c, to, none) in
+        let told = subst (Tracked t p q k d (Take q)) fate (tracked t p q k d (Take q) e l) in
+        let same : next .table ≡ t = ap (λ (x : Stepped). x .table) (told .took .leaves) in
+        let valid : validOf t (next .pool) ≡ true = rw same at (kv t p 256 (Take q) (take-done t p q k d e l r)) in
+        let left : others (next .pool) place ≡ ys =
+        ap (λ (x : Stepped). others (x .pool) place) (told .took .leaves)
+        ∙ rw (waiting-laid (others p q ++ (placed (lookup k) h ∷ []))) (last-removed (others p q) (placed (lookup k) h) ∙ o) in
+        one-more h place fate same falls (rest (next .pool) place valid (told .now) left)
+
+  settles : (fuel : ℕ) (p : Pool) (q d : ℕ) → validOf t p ≡ true → LookupAt p q k d → Ready t d → others p q ≡ ys
+      → nearerReady t k d < fuel → Settles t k ys p q d
+  settles zero p q d e l r o f = absurd (omega arith)
+  settles (suc fuel) p q d e l r o f = go (coversAt t d k) refl (λ p q h. settles fuel p q h)
+    where
+      go : (b : Bool) → coversAt t d k ≡ b
+          → ((p : Pool) (q h : ℕ) → validOf t p ≡ true → LookupAt p q k h → Ready t h → others p q ≡ ys → nearerReady t k h < fuel
+          → Settles t k ys p q h)
+          → Settles t k ys p q d
+      go true c rest = ends p q d e l r o c
+      go false c rest =
+          let v = sound t p e in
+          let hop = hop-there v s k hk d r c in
+          let there = hop-ready v s k hk d r (hop .0) (hop .1) in
+          let nearer-now = ready-falls t k (hop .0) d (ready-low v (hop .0) (there .0)) (there .0 .1) (there .1) in
+          goes p q d e l r o (hop .0) c (hop .1) nearer-now (λ p′ q′ e′ l′ o′. rest p′ q′ (hop .0) e′ l′ (there .0) o′ (omega arith))
+
+pub settled-arrives : KeepsValid → SettledArrives
+settled-arrives kv t p q k d e s l r alone =
+    let v = sound t p e in
+    let hk = key-in t p q k d v l in
+    let j = settles kv t s k hk (others p q) (alone-without v q k (l .waits) alone) (suc (nearerReady t k d)) p q d e l r refl (omega arith) in
+    record {
+      hops = j .hops;
+      at = j .end;
+      delivers = j .delivers;
+      few = omega (arith, j .few, ready-few t k d (ready-low v d r) (r .1));
+      nearest = cover-nearest v s k hk (j .end) (j .ready) (j .covers);
+    }
