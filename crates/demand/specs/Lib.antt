@@ -5,3 +5,4 @@ pub mod Tracks
 pub mod Routings
 pub mod Holder
 pub mod Arrives
+pub mod Limits
