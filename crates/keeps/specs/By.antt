@@ -1,6 +1,6 @@
--- What a step comes to, in one place. Every action plans something for the node of one slot, with some messages left (slotOf, plannedOf, leftOf), and a step is
--- refused and changes nothing (RefusedFor), or is done with a plan (DoneWith). `by-step` is the one eliminator: what holds of every refusal
--- and of every plan carried out holds of every step. Assumes nothing.
+-- What a step comes to, in one place. Every action plans something for the node of one slot, with some messages left (slotOf, plannedOf,
+-- leftOf), and a step is refused and changes nothing (RefusedFor), or is done with a plan (DoneWith). `by-step` is the one eliminator: what
+-- holds of every refusal and of every plan carried out holds of every step. Assumes nothing.
 use mathlib.Core.Path.{_≡_, refl}
 use mathlib.Core.Bool.{Bool, true, false, cond}
 use mathlib.Core.List.{List}
