@@ -49,8 +49,8 @@ use Rattle.table.specs.Settled.{readySet, deadSet, isSettled}
 use Rattle.table.specs.Step.{isSound}
 use Rattle.table.specs.Valid.{validOf}
 use Rattle.sound.specs.Sound.{Sound, sound}
-use Rattle.keeps.specs.Keeps.{KeepsValid}
 use Rattle.keeps.specs.By.{RefusedFor, invalid, out-of-range, forbidden, full, step-refused}
+use Rattle.keeps.specs.Proved.{keeps-valid}
 use Rattle.demand.specs.Journey.{stepped, LookupAt, delivered, routed, onward, landing, fateTaken, fateOf, Delivers, here, on}
 use Rattle.demand.specs.Demand.{Nearer, Ready, NearestReady, Alone, Arrives, SettledArrives}
 use Rattle.demand.specs.Stands.{count-is}
@@ -264,7 +264,7 @@ pub record Settles (t : Table) (k : ℕ) (ys : List Message) (p : Pool) (q d : �
   pub ready : Ready t end
   pub covers : coversAt t end k ≡ true
 
-module _ (kv : KeepsValid) (t : Table) (s : isSettled t ≡ true) (k : ℕ) (hk : k < 2 ^ t .m) (ys : List Message) (w : Without k ys) where
+module _ (t : Table) (s : isSettled t ≡ true) (k : ℕ) (hk : k < 2 ^ t .m) (ys : List Message) (w : Without k ys) where
   module _ (p : Pool) (q d : ℕ) (e : validOf t p ≡ true) (l : LookupAt p q k d) (r : Ready t d) (o : others p q ≡ ys) where
     ends : coversAt t d k ≡ true → Settles t k ys p q d
     ends c =
@@ -298,7 +298,7 @@ module _ (kv : KeepsValid) (t : Table) (s : isSettled t ≡ true) (k : ℕ) (hk 
         let fate : fateOf t p q (Take q) ≡ routed h place = fate-taken t p q k d e l r ∙ rw (c, to, none) in
         let told = subst (Tracked t p q k d (Take q)) fate (tracked t p q k d (Take q) e l) in
         let same : next .table ≡ t = ap (λ (x : Stepped). x .table) (told .took .leaves) in
-        let valid : validOf t (next .pool) ≡ true = rw same at (kv t p 256 (Take q) (take-done t p q k d e l r)) in
+        let valid : validOf t (next .pool) ≡ true = rw same at (keeps-valid t p 256 (Take q) (take-done t p q k d e l r)) in
         let left : others (next .pool) place ≡ ys =
         ap (λ (x : Stepped). others (x .pool) place) (told .took .leaves)
         ∙ rw (waiting-laid (others p q ++ (placed (lookup k) h ∷ []))) (last-removed (others p q) (placed (lookup k) h) ∙ o) in
@@ -321,11 +321,11 @@ module _ (kv : KeepsValid) (t : Table) (s : isSettled t ≡ true) (k : ℕ) (hk 
           let nearer-now = ready-falls t k (hop .0) d (ready-low v (hop .0) (there .0)) (there .0 .1) (there .1) in
           goes p q d e l r o (hop .0) c (hop .1) nearer-now (λ p′ q′ e′ l′ o′. rest p′ q′ (hop .0) e′ l′ (there .0) o′ (omega arith))
 
-pub settled-arrives : KeepsValid → SettledArrives
-settled-arrives kv t p q k d e s l r alone =
+pub settled-arrives : SettledArrives
+settled-arrives t p q k d e s l r alone =
     let v = sound t p e in
     let hk = key-in t p q k d v l in
-    let j = settles kv t s k hk (others p q) (alone-without v q k (l .waits) alone) (suc (nearerReady t k d)) p q d e l r refl (omega arith) in
+    let j = settles t s k hk (others p q) (alone-without v q k (l .waits) alone) (suc (nearerReady t k d)) p q d e l r refl (omega arith) in
     record {
       hops = j .hops;
       at = j .end;

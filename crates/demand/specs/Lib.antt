@@ -5,4 +5,5 @@ pub mod Tracks
 pub mod Routings
 pub mod Holder
 pub mod Arrives
+pub mod Proved
 pub mod Limits

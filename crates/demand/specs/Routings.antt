@@ -25,8 +25,9 @@ use Rattle.table.specs.Settled.{deadSet}
 use Rattle.table.specs.Valid.{validOf}
 use Rattle.sound.specs.Nodes.{node-rules}
 use Rattle.sound.specs.Sound.{Sound, sound}
-use Rattle.keeps.specs.Keeps.{KeepsValid, KeepsRing, SameRing}
+use Rattle.keeps.specs.Keeps.{SameRing}
 use Rattle.keeps.specs.By.{step-refused}
+use Rattle.keeps.specs.Proved.{keeps-valid, keeps-ring}
 use Rattle.demand.specs.Journey.{stepped, LookupAt, Fate, stays, routed, met, delivered, unroutable, fateOf, counted, routings}
 use Rattle.demand.specs.Journey.{RoutesTo, waits-there, ends-there}
 use Rattle.demand.specs.Demand.{Nearer, GoesNearer, FewRoutings}
@@ -85,45 +86,44 @@ same-left s k d = rw (s .m, s .n, s .ids)
 
 -- ---- the induction
 
-module _ (kv : KeepsValid) (kr : KeepsRing) where
-  pub step-valid : (t : Table) (p : Pool) (a : Action) → validOf t p ≡ true → validOf (stepped t p a .table) (stepped t p a .pool) ≡ true
-  step-valid t p a e = go (stepped t p a .answer) refl
-    where
-      go : (r : Answer) → stepped t p a .answer ≡ r → validOf (stepped t p a .table) (stepped t p a .pool) ≡ true
-      go Done d = kv t p 256 a d
-      go (Refused why) d = rw (step-refused t p 256 a why d .1) e
+pub step-valid : (t : Table) (p : Pool) (a : Action) → validOf t p ≡ true → validOf (stepped t p a .table) (stepped t p a .pool) ≡ true
+step-valid t p a e = go (stepped t p a .answer) refl
+  where
+    go : (r : Answer) → stepped t p a .answer ≡ r → validOf (stepped t p a .table) (stepped t p a .pool) ≡ true
+    go Done d = keeps-valid t p 256 a d
+    go (Refused why) d = rw (step-refused t p 256 a why d .1) e
 
-  pub routed-few : (acts : List Action) (t : Table) (p : Pool) (q k d : ℕ) → validOf t p ≡ true → LookupAt p q k d → routings t p acts q ≤ left t k d
-  unfolding routings
-  routed-few [] t p q k d e l = omega arith
-  routed-few (a ∷ acts) t p q k d e l =
-      go (fateOf t p q a) (tracked t p q k d a e l)
-      (λ r j w. routed-few acts (stepped t p a .table) (stepped t p a .pool) r k j (step-valid t p a e) w)
-    where
-      u : Table
-      u = stepped t p a .table
+pub routed-few : (acts : List Action) (t : Table) (p : Pool) (q k d : ℕ) → validOf t p ≡ true → LookupAt p q k d → routings t p acts q ≤ left t k d
+unfolding routings
+routed-few [] t p q k d e l = omega arith
+routed-few (a ∷ acts) t p q k d e l =
+    go (fateOf t p q a) (tracked t p q k d a e l)
+    (λ r j w. routed-few acts (stepped t p a .table) (stepped t p a .pool) r k j (step-valid t p a e) w)
+  where
+    u : Table
+    u = stepped t p a .table
 
-      v : Sound t p
-      v = sound t p e
+    v : Sound t p
+    v = sound t p e
 
-      falls : (h : ℕ) → hopAt t d k ≡ To h → left t k h < left t k d
-      falls h o =
-          let near = hop-nearer v k d h (dest-in t p q k d v l) o in
-          nearer-falls (t .m) (t .n) (idsOf t) k h d (near .0) (near .1)
+    falls : (h : ℕ) → hopAt t d k ≡ To h → left t k h < left t k d
+    falls h o =
+        let near = hop-nearer v k d h (dest-in t p q k d v l) o in
+        nearer-falls (t .m) (t .n) (idsOf t) k h d (near .0) (near .1)
 
-      go : (f : Fate) → Tracked t p q k d a f
-          → ((r j : ℕ) → LookupAt (stepped t p a .pool) r k j → routings u (stepped t p a .pool) acts r ≤ left u k j)
-          → counted f (routings u (stepped t p a .pool) acts) ≤ left t k d
-      go (stays r) w rest = omega (arith, rest r d w, same-left (kr t p 256 a) k d)
-      go (routed h r) w rest = omega (arith, rest r h (w .now), same-left (kr t p 256 a) k h, falls h (w .hop))
-      go (met h r) w rest = omega (arith, falls h (w .hop))
-      go delivered w rest = omega arith
-      go unroutable w rest = omega arith
+    go : (f : Fate) → Tracked t p q k d a f
+        → ((r j : ℕ) → LookupAt (stepped t p a .pool) r k j → routings u (stepped t p a .pool) acts r ≤ left u k j)
+        → counted f (routings u (stepped t p a .pool) acts) ≤ left t k d
+    go (stays r) w rest = omega (arith, rest r d w, same-left (keeps-ring t p 256 a) k d)
+    go (routed h r) w rest = omega (arith, rest r h (w .now), same-left (keeps-ring t p 256 a) k h, falls h (w .hop))
+    go (met h r) w rest = omega (arith, falls h (w .hop))
+    go delivered w rest = omega arith
+    go unroutable w rest = omega arith
 
-  pub few-routings : FewRoutings
-  few-routings t p q k d e l acts =
-      omega (
-        arith,
-        routed-few acts t p q k d e l,
-        nearer-few (t .m) (t .n) (idsOf t) k d (dest-in t p q k d (sound t p e) l),
-      )
+pub few-routings : FewRoutings
+few-routings t p q k d e l acts =
+    omega (
+      arith,
+      routed-few acts t p q k d e l,
+      nearer-few (t .m) (t .n) (idsOf t) k d (dest-in t p q k d (sound t p e) l),
+    )
