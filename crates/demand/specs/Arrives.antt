@@ -1,193 +1,45 @@
--- In a settled table a lookup at a ready node, alone for its key, is delivered at the ready node nearest its key. The idea: a Take of a lookup at a ready node is
--- always done; where the node does not cover the key, a neighbour is ready, unfailed and nearer, hence a candidate of either branch, so there is a hop; the hop is
--- nearer and not dead, hence ready; nothing equal waits there. The measure: how many ready nodes are nearer than the holder. Assumes nothing.
+-- In a settled table a lookup at a ready node, alone for its key, is delivered at the ready node nearest its key. Each Take is done; where the node does
+-- not cover the key, the lookup goes to a ready node that is nearer, and nothing equal waits there. The measure: how many ready nodes are nearer than
+-- the holder; it falls with every routing and is below R. By induction on a bound of it. Assumes nothing.
 use mathlib.Core.Path.{_≡_, refl, sym, _∙_, ap, subst}
-use mathlib.Core.Logic.{_⊎_, inl, inr, ⊎-elim}
-use mathlib.Core.Bool.{Bool, true, false, cond, _&&_, _||_, not}
+use mathlib.Core.Logic.{_⊎_, inl, inr}
+use mathlib.Core.Bool.{Bool, true, false, _&&_}
 use mathlib.Core.List.{List, [], _∷_, _++_, append-nil}
-use Prim.Native.Nat.{ℕ, zero, suc, _+_, _-_, _^_, _<_, _≤_}
+use Prim.Native.Nat.{ℕ, zero, suc, _+_, _^_, _<_, _≤_}
 use native.Mathlib.Omega.{arith}
-use lib.Dec.{eqb, ltb}
-use lib.ListN.{getD, length, take, drop, length-append, drop-of-length-le}
+use lib.ListN.{getD, length, drop, length-append, drop-of-length-le}
 use lib.Seq.{take-append-seam}
-use borrow.Author.Tests.{eq-eqb, lt-ltb}
 use Rattle.ring.specs.Distance.{nearer}
 use Rattle.ring.specs.Order.{nearer-transitive, nearer-irreflexive}
-use Rattle.marks.specs.Bools.{opposed, bool-false, bool-cases, and-left, and-right, and-both, and-fails-right, or-left, or-right, or-cases, lt-or-le}
+use Rattle.marks.specs.Bools.{bool-false, and-left, and-right, and-both, and-fails-right, lt-or-le}
 use Rattle.marks.specs.declared.Found.the-variants.{Nothing}
-use Rattle.marks.specs.Marks.{has, tally, sizeOf, meet}
-use Rattle.marks.specs.Laws.{has-gather, has-meet, has-zero, tally-strict, size-zero}
-use Rattle.rules.specs.declared.Way.{Way}
-use Rattle.rules.specs.declared.Way.the-variants.{Up, Down}
-use Rattle.rules.specs.declared.Status.{Status}
+use Rattle.marks.specs.Marks.{has, tally, sizeOf}
+use Rattle.marks.specs.Laws.{tally-strict}
 use Rattle.rules.specs.declared.Status.the-variants as status
-use Rattle.rules.specs.declared.Hop.{Hop}
-use Rattle.rules.specs.declared.Hop.the-variants.{To, NoRoute}
+use Rattle.rules.specs.declared.Hop.the-variants.{To}
 use Rattle.rules.specs.declared.Message.{Message}
 use Rattle.rules.specs.declared.Pool.{Pool}
-use Rattle.rules.specs.declared.Plan.{Plan}
-use Rattle.rules.specs.declared.Planned.the-variants.{No, Go}
 use Rattle.rules.specs.declared.Action.the-variants.{Take}
-use Rattle.rules.specs.declared.Refusal.{Refusal}
-use Rattle.rules.specs.declared.Answer.{Answer}
-use Rattle.rules.specs.declared.Answer.the-variants.{Done, Refused}
-use Rattle.rules.specs.Leaf.{contentOf, seenFrom}
 use Rattle.rules.specs.Letters.{lookup}
 use Rattle.rules.specs.Mail.{fieldsOf, alike, firstEqual, removedAt}
-use Rattle.rules.specs.Nodes.{sidesOf, placed}
+use Rattle.rules.specs.Nodes.{placed}
 use Rattle.rules.specs.Pick.{idAt}
-use Rattle.rules.specs.Plans.{isDead, isReady, mailed, quietPlan}
 use Rattle.rules.specs.Pool.{blank, waiting, messageAt, laid}
-use Rattle.rules.specs.Take.{forwardPlan, planTakeLookup}
-use Rattle.laws.specs.Hop.{candidatesOf, content-candidate, hop-some, hop-to}
-use Rattle.laws.specs.Leaf.{has-content, seen-in}
-use Rattle.mail.specs.Laws.{alike-same, first-equal-none, waiting-laid, waiting-at, removed-length, removed-low, removed-high, mailed-length}
+use Rattle.mail.specs.Laws.{alike-same, first-equal-none, waiting-laid, waiting-at, removed-length, removed-low, removed-high}
 use Rattle.table.specs.declared.Table.{Table}
 use Rattle.table.specs.declared.Stepped.{Stepped}
-use Rattle.table.specs.Table.{nodeAt, idsOf, ringOf}
-use Rattle.table.specs.Settled.{readySet, deadSet, isSettled}
-use Rattle.table.specs.Step.{isSound}
+use Rattle.table.specs.Table.{idsOf}
+use Rattle.table.specs.Settled.{readySet, isSettled}
 use Rattle.table.specs.Valid.{validOf}
 use Rattle.sound.specs.Sound.{Sound, sound}
-use Rattle.keeps.specs.By.{RefusedFor, invalid, out-of-range, forbidden, full, step-refused}
 use Rattle.keeps.specs.Proved.{keeps-valid}
-use Rattle.demand.specs.Journey.{stepped, LookupAt, delivered, routed, onward, landing, fateTaken, fateOf, Delivers, here, on}
-use Rattle.demand.specs.Demand.{Nearer, Ready, NearestReady, Alone, Arrives, SettledArrives}
+use Rattle.demand.specs.Journey.{stepped, LookupAt, delivered, routed, fateOf, Delivers, here, on}
+use Rattle.demand.specs.Demand.{Nearer, Ready, Alone, SettledArrives}
 use Rattle.demand.specs.Stands.{count-is}
-use Rattle.demand.specs.Tracks.{others, coversAt, hopAt, planAt, Treats, holds, sends, gives-up, treats, ready-is, plan-is, key-in, dest-in, Tracked, tracked}
-use Rattle.demand.specs.Routings.{hop-nearer}
-use Rattle.demand.specs.Holder.{SettledAt, dead-or-ready, settled-at, ready-low, nextOf, next-ready, cover-nearest, not-covered}
-
--- ---- a Take of a lookup at a ready node is done
-
-planned : (t : Table) (k d : ℕ) → isReady (nodeAt t d .status) ≡ true → (x : Plan) × (planAt t d k ≡ Go x)
-unfolding planTakeLookup
-planned t k d r = rw r (go (coversAt t d k))
-  where
-    go : (b : Bool) → (x : Plan)
-        × (cond b (Go (quietPlan (nodeAt t d))) (Go (forwardPlan (hopAt t d k) (nodeAt t d) (lookup k) k d)) ≡ Go x)
-    go true = (quietPlan (nodeAt t d), refl)
-    go false = (forwardPlan (hopAt t d k) (nodeAt t d) (lookup k) k d, refl)
-
--- at most one message is added
-no-more : (t : Table) (k d : ℕ) (x : Plan) → Treats t k d x → x .all ≡ 0
-no-more t k d x (holds c e) = ap (λ (y : Plan). y .all) e
-no-more t k d x (sends h c o e) = ap (λ (y : Plan). y .all) e
-no-more t k d x (gives-up c o e) = ap (λ (y : Plan). y .all) e
-
-adds-one : (x : Plan) (ys : List Message) → x .all ≡ 0 → length (mailed x ys) ≤ length ys + 1
-adds-one x ys e = let none : sizeOf (x .all) ≡ 0 = rw e size-zero in omega (arith, mailed-length x ys .1)
-
-no-plan : {why : Refusal} {x : Plan} → No why ≡ Go x → ⊥
-no-plan e = let z : _≡_ {A = ℕ} 0 1 = cc in omega arith
-
-module _ (t : Table) (p : Pool) (q k d : ℕ) (e : validOf t p ≡ true) (l : LookupAt p q k d) (r : Ready t d) where
-  status-ready : isReady (nodeAt t d .status) ≡ true
-  status-ready = sym (ready-is t d (r .0)) ∙ r .1
-
-  room : (x : Plan) → planAt t d k ≡ Go x → length (mailed x (others p q)) ≤ 256
-  room x f =
-      let v = sound t p e in
-      let q-in : q < length (waiting p) = omega (arith, count-is v, l .waits) in
-      omega (
-        arith,
-        adds-one x (others p q) (no-more t k d x (treats t k d x f .1)),
-        removed-length (waiting p) q q-in,
-        count-is v,
-        v .counted,
-      )
-
-  never-refused : (why : Refusal) → RefusedFor t p 256 (Take q) why → ⊥
-  unfolding isSound
-  never-refused why (invalid f) = opposed e f
-  never-refused why (out-of-range v f) = opposed (lt-ltb q (p .count) (l .waits)) f
-  never-refused why (forbidden v i f) =
-      let x = planned t k d status-ready in
-      no-plan (sym f ∙ plan-is t p q k d v l ∙ x .1)
-  never-refused why (full x v i f big) = omega (arith, room x (sym (plan-is t p q k d v l) ∙ f))
-
-  pub take-done : stepped t p (Take q) .answer ≡ Done
-  take-done = go (stepped t p (Take q) .answer) refl
-    where
-      go : (a : Answer) → stepped t p (Take q) .answer ≡ a → stepped t p (Take q) .answer ≡ Done
-      go Done f = f
-      go (Refused why) f = absurd (never-refused why (step-refused t p 256 (Take q) why f .0))
-
-  pub fate-taken : fateOf t p q (Take q) ≡ cond (coversAt t d k) delivered (onward (hopAt t d k) (others p q) k)
-  unfolding fateOf
-  fate-taken = rw (take-done, eq-eqb q q refl, l .is)
-
--- ---- in a settled table there is a hop, and it is ready
-
-dead-is : (t : Table) (i : ℕ) → i < t .n → has (deadSet t) i ≡ isDead (nodeAt t i .status)
-unfolding deadSet
-dead-is t i h = has-gather (t .n) (λ s. isDead (nodeAt t s .status)) i h
-
-ready-alive : (s : Status) → isReady s ≡ true → isDead s ≡ false
-ready-alive status.Dead e = sym e
-ready-alive status.Wait e = refl
-ready-alive status.Ok e = refl
-ready-alive status.Ready e = refl
-
-module _ {t : Table} {p : Pool} (v : Sound t p) (s : isSettled t ≡ true) (k : ℕ) (hk : k < 2 ^ t .m) where
-  alive : (i : ℕ) → Ready t i → has (deadSet t) i ≡ false
-  alive i r = dead-is t i (r .0) ∙ ready-alive (nodeAt t i .status) (sym (ready-is t i (r .0)) ∙ r .1)
-
-  -- what is not dead is ready
-  awake : (i : ℕ) → i < t .n → has (deadSet t) i ≡ false → Ready t i
-  awake i l f =
-      (l, ready-is t i l
-      ∙ ⊎-elim (λ e. absurd (opposed e (sym (dead-is t i l) ∙ f))) (λ e. e)
-      (or-cases (isDead (nodeAt t i .status)) (isReady (nodeAt t i .status)) (dead-or-ready t s i l)))
-
-  module _ (d : ℕ) (r : Ready t d) where
-    -- no ready node is in its failed
-    trusted : (i : ℕ) → Ready t i → has (nodeAt t d .failed) i ≡ false
-    trusted i u =
-        bool-false (has (nodeAt t d .failed) i) (λ e.
-        opposed (has-meet (nodeAt t d .failed) (readySet t) i (ready-low v i u) ∙ and-both e (u .1))
-        (ap (λ (x : ℕ). has x i) (settled-at t s d r .trusts) ∙ has-zero i))
-
-    -- a neighbour other than the node itself is in its leaf set
-    on-left : (nextOf Up t d ≡ d → ⊥) → has (nodeAt t d .left) (nextOf Up t d) ≡ true
-    on-left apart =
-        rw (settled-at t s d r .left) at
-        (⊎-elim {C = has (nodeAt t d .left) (seenFrom Up (ringOf t) (idsOf t) d (nodeAt t d .left)) ≡ true}
-        (λ e. absurd (apart (sym (settled-at t s d r .left) ∙ e .1))) (λ e. e .holds)
-        (seen-in (v .listed) d (ready-low v d r) (nodeAt t d .left) Up))
-
-    on-right : (nextOf Down t d ≡ d → ⊥) → has (nodeAt t d .right) (nextOf Down t d) ≡ true
-    on-right apart =
-        rw (settled-at t s d r .right) at
-        (⊎-elim {C = has (nodeAt t d .right) (seenFrom Down (ringOf t) (idsOf t) d (nodeAt t d .right)) ≡ true}
-        (λ e. absurd (apart (sym (settled-at t s d r .right) ∙ e .1))) (λ e. e .holds)
-        (seen-in (v .listed) d (ready-low v d r) (nodeAt t d .right) Down))
-
-    -- so a nearer one is a candidate of either branch
-    by-neighbour : (i : ℕ) → Ready t i → Nearer t k i d → (has (nodeAt t d .left) i || has (nodeAt t d .right) i) ≡ true
-        → (h : ℕ) × (hopAt t d k ≡ To h)
-    by-neighbour i u near e =
-        let low = ready-low v i u in
-        let content : has (contentOf (sidesOf (nodeAt t d)) d) i ≡ true = has-content (sidesOf (nodeAt t d)) d i low ∙ or-left (eqb i d) e in
-        hop-some (ringOf t) (idsOf t) (deadSet t) d (nodeAt t d) k i low
-        (content-candidate (ringOf t) (idsOf t) (deadSet t) d (nodeAt t d) i low content (trusted i u) (alive i u)) near
-
-    not-self : (i : ℕ) → Nearer t k i d → i ≡ d → ⊥
-    not-self i near e = nearer-irreflexive (2 ^ t .m) k (idAt (idsOf t) d) (rw e at near)
-
-    pub hop-there : coversAt t d k ≡ false → (h : ℕ) × (hopAt t d k ≡ To h)
-    hop-there c =
-        ⊎-elim (λ near. by-neighbour (nextOf Up t d) (next-ready v d r Up) near
-        (or-left (has (nodeAt t d .right) (nextOf Up t d)) (on-left (not-self (nextOf Up t d) near))))
-        (λ near. by-neighbour (nextOf Down t d) (next-ready v d r Down) near
-        (or-right (has (nodeAt t d .left) (nextOf Down t d)) (on-right (not-self (nextOf Down t d) near))))
-        (not-covered v s k hk d r c)
-
-    pub hop-ready : (h : ℕ) → hopAt t d k ≡ To h → Ready t h × Nearer t k h d
-    hop-ready h e =
-        let to = hop-to (ringOf t) (idsOf t) (deadSet t) d (nodeAt t d) k h e in
-        let near = hop-nearer v k d h (r .0) e in
-        (awake h (near .0) (to .legal .alive), near .1)
+use Rattle.demand.specs.Tracks.{others, coversAt, hopAt, key-in, Tracked, tracked}
+use Rattle.demand.specs.Holder.{ready-low, cover-nearest}
+use Rattle.demand.specs.Taking.{take-done, fate-taken}
+use Rattle.demand.specs.Hops.{hop-there, hop-ready}
 
 -- ---- nothing equal waits
 

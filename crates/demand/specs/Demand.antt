@@ -1,12 +1,11 @@
 -- Demand 3, sentence by sentence. Only statements: the proofs are in the other files. Assumes nothing.
 use mathlib.Core.Path.{_≡_}
-use mathlib.Core.Bool.{Bool, true, false}
+use mathlib.Core.Bool.{true}
 use mathlib.Core.List.{List}
 use mathlib.Core.Logic.{_↔_}
 use Prim.Native.Nat.{ℕ, _+_, _-_, _%_, _^_, _<_, _≤_}
 use Rattle.ring.specs.Distance.{nearer, absDistOf}
 use Rattle.marks.specs.Marks.{has, sizeOf}
-use Rattle.rules.specs.declared.Message.{Message}
 use Rattle.rules.specs.declared.Pool.{Pool}
 use Rattle.rules.specs.declared.Action.{Action}
 use Rattle.rules.specs.Leaf.{coversOf}

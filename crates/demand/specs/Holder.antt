@@ -2,34 +2,32 @@
 -- if it is the ready node nearest it, and a key that it does not cover is nearer to a neighbour, which is ready and not in its failed. And of two
 -- nodes at equal distance, the one below the key is the nearer. Assumes nothing.
 use mathlib.Core.Path.{_≡_, refl, sym, _∙_, ap}
-use mathlib.Core.Logic.{_⊎_, inl, inr, ⊎-elim, _↔_}
-use mathlib.Core.Bool.{Bool, true, false, _&&_, _||_, not}
-use mathlib.Core.List.{List}
-use Prim.Native.Nat.{ℕ, _+_, _%_, _^_, _<_, _≤_}
+use mathlib.Core.Logic.{_⊎_, ⊎-elim}
+use mathlib.Core.Bool.{true, false, _||_, not}
+use Prim.Native.Nat.{ℕ, _^_, _<_, _≤_}
 use native.Mathlib.Omega.{arith}
 use lib.Dec.{eqb}
 use borrow.Author.Tests.{eq-eqb, ne-eqb, eqb-true, eqb-false, not-true}
-use Rattle.ring.specs.Distance.{fallOf, nearer, absDistOf, coversKey}
+use Rattle.ring.specs.Distance.{fallOf, nearer, coversKey}
 use Rattle.ring.specs.Falls as falls
 use Rattle.ring.specs.Order.{nearer-transitive, nearer-irreflexive, tie-below}
-use Rattle.ring.specs.Nearest.{Flanks, Next, covers-nearest, nearest-covers, uncovered}
-use Rattle.marks.specs.Bools.{opposed, and-left, and-right, and-both, or-cases, eq-or-ne, bool-false}
+use Rattle.ring.specs.Nearest.{Next, covers-nearest, nearest-covers, uncovered}
+use Rattle.marks.specs.Bools.{eq-or-ne}
 use Rattle.marks.specs.Marks.{has, allTo, meet, removeOf}
-use Rattle.marks.specs.Laws.{has-meet, has-remove, has-zero, each, listed-has, listed-gather}
+use Rattle.marks.specs.Laws.{has-remove, each, listed-has, listed-gather}
 use Rattle.rules.specs.declared.Way.{Way}
 use Rattle.rules.specs.declared.Way.the-variants.{Up, Down}
 use Rattle.rules.specs.declared.Pool.{Pool}
 use Rattle.rules.specs.declared.Ring.{Ring}
-use Rattle.rules.specs.Leaf.{coversOf, contentOf, seenFrom, leftNeighbour, rightNeighbour}
+use Rattle.rules.specs.Leaf.{coversOf, seenFrom, leftNeighbour, rightNeighbour}
 use Rattle.rules.specs.Nodes.{sidesOf}
 use Rattle.rules.specs.Pick.{idAt}
 use Rattle.rules.specs.Plans.{isDead, isReady}
-use Rattle.laws.specs.Leaf.{seen-in, seen-leads, seen-member, seen-up, seen-down}
+use Rattle.laws.specs.Leaf.{seen-in, seen-leads, seen-up, seen-down}
 use Rattle.laws.specs.Steps.{ids-inj}
 use Rattle.table.specs.declared.Table.{Table}
 use Rattle.table.specs.Table.{nodeAt, idsOf, ringOf}
 use Rattle.table.specs.Settled.{readySet, settledAt, isSettled}
-use Rattle.table.specs.Valid.{validOf}
 use Rattle.sound.specs.Nodes.{both}
 use Rattle.sound.specs.Sound.{Sound, sound}
 use Rattle.demand.specs.Demand.{Nearer, Ready, NearestReady, TieBelow, CoversNearest}

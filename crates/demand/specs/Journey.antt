@@ -1,9 +1,9 @@
 -- The journey of one lookup through any steps. A tracked lookup is known by its place in the pool; each step of the real step function moves it, routes it,
 -- ends it or leaves it. Definitions only: Tracks proves that they say where the message really is. Assumes nothing.
 use mathlib.Core.Path.{_≡_}
-use mathlib.Core.Bool.{Bool, true, false, cond}
+use mathlib.Core.Bool.{cond}
 use mathlib.Core.List.{List, [], _∷_}
-use Prim.Native.Nat.{ℕ, zero, suc, pred, _<_}
+use Prim.Native.Nat.{ℕ, suc, pred, _<_}
 use lib.Dec.{eqb, ltb}
 use lib.ListN.{length}
 use Rattle.marks.specs.declared.Found.{Found}

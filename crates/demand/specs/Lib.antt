@@ -4,6 +4,8 @@ pub mod Demand
 pub mod Tracks
 pub mod Routings
 pub mod Holder
+pub mod Taking
+pub mod Hops
 pub mod Arrives
 pub mod Proved
 pub mod Limits

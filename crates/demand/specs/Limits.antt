@@ -1,10 +1,10 @@
 -- How far the statements reach, computed on small tables. n - 1 routings are reached, and R - 1 for two ready nodes. Each hypothesis of the second half is
 -- needed: without it a valid table is named in which the lookup does not arrive (`Fails`), or in which a step between stops it. Of settled, which part
 -- fails is told part by part (`partsOf`, which together are settled). Assumes nothing.
-use mathlib.Core.Path.{_≡_, refl, sym, _∙_, ap}
+use mathlib.Core.Path.{_≡_, refl, _∙_, ap}
 use mathlib.Core.Bool.{Bool, true, false, _&&_, _||_, not, and-true}
 use mathlib.Core.List.{List, [], _∷_, _++_}
-use Prim.Native.Nat.{ℕ, zero, suc, _+_, _-_, _<_}
+use Prim.Native.Nat.{ℕ, zero, suc, _-_}
 use native.Mathlib.Omega.{arith}
 use lib.Dec.{eqb}
 use lib.ListN.{replicate, length}
@@ -16,12 +16,11 @@ use Rattle.rules.specs.declared.Status.{Status}
 use Rattle.rules.specs.declared.Status.the-variants as status
 use Rattle.rules.specs.declared.Way.the-variants.{Up, Down}
 use Rattle.rules.specs.declared.Node.{Node}
-use Rattle.rules.specs.declared.Message.{Message}
 use Rattle.rules.specs.declared.Pool.{Pool}
 use Rattle.rules.specs.declared.Action.{Action}
 use Rattle.rules.specs.declared.Action.the-variants.{LeaseExpired, Take}
 use Rattle.rules.specs.declared.Refusal.the-variants as no
-use Rattle.rules.specs.declared.Answer.the-variants.{Done, Refused}
+use Rattle.rules.specs.declared.Answer.the-variants.{Refused}
 use Rattle.rules.specs.Actions.{isNeighbour, planLeaseExpired}
 use Rattle.rules.specs.Closest.{closest}
 use Rattle.rules.specs.Fits.{numbersFit, idFits, sideFits, leafFits, othersFit, nodeFits, isBlank, slotFits}
@@ -43,7 +42,8 @@ use Rattle.table.specs.Start.{startNode, startNodes, startTable, slotsTo}
 use Rattle.table.specs.Step.{isSound, stepOf}
 use Rattle.table.specs.Table.{nodeAt, idsOf, ringOf}
 use Rattle.table.specs.Valid.{nodesFit, messagesFit, poolFits, validOf}
-use Rattle.demand.specs.Journey.{stepped, LookupAt, Fate, stays, routed, met, delivered, unroutable, fateOf, routings, Delivers, here, on}
+use Rattle.demand.specs.Journey.{stepped, LookupAt, Fate, stays, routed, met, delivered, unroutable, fateOf, routings, Delivers}
+use Rattle.demand.specs.Journey.{here, on}
 use Rattle.demand.specs.Demand.{Ready, Alone, Arrives}
 
 -- to unfold this is to unfold all that the tests and steps below compute with

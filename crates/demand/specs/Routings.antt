@@ -1,10 +1,10 @@
 -- A routed lookup goes nearer, so it is routed at most n - 1 times. The measure: how many listed nodes are nearer to the key than the holder. It falls with
 -- every routing, it is below n, and other steps leave it alone, since ids, n and M never change; what steps keep is taken from crate keeps. By
 -- induction on the actions. Assumes nothing.
-use mathlib.Core.Path.{_≡_, refl, sym, _∙_, ap}
-use mathlib.Core.Bool.{Bool, true, false}
+use mathlib.Core.Path.{_≡_, refl}
+use mathlib.Core.Bool.{true, false}
 use mathlib.Core.List.{List, [], _∷_}
-use Prim.Native.Nat.{ℕ, suc, _-_, _^_, _<_, _≤_}
+use Prim.Native.Nat.{ℕ, _^_, _<_, _≤_}
 use native.Mathlib.Omega.{arith}
 use Rattle.ring.specs.Distance.{nearer}
 use Rattle.ring.specs.Order.{nearer-transitive, nearer-irreflexive}
@@ -16,7 +16,6 @@ use Rattle.rules.specs.declared.Action.{Action}
 use Rattle.rules.specs.declared.Answer.{Answer}
 use Rattle.rules.specs.declared.Answer.the-variants.{Done, Refused}
 use Rattle.rules.specs.declared.Hop.the-variants.{To}
-use Rattle.rules.specs.Nodes.{sidesOf}
 use Rattle.rules.specs.Pick.{idAt}
 use Rattle.laws.specs.Hop.{hop-to, hop-listed}
 use Rattle.table.specs.declared.Table.{Table}

@@ -1,7 +1,7 @@
 -- Where a message stands in a list, and where it stands after messages are removed, added and laid out as a pool. In a valid pool every message of kind 1 is
 -- a Lookup, and a message equal to a Lookup is that Lookup. Assumes nothing.
-use mathlib.Core.Path.{_≡_, refl, sym, _∙_, ap}
-use mathlib.Core.Logic.{_⊎_, inl, inr, ⊎-elim}
+use mathlib.Core.Path.{_≡_, refl, _∙_, ap}
+use mathlib.Core.Logic.{_⊎_, inl, inr}
 use mathlib.Core.Bool.{Bool, true, false, cond, _&&_}
 use mathlib.Core.List.{List, [], _∷_, _++_}
 use Prim.Native.Nat.{ℕ, suc, pred, _+_, _-_, _<_, _≤_}

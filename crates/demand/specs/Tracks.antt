@@ -3,15 +3,14 @@
 -- `stays` comes from a done Take of that place, which leaves the table as it was and the other messages in their order: so no tracked lookup is lost
 -- or exchanged. By cases of the action and of what the node does. Assumes nothing.
 use mathlib.Core.Path.{_≡_, refl, sym, _∙_, ap, ap₂, subst}
-use mathlib.Core.Logic.{_⊎_, inl, inr, ⊎-elim}
 use mathlib.Core.Bool.{Bool, true, false, cond, not}
 use mathlib.Core.List.{List, [], _∷_, _++_}
-use Prim.Native.Nat.{ℕ, pred, _^_, _<_, _≤_}
+use Prim.Native.Nat.{ℕ, pred, _^_, _<_}
 use native.Mathlib.Omega.{arith}
 use lib.Dec.{eqb, ltb}
 use lib.ListN.{length}
 use lib.Seq.{set-getD}
-use borrow.Author.Tests.{eqb-true, eqb-false, ltb-true, ltb-false, not-true, not-false}
+use borrow.Author.Tests.{eqb-true, eqb-false, ltb-true, ltb-false}
 use Rattle.marks.specs.declared.Found.{Found}
 use Rattle.marks.specs.declared.Found.the-variants.{At, Nothing}
 use Rattle.marks.specs.Marks.{has}
@@ -41,7 +40,6 @@ use Rattle.rules.specs.Pool.{waiting, messageAt, laid}
 use Rattle.rules.specs.Take.{forwardPlan, planTakeLookup, planTake}
 use Rattle.mail.specs.Laws.{All, all-index, all-removed, added-at, added-nothing, mailed-quiet, mailed-send, waiting-at}
 use Rattle.table.specs.declared.Table.{Table}
-use Rattle.table.specs.declared.Stepped.{Stepped}
 use Rattle.table.specs.Table.{nodeAt, withNode, idsOf, ringOf}
 use Rattle.table.specs.Settle.{doneOf}
 use Rattle.table.specs.Settled.{readySet, deadSet}
@@ -50,8 +48,10 @@ use Rattle.sound.specs.Obeys.{obeys}
 use Rattle.sound.specs.Sound.{Sound, sound}
 use Rattle.keeps.specs.By.{leftOf, takenOf, plannedOf, DoneWith, leavesOf, step-refused, step-done}
 use Rattle.demand.specs.Demand.{Ready}
-use Rattle.demand.specs.Journey.{stepped, LookupAt, Fate, stays, routed, met, delivered, unroutable, onward, landing, fateTaken, fateDone, fateBy, fateOf}
-use Rattle.demand.specs.Stands.{Stands, stands-more, stands-mailed, stands-down, stands-still, stands-last, stands-laid, stands-waiting, count-is, first-stands}
+use Rattle.demand.specs.Journey.{stepped, LookupAt, Fate, stays, routed, met, delivered, unroutable, landing, fateTaken, fateDone}
+use Rattle.demand.specs.Journey.{fateBy, fateOf}
+use Rattle.demand.specs.Stands.{Stands, stands-mailed, stands-down, stands-still, stands-last, stands-laid, stands-waiting}
+use Rattle.demand.specs.Stands.{count-is, first-stands}
 
 -- the messages but the one at place q
 abbrev pub others : Pool → ℕ → List Message
