@@ -1,12 +1,11 @@
 -- Demand 3, sentence by sentence. Only statements: the proofs are in the other files. Assumes nothing.
 use mathlib.Core.Path.{_≡_}
-use mathlib.Core.Bool.{Bool, true, false}
+use mathlib.Core.Bool.{true}
 use mathlib.Core.List.{List}
 use mathlib.Core.Logic.{_↔_}
 use Prim.Native.Nat.{ℕ, _+_, _-_, _%_, _^_, _<_, _≤_}
 use Rattle.ring.specs.Distance.{nearer, absDistOf}
 use Rattle.marks.specs.Marks.{has, sizeOf}
-use Rattle.rules.specs.declared.Message.{Message}
 use Rattle.rules.specs.declared.Pool.{Pool}
 use Rattle.rules.specs.declared.Action.{Action}
 use Rattle.rules.specs.Leaf.{coversOf}
@@ -50,11 +49,11 @@ abbrev pub Alone : Pool → ℕ → ℕ → Type 0
 Alone p q k = (r : ℕ) → r < p .count → (r ≡ q → ⊥) → messageAt p r .kind ≡ 1 → messageAt p r .word ≡ k → ⊥
 
 -- what is promised of a lookup of k at place q: it is delivered after at most R - 1 routings, R being the ready nodes, at the one ready node nearest its key,
--- and the other messages wait as before
+-- the table is as before, and so are the other messages
 pub record Arrives (t : Table) (p : Pool) (q k : ℕ) : Type 0 where
   pub hops : ℕ
   pub at : ℕ
-  pub delivers : Delivers t k p q hops at (laid (removedAt (waiting p) q))
+  pub delivers : Delivers k t p q hops at t (laid (removedAt (waiting p) q))
   pub few : hops ≤ sizeOf (readySet t) - 1
   pub nearest : NearestReady t k at
 

@@ -1,2 +1,11 @@
 pub mod Journey
+pub mod Stands
 pub mod Demand
+pub mod Tracks
+pub mod Routings
+pub mod Holder
+pub mod Taking
+pub mod Hops
+pub mod Arrives
+pub mod Proved
+pub mod Limits
