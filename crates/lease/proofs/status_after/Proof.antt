@@ -19,7 +19,8 @@ test : (c : tie.After-is-in2)
 test c =
     let b = c .before .before in
     let d = b .before .before in
-    rw (c .is-in2 .ensures, c .before .is-in .ensures, b .seen4 .ensures, b .before .seen3 .ensures, d .seen2 .ensures, d .before .seen .ensures)
+    rw (c .is-in2 .ensures, c .before .is-in .ensures)
+    (rw (b .seen4 .ensures, b .before .seen3 .ensures, d .seen2 .ensures, d .before .seen .ensures))
 
 seen-requires : tie.Need-seen-requires
 seen-requires c κs = search needs
