@@ -1,10 +1,11 @@
-// Leases: the actions RequestLease, LeaseExpired and GrantExpired, and the taking of a LeaseRequest (kind 7) and of a BroadcastLSet (kind 8).
+// Leases: the actions RequestLease, LeaseExpired and GrantExpired, and the taking of a LeaseRequest (kind 7) and a BroadcastLSet (kind 8).
 ghost use mathlib.Core.Path.{_≡_};
 ghost use Prim.Native.Nat.{ℕ, _<_};
 ghost use Rattle.rules.specs.Asks.{Listed};
 ghost use Rattle.rules.specs.Letters.{leaseRequest, broadcastLSet};
 ghost use Rattle.rules.specs.Actions.{unlessIn, leasePlan, planRequestLease, isNeighbour, planLeaseExpired, planGrantExpired};
-ghost use Rattle.rules.specs.Take.{grantPlan, planTakeLeaseRequest, newNeighbour, leaseAfter, statusAfterLease, leasedNode, broadcastPlan, planTakeBroadcast};
+ghost use Rattle.rules.specs.Take.{grantPlan, planTakeLeaseRequest};
+ghost use Rattle.rules.specs.Take.{newNeighbour, leaseAfter, statusAfterLease, leasedNode, broadcastPlan, planTakeBroadcast};
 use marks::Found;
 use rules::Message;
 use rules::Node;
