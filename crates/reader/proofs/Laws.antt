@@ -30,7 +30,7 @@ field w at bs = numberOf (take w (drop at bs))
 words-at : (n : ℕ) (bs : List ℕ) (i : ℕ) → i < n → getD (decode (replicate n 4) bs) i 0 ≡ field 4 (4 * i) bs
 unfolding decode
 words-at zero bs i h = absurd (omega arith)
-words-at (suc n) bs zero h = simp unary-clauses
+words-at (suc n) bs zero h = refl
 words-at (suc n) bs (suc i) h =
     let more : 4 * suc i ≡ 4 + 4 * i = omega arith in
     rw (more, words-at n (drop 4 bs) i (omega arith), drop-drop)
