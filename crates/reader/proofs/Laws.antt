@@ -9,8 +9,8 @@ use native.Mathlib.Numerals.{add-one, unary-clauses}
 use native.Mathlib.Omega.{arith}
 use borrow.Author.Tests.{leb-true, eqb-true}
 use lib.Dec.{eqb, leb}
-use lib.ListN.{length, getD, take, drop, set, replicate, length-map}
-use lib.Seq.{drop-drop, set-at, append-snoc}
+use lib.ListN.{length, getD, take, drop, set, replicate, length-map, length-drop}
+use lib.Seq.{take-all, drop-drop, set-at, append-snoc}
 use Rattle.marks.specs.Bools.{and-left, and-right}
 use Rattle.rules.specs.declared.Node.{Node}
 use Rattle.rules.specs.declared.Message.{Message}
@@ -73,6 +73,12 @@ pub message-read : (bs : List ℕ) (at : ℕ)
 unfolding decode
 message-read bs at = simp (drop-drop, add-assoc)
 
+-- ---- a part
+
+-- from a place to the end is all that is left behind it
+pub rest-whole : (bs : List ℕ) (at : ℕ) → take (length bs - at) (drop at bs) ≡ drop at bs
+rest-whole bs at = take-all (length bs - at) (drop at bs) (rw length-drop (omega arith))
+
 -- ---- records one after the other
 
 -- as many places as high, of which the first n hold the records passed and the others d
@@ -87,6 +93,9 @@ decode-all-more ws size (suc n) bs =
     let more : size * suc n ≡ size + size * n = omega arith in
     ap (λ (l : List (List ℕ)). decode ws bs ∷ l) (decode-all-more ws size n (drop size bs)) ∙ rw (more, drop-drop)
 
+pub rows-long : {A : Type 0} (f : List ℕ → A) (ws : List ℕ) (size n : ℕ) (bs : List ℕ) → length (map f (decodeAll ws size n bs)) ≡ n
+rows-long f ws size n bs = length-map (decodeAll ws size n bs) f ∙ decode-all-length ws size n bs
+
 module _ {A : Type 0} (high : ℕ) (d : A) (f : List ℕ → A) (ws : List ℕ) (size : ℕ) (bs : List ℕ) where
   pub passed-none : passed high d f ws size bs 0 ≡ replicate high d
   unfolding decodeAll
@@ -99,9 +108,8 @@ module _ {A : Type 0} (high : ℕ) (d : A) (f : List ℕ → A) (ws : List ℕ) 
       let v = f (decode ws (drop (size * n) bs)) in
       let rest = replicate (high - suc n) d in
       let e : high - n ≡ suc (high - suc n) = omega arith in
-      let long : length old ≡ n = length-map (decodeAll ws size n bs) f ∙ decode-all-length ws size n bs in
       rw (add-one, e, decode-all-more ws size n bs, map-append)
-      (set-at old d rest v n long ∙ sym (append-snoc old v rest))
+      (set-at old d rest v n (rows-long f ws size n bs) ∙ sym (append-snoc old v rest))
 
 -- ---- what the tests of a header tell
 

@@ -1,76 +1,92 @@
+-- `reader::read_table` meets its contract. The invariant: the first s slots hold the nodes passed, and the others no node. The measure: the
+-- nodes left. Assumes nothing.
+use borrow.Author.Needs.{needs}
+use mathlib.Core.Path.{_≡_, sym}
+use Prim.Native.Nat.{_*_, _-_, _≤_, zero-le}
+use native.Mathlib.Omega.{arith}
+use lib.ListN.{length, drop}
+use lib.Seq.{drop-drop}
+use Rattle.rules.specs.Nodes.{noNode}
+use Rattle.format.specs.Format.{nodeWidths, nodesAt, totalOf, nodeFrom}
+use Rattle.format.specs.Load.{fileN, fileCount, fileTable}
+use Rattle.reader.proofs.Laws.{passed, passed-none, passed-more, offsets-long, header-counts}
 use Rattle.reader.proofs.read_table.Statement.{statement}
 use Rattle.reader.proofs.read_table.Tie as tie
-use Rattle.reader.proofs.read_table.Reads as reads
-use Rattle.reader.proofs.read_table.Lts as lts
-use Rattle.reader.proofs.read_node.Reads as read-node-reads
-use Rattle.reader.proofs.word.Reads as word-reads
-use Rattle.table.proofs.no_node.Reads as no-node-reads
 
 abbrev Inv-loop : tie.InvT-loop
-Inv-loop bs m l n nodes₀ s₀ nodes s = ?
+Inv-loop bs m l n nodes₀ s₀ nodes s = (s ≤ n) × (nodes ≡ passed 64 noNode nodeFrom nodeWidths 64 (drop nodesAt bs) s)
 
 abbrev μ-loop : tie.MeasureT-loop
-μ-loop bs m l n nodes₀ s₀ nodes s = ?
+μ-loop bs m l n nodes₀ s₀ nodes s = n - s
 
--- src/lib.rt:170:9
+long : (c : tie.Start Inv-loop μ-loop) → length (c .args .bs .now) ≡ totalOf (fileN (c .args .bs .now)) (fileCount (c .args .bs .now))
+long c = offsets-long (c .args .bs .now) (c .pre .offsets)
+
+-- n is at most 64
+narrow : (c : tie.After-word3 Inv-loop μ-loop) → c .word3 .result ≤ 64
+narrow c =
+    let start = c .before .before .before .before in
+    omega (arith, c .word3 .ensures, header-counts (start .args .bs .now) (start .pre .header))
+
 word-requires : tie.Need-word-requires Inv-loop μ-loop
-word-requires c κs = ?
+word-requires c κs = (omega arith, omega (arith, long (c .before)))
 
--- src/lib.rt:171:9
 word-requires-2 : tie.Need-word-requires-2 Inv-loop μ-loop
-word-requires-2 c κs = ?
+word-requires-2 c κs = (omega arith, omega (arith, long (c .before .before)))
 
--- src/lib.rt:172:13
 word-requires-3 : tie.Need-word-requires-3 Inv-loop μ-loop
-word-requires-3 c κs = ?
+word-requires-3 c κs = (omega arith, omega (arith, long (c .before .before .before)))
 
--- src/lib.rt:172:13
 cast-n : tie.Need-cast-n Inv-loop μ-loop
-cast-n c = ?
+cast-n c = omega arith
 
--- src/lib.rt:173:9
 no-node-requires : tie.Need-no-node-requires Inv-loop μ-loop
-no-node-requires c κs = ?
+no-node-requires c κs = search needs
 
--- src/lib.rt:176:5
 loop-holds : tie.Need-loop-holds Inv-loop μ-loop
-loop-holds c = ?
+loop-holds c =
+    let bs = c .before .before .before .before .before .args .bs .now in
+    (zero-le, rw (c .no-node .ensures) (sym (passed-none 64 noNode nodeFrom nodeWidths 64 (drop nodesAt bs))))
 
--- src/lib.rt:177:36
 mul-read-node : tie.Need-mul-read-node Inv-loop μ-loop
-mul-read-node c = ?
+mul-read-node c = omega (arith, narrow (c .before .before .before))
 
--- src/lib.rt:177:31
 add-read-node : tie.Need-add-read-node Inv-loop μ-loop
-add-read-node c = ?
+add-read-node c = omega (arith, narrow (c .before .before .before))
 
--- src/lib.rt:177:13
 read-node-requires : tie.Need-read-node-requires Inv-loop μ-loop
-read-node-requires c κs = ?
+read-node-requires c κs = let w = c .before .before .before in omega (arith, long (w .before .before .before .before))
 
--- src/lib.rt:178:9
 mul-nodes : tie.Need-mul-nodes Inv-loop μ-loop
-mul-nodes c = ?
+mul-nodes c = omega (arith, narrow (c .before .before .before .before))
 
--- src/lib.rt:178:9
 array-set-from-nodes : tie.Need-array-set-from-nodes Inv-loop μ-loop
-array-set-from-nodes c = ?
+array-set-from-nodes c = omega (arith, narrow (c .before .before .before .before))
 
--- src/lib.rt:179:9
 add-s : tie.Need-add-s Inv-loop μ-loop
-add-s c = ?
+add-s c = omega (arith, narrow (c .before .before .before .before))
 
--- src/lib.rt:176:5
 loop-less : tie.Need-loop-less Inv-loop μ-loop
-loop-less c = ?
+loop-less c = omega arith
 
--- src/lib.rt:176:5
 loop-again : tie.Need-loop-again Inv-loop μ-loop
-loop-again c = ?
+loop-again c =
+    let l = c .before .before in
+    let w = l .before .before in
+    let bs = w .before .before .before .before .args .bs .now in (
+      omega arith,
+      rw (c .read-node .ensures, l .loop .inv .1, ← (drop-drop (64 * l .loop .s) nodesAt bs))
+          (passed-more 64 noNode nodeFrom nodeWidths 64 (drop nodesAt bs) (l .loop .s) (omega (arith, narrow w))),
+    )
 
--- src/lib.rt:166:1
 returns : tie.Need-returns Inv-loop μ-loop
-returns c = ?
+unfolding fileTable
+returns c =
+    let l = c .before in
+    let w = l .before .before in
+    let bs = w .before .before .before .before .args .bs .now in
+    let e : l .loop .s ≡ fileN bs = omega arith in
+    rw (l .loop .inv .1, e, w .word3 .ensures, w .before .word2 .ensures, w .before .before .word .ensures)
 
 pub read-table-spec : {M : Type 1} → statement M
 read-table-spec =
