@@ -91,4 +91,3 @@ module _ (t : Table) (p : Pool) (q k d : ℕ) (e : validOf t p ≡ true) (l : Lo
   pub fate-taken : fateOf t p q (Take q) ≡ cond (coversAt t d k) delivered (onward (hopAt t d k) (others p q) k)
   unfolding fateOf
   fate-taken = rw (take-done, eq-eqb q q refl, l .is)
-

@@ -1,7 +1,7 @@
 // Joins that work: 17, then 65, then 95 join at 18, the only node ready at the start. Prints each action with its answer, the statuses and the number of
 // waiting messages after it, and at the end whether the table is settled.
-use libc::STDOUT_FILENO;
 use entry::Rest;
+use libc::STDOUT_FILENO;
 use rules::Action;
 use rules::Pool;
 use table::Stepped;
