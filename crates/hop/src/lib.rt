@@ -10,7 +10,7 @@ use rules::Ring;
 use rules::Way;
 
 // Is the leaf set alone looked at?
-pub fn by_leaf(g: Ring, ids: &[u32; 64], i: usize, v: Node) -> bool
+fn by_leaf(g: Ring, ids: &[u32; 64], i: usize, v: Node) -> bool
     requires { ⌜ Listed g (now ids) × (i < 64) ⌝ }
     ensures { λ r. ⌜ r ≡ byLeaf g (now (ids .entry)) i v ⌝ }
 {

@@ -31,7 +31,7 @@ pub fn seen(w: Way, g: Ring, ids: &[u32; 64], i: usize, set: u64) -> usize
 }
 
 // The slot d steps up from i, or d steps down, wrapping at n.
-pub fn along(up: bool, i: usize, n: usize, d: usize) -> usize
+fn along(up: bool, i: usize, n: usize, d: usize) -> usize
     requires { ⌜ (i < n) × (d < n) × (n ≤ 64) ⌝ }
     ensures { λ r. ⌜ (r < n) × (stepsOf up n i r ≡ d) ⌝ }
 {
@@ -43,7 +43,7 @@ pub fn along(up: bool, i: usize, n: usize, d: usize) -> usize
 }
 
 // The at most l nodes of a set that come first on the way up from slot i, or down. The owner is passed over.
-pub fn first_along(up: bool, set: u64, i: usize, n: usize, l: u32) -> u64
+fn first_along(up: bool, set: u64, i: usize, n: usize, l: u32) -> u64
     requires { ⌜ (i < n) × (n ≤ 64) ⌝ }
     ensures { λ r. ⌜ r ≡ closest (stepsOf up n i) n l (otherThan set i) ⌝ }
 {

@@ -40,7 +40,7 @@ pub fn unless_in(set: u64, s: usize) -> Found
     }
 }
 
-pub fn lease_plan(g: Ring, ids: &[u32; 64], i: usize, v: Node) -> Plan
+fn lease_plan(g: Ring, ids: &[u32; 64], i: usize, v: Node) -> Plan
     requires { ⌜ Listed g (now ids) × (i < 64) ⌝ }
     ensures { λ r. ⌜ r ≡ leasePlan g (now (ids .entry)) i v ⌝ }
 {
@@ -74,7 +74,7 @@ pub fn plan_request_lease(g: Ring, ids: &[u32; 64], i: usize, v: Node) -> Planne
 }
 
 // Is j the left or the right neighbour of i, in the leaf set s?
-pub fn is_next(g: Ring, ids: &[u32; 64], i: usize, s: Sides, j: usize) -> bool
+fn is_next(g: Ring, ids: &[u32; 64], i: usize, s: Sides, j: usize) -> bool
     requires { ⌜ Listed g (now ids) × (i < 64) ⌝ }
     ensures { λ r. ⌜ r ≡ newNeighbour g (now (ids .entry)) i s j ⌝ }
 {
@@ -84,7 +84,7 @@ pub fn is_next(g: Ring, ids: &[u32; 64], i: usize, s: Sides, j: usize) -> bool
 }
 
 // Is j the left or the right neighbour of node i?
-pub fn neighbours(g: Ring, ids: &[u32; 64], i: usize, v: Node, j: usize) -> bool
+fn neighbours(g: Ring, ids: &[u32; 64], i: usize, v: Node, j: usize) -> bool
     requires { ⌜ Listed g (now ids) × (i < 64) ⌝ }
     ensures { λ r. ⌜ r ≡ isNeighbour g (now (ids .entry)) i v j ⌝ }
 {
@@ -160,7 +160,7 @@ pub fn plan_take_lease_request(g: Ring, ids: &[u32; 64], i: usize, v: Node, j: u
 }
 
 // The lease after a broadcast of j: it gains j where the flag is set and j is a neighbour in the new leaf set s.
-pub fn lease_after(
+fn lease_after(
     g: Ring,
     ids: &[u32; 64],
     i: usize,
@@ -180,7 +180,7 @@ pub fn lease_after(
 }
 
 // The status after a broadcast: ready where both neighbours in s are leased and are the old ones.
-pub fn status_after(g: Ring, ids: &[u32; 64], i: usize, v: Node, s: Sides, lease: u64) -> Status
+fn status_after(g: Ring, ids: &[u32; 64], i: usize, v: Node, s: Sides, lease: u64) -> Status
     requires { ⌜ Listed g (now ids) × (i < 64) ⌝ }
     ensures { λ r. ⌜ r ≡ statusAfterLease g (now (ids .entry)) i v s lease ⌝ }
 {
@@ -206,7 +206,7 @@ pub fn leased(v: Node, s: Sides, lease: u64, st: Status) -> Node
     }
 }
 
-pub fn broadcast_plan(g: Ring, ids: &[u32; 64], i: usize, v: Node, m: Message) -> Plan
+fn broadcast_plan(g: Ring, ids: &[u32; 64], i: usize, v: Node, m: Message) -> Plan
     requires { ⌜ Listed g (now ids) × (i < g .n) ⌝ }
     ensures { λ r. ⌜ r ≡ broadcastPlan g (now (ids .entry)) i v m ⌝ }
 {

@@ -55,7 +55,7 @@ pub fn alike(a: Message, b: Message) -> bool
 }
 
 // The first waiting message that equals m, in pool order.
-pub fn first_equal(p: Pool, m: Message) -> Found
+fn first_equal(p: Pool, m: Message) -> Found
     requires { ⌜ p .count ≤ 256 ⌝ }
     ensures { λ r. ⌜ r ≡ firstEqual (waiting p) m ⌝ }
 {
@@ -206,7 +206,7 @@ pub fn all_different(p: Pool) -> bool
 }
 
 // Adds m at the end, unless an equal message waits; without room, or if there was none before, it does not fit.
-pub fn push(x: Sent, m: Message) -> Sent
+fn push(x: Sent, m: Message) -> Sent
     requires { ⌜ Going x ⌝ }
     ensures { λ r. ⌜ Holds (x .fits) (added (waiting (x .pool)) m) r ⌝ }
 {
@@ -234,7 +234,7 @@ pub fn push(x: Sent, m: Message) -> Sent
 }
 
 // Adds m for a slot, if there is one. A slot that no mark stands for finds no room.
-pub fn push_to(x: Sent, m: Message, to: Found) -> Sent
+fn push_to(x: Sent, m: Message, to: Found) -> Sent
     requires { ⌜ Going x ⌝ }
     ensures { λ r. ⌜ Holds (x .fits && slotted to) (addedTo to m (waiting (x .pool))) r ⌝ }
 {
@@ -261,7 +261,7 @@ pub fn held_with(set: u64, q: Message, m: Message) -> u64
 }
 
 // The slots to which an equal of m waits.
-pub fn held(p: Pool, m: Message) -> u64
+fn held(p: Pool, m: Message) -> u64
     requires { ⌜ p .count ≤ 256 ⌝ }
     ensures { λ r. ⌜ r ≡ heldOf m (waiting p) ⌝ }
 {
@@ -277,7 +277,7 @@ pub fn held(p: Pool, m: Message) -> u64
 }
 
 // Adds m for each slot of a set, in rising order, as push would.
-pub fn send_each(x: Sent, m: Message, to: u64) -> Sent
+fn send_each(x: Sent, m: Message, to: u64) -> Sent
     requires { ⌜ Going x ⌝ }
     ensures { λ r. ⌜ Holds (x .fits) (sent m to (waiting (x .pool))) r ⌝ }
 {

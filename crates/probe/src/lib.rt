@@ -83,7 +83,7 @@ pub fn plan_take_join_reply(g: Ring, ids: &[u32; 64], i: usize, v: Node, m: Mess
 }
 
 // P2: what the message's content, without f, would bring into the leaf set s.
-pub fn news(g: Ring, ids: &[u32; 64], i: usize, s: Sides, f: u64, m: Message) -> u64
+fn news(g: Ring, ids: &[u32; 64], i: usize, s: Sides, f: u64, m: Message) -> u64
     requires { ⌜ Listed g (now ids) × (i < g .n) ⌝ }
     ensures { λ r. ⌜ r ≡ probes2 g (now (ids .entry)) i s f m ⌝ }
 {
@@ -92,7 +92,7 @@ pub fn news(g: Ring, ids: &[u32; 64], i: usize, s: Sides, f: u64, m: Message) ->
 }
 
 // P: whom node i, with the leaf set s and the failed set f, is to probe.
-pub fn probes(g: Ring, ids: &[u32; 64], i: usize, v: Node, s: Sides, f: u64, m: Message) -> u64
+fn probes(g: Ring, ids: &[u32; 64], i: usize, v: Node, s: Sides, f: u64, m: Message) -> u64
     requires { ⌜ Listed g (now ids) × (i < g .n) ⌝ }
     ensures { λ r. ⌜ r ≡ probesOf g (now (ids .entry)) i v s f m ⌝ }
 {
@@ -126,7 +126,7 @@ pub fn waits_empty(v: Node) -> bool
     parts::is_wait(st) & leaf::empty(parts::sides_of(v))
 }
 
-pub fn probe_plan(g: Ring, ids: &[u32; 64], i: usize, v: Node, m: Message) -> Plan
+fn probe_plan(g: Ring, ids: &[u32; 64], i: usize, v: Node, m: Message) -> Plan
     requires { ⌜ Listed g (now ids) × (i < g .n) ⌝ }
     ensures { λ r. ⌜ r ≡ probePlanOf g (now (ids .entry)) i v m ⌝ }
 {
@@ -184,7 +184,7 @@ pub fn status_after(g: Ring, st: Status, s: Sides, probing: u64) -> Status
     }
 }
 
-pub fn reply_plan(g: Ring, ids: &[u32; 64], i: usize, v: Node, m: Message) -> Plan
+fn reply_plan(g: Ring, ids: &[u32; 64], i: usize, v: Node, m: Message) -> Plan
     requires { ⌜ Listed g (now ids) × (i < g .n) ⌝ }
     ensures { λ r. ⌜ r ≡ replyPlanOf g (now (ids .entry)) i v m ⌝ }
 {

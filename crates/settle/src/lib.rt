@@ -36,7 +36,7 @@ pub fn done(t: Table, p: Pool) -> Stepped
 }
 
 // The plan for node i, added to the pool `from`; `p` is the pool that a refusal leaves.
-pub fn carry_out(t: Table, p: Pool, from: Pool, i: usize, plan: Plan) -> Stepped
+fn carry_out(t: Table, p: Pool, from: Pool, i: usize, plan: Plan) -> Stepped
     requires { ⌜ (i < 64) × Neat from × (slotted (plan .to) ≡ true) ⌝ }
     ensures { λ r. ⌜ r ≡ carriedOut t p (waiting from) i plan ⌝ }
 {

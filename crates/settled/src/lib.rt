@@ -10,7 +10,7 @@ use rules::Way;
 use table::Table;
 
 // The ready nodes.
-pub fn ready_set(t: Table) -> u64
+fn ready_set(t: Table) -> u64
     requires { ⌜ t .n ≤ 64 ⌝ }
     ensures { λ r. ⌜ r ≡ readySet t ⌝ }
 {
@@ -48,7 +48,7 @@ pub fn dead_set(t: Table) -> u64
 }
 
 // Are both neighbours of the ready node i the next ready ids, and is no ready node in its failed?
-pub fn settled_at(g: Ring, ids: &[u32; 64], ready: u64, i: usize, v: Node) -> bool
+fn settled_at(g: Ring, ids: &[u32; 64], ready: u64, i: usize, v: Node) -> bool
     requires { ⌜ Listed g (now ids) × (i < 64) ⌝ }
     ensures { λ r. ⌜ r ≡ settledAt g (now (ids .entry)) ready i v ⌝ }
 {

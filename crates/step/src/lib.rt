@@ -25,7 +25,7 @@ use table::Stepped;
 use table::Table;
 
 // What message m asks of its destination i, by its kind.
-pub fn plan_take(g: Ring, ids: &[u32; 64], dead: u64, i: usize, v: Node, m: Message) -> Planned
+fn plan_take(g: Ring, ids: &[u32; 64], dead: u64, i: usize, v: Node, m: Message) -> Planned
     requires { ⌜ Listed g (now ids) × (i < g .n) × (messageFits g m ≡ true) ⌝ }
     ensures { λ r. ⌜ r ≡ planTake (m .kind) g (now (ids .entry)) dead i v m ⌝ }
 {
@@ -42,7 +42,7 @@ pub fn plan_take(g: Ring, ids: &[u32; 64], dead: u64, i: usize, v: Node, m: Mess
     }
 }
 
-pub fn take(t: Table, p: Pool, place: usize) -> Stepped
+fn take(t: Table, p: Pool, place: usize) -> Stepped
     requires { ⌜ (validOf t p ≡ true) × (place < p .count) ⌝ }
     ensures { λ r. ⌜ r ≡ actOf t p (Action.Take place) ⌝ }
 {
@@ -56,7 +56,7 @@ pub fn take(t: Table, p: Pool, place: usize) -> Stepped
     settle::settled_by(t, p, from, i, what)
 }
 
-pub fn lookup(t: Table, p: Pool, i: usize, k: u64) -> Stepped
+fn lookup(t: Table, p: Pool, i: usize, k: u64) -> Stepped
     requires { ⌜ (validOf t p ≡ true) × (i < t .n) × (k < 2 ^ t .m) ⌝ }
     ensures { λ r. ⌜ r ≡ actOf t p (Action.Lookup i k) ⌝ }
 {
@@ -68,7 +68,7 @@ pub fn lookup(t: Table, p: Pool, i: usize, k: u64) -> Stepped
     settle::settled_by(t, p, mail::tidy(p), i, what)
 }
 
-pub fn join(t: Table, p: Pool, i: usize, seed: usize) -> Stepped
+fn join(t: Table, p: Pool, i: usize, seed: usize) -> Stepped
     requires { ⌜ (validOf t p ≡ true) × (i < t .n) × (seed < t .n) ⌝ }
     ensures { λ r. ⌜ r ≡ actOf t p (Action.Join i seed) ⌝ }
 {
@@ -79,7 +79,7 @@ pub fn join(t: Table, p: Pool, i: usize, seed: usize) -> Stepped
     settle::settled_by(t, p, mail::tidy(p), i, what)
 }
 
-pub fn request_lease(t: Table, p: Pool, i: usize) -> Stepped
+fn request_lease(t: Table, p: Pool, i: usize) -> Stepped
     requires { ⌜ (validOf t p ≡ true) × (i < t .n) ⌝ }
     ensures { λ r. ⌜ r ≡ actOf t p (Action.RequestLease i) ⌝ }
 {
@@ -89,7 +89,7 @@ pub fn request_lease(t: Table, p: Pool, i: usize) -> Stepped
     settle::settled_by(t, p, mail::tidy(p), i, what)
 }
 
-pub fn lease_expired(t: Table, p: Pool, i: usize, j: usize) -> Stepped
+fn lease_expired(t: Table, p: Pool, i: usize, j: usize) -> Stepped
     requires { ⌜ (validOf t p ≡ true) × (i < t .n) ⌝ }
     ensures { λ r. ⌜ r ≡ actOf t p (Action.LeaseExpired i j) ⌝ }
 {
@@ -99,7 +99,7 @@ pub fn lease_expired(t: Table, p: Pool, i: usize, j: usize) -> Stepped
     settle::settled_by(t, p, mail::tidy(p), i, what)
 }
 
-pub fn grant_expired(t: Table, p: Pool, i: usize, j: usize) -> Stepped
+fn grant_expired(t: Table, p: Pool, i: usize, j: usize) -> Stepped
     requires { ⌜ (validOf t p ≡ true) × (i < t .n) × (j < t .n) ⌝ }
     ensures { λ r. ⌜ r ≡ actOf t p (Action.GrantExpired i j) ⌝ }
 {
@@ -110,7 +110,7 @@ pub fn grant_expired(t: Table, p: Pool, i: usize, j: usize) -> Stepped
 }
 
 // Are the action's slots, place and key in range?
-pub fn in_range(t: Table, p: Pool, a: Action) -> bool
+fn in_range(t: Table, p: Pool, a: Action) -> bool
     requires { ⌜ t .m ≤ 32 ⌝ }
     ensures { λ r. ⌜ r ≡ inRange t p a ⌝ }
 {
@@ -125,7 +125,7 @@ pub fn in_range(t: Table, p: Pool, a: Action) -> bool
 }
 
 // The action, on a valid table and in range.
-pub fn act(t: Table, p: Pool, a: Action) -> Stepped
+fn act(t: Table, p: Pool, a: Action) -> Stepped
     requires { ⌜ (validOf t p ≡ true) × (inRange t p a ≡ true) ⌝ }
     ensures { λ r. ⌜ r ≡ actOf t p a ⌝ }
 {

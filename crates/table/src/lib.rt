@@ -159,7 +159,7 @@ pub fn start_fits(m: u32, l: u32, n: usize) -> bool
 }
 
 // The ids in their slots, and 0 in the slots past them.
-pub fn slot_ids(ids: &[u32]) -> [u32; 64]
+fn slot_ids(ids: &[u32]) -> [u32; 64]
     requires { ⌜ length (now ids) ≤ 64 ⌝ }
     ensures { λ r. ⌜ r ≡ slotIds (now (ids .entry)) ⌝ }
 {
@@ -173,7 +173,7 @@ pub fn slot_ids(ids: &[u32]) -> [u32; 64]
 }
 
 // Is x below 2^m?
-pub fn below_size(x: u32, m: u32) -> bool
+fn below_size(x: u32, m: u32) -> bool
     requires { ⌜ m ≤ 32 ⌝ }
     ensures { λ r. ⌜ r ≡ ltb x (2 ^ m) ⌝ }
 {
@@ -181,7 +181,7 @@ pub fn below_size(x: u32, m: u32) -> bool
 }
 
 // Is the id of slot s below 2^m, and above the one before it?
-pub fn id_rises(m: u32, ids: &[u32; 64], s: usize) -> bool
+fn id_rises(m: u32, ids: &[u32; 64], s: usize) -> bool
     requires { ⌜ (m ≤ 32) × (s < 64) ⌝ }
     ensures { λ r. ⌜ r ≡ idRises m (now (ids .entry)) s ⌝ }
 {
@@ -194,7 +194,7 @@ pub fn id_rises(m: u32, ids: &[u32; 64], s: usize) -> bool
 }
 
 // Are the first n ids below 2^m, and strictly rising?
-pub fn ids_rise(m: u32, n: usize, ids: &[u32; 64]) -> bool
+fn ids_rise(m: u32, n: usize, ids: &[u32; 64]) -> bool
     requires { ⌜ (m ≤ 32) × (n ≤ 64) ⌝ }
     ensures { λ r. ⌜ r ≡ idsRise m n (now (ids .entry)) ⌝ }
 {
@@ -208,7 +208,7 @@ pub fn ids_rise(m: u32, n: usize, ids: &[u32; 64]) -> bool
     true
 }
 
-pub fn list_fits(m: u32, n: usize, ids: &[u32; 64], a: u64) -> bool
+fn list_fits(m: u32, n: usize, ids: &[u32; 64], a: u64) -> bool
     requires { ⌜ (m ≤ 32) × (n ≤ 64) ⌝ }
     ensures { λ r. ⌜ r ≡ listFits m n (now (ids .entry)) a ⌝ }
 {
@@ -219,7 +219,7 @@ pub fn list_fits(m: u32, n: usize, ids: &[u32; 64], a: u64) -> bool
 }
 
 // The node of slot s after a start.
-pub fn start_node(g: Ring, ids: &[u32; 64], a: u64, s: usize) -> Node
+fn start_node(g: Ring, ids: &[u32; 64], a: u64, s: usize) -> Node
     requires { ⌜ Listed g (now ids) × (s < g .n) ⌝ }
     ensures { λ r. ⌜ r ≡ startNode g (now (ids .entry)) a s ⌝ }
 {
@@ -264,7 +264,7 @@ pub fn no_node() -> Node
     }
 }
 
-pub fn start_nodes(g: Ring, ids: &[u32; 64], a: u64) -> [Node; 64]
+fn start_nodes(g: Ring, ids: &[u32; 64], a: u64) -> [Node; 64]
     requires { ⌜ Listed g (now ids) ⌝ }
     ensures { λ r. ⌜ r ≡ startNodes g (now (ids .entry)) a ⌝ }
 {

@@ -19,7 +19,7 @@ pub fn numbers_fit(g: Ring) -> bool
 }
 
 // Is x below 2^m?
-pub fn below_size(x: u32, m: u32) -> bool
+fn below_size(x: u32, m: u32) -> bool
     requires { ⌜ m ≤ 32 ⌝ }
     ensures { λ r. ⌜ r ≡ ltb x (2 ^ m) ⌝ }
 {
@@ -27,7 +27,7 @@ pub fn below_size(x: u32, m: u32) -> bool
 }
 
 // Is the id of slot s below 2^m, and above the one before it?
-pub fn id_fits(g: Ring, ids: &[u32; 64], s: usize) -> bool
+fn id_fits(g: Ring, ids: &[u32; 64], s: usize) -> bool
     requires { ⌜ (g .m ≤ 32) × (s < 64) ⌝ }
     ensures { λ r. ⌜ r ≡ idFits g (now (ids .entry)) s ⌝ }
 {
@@ -80,7 +80,7 @@ pub fn is_blank_node(v: Node) -> bool
                             & ((v.routing == 0) & ((v.lease == 0) & (v.grant == 0))))))))
 }
 
-pub fn slot_fits(g: Ring, ids: &[u32; 64], s: usize, v: Node) -> bool
+fn slot_fits(g: Ring, ids: &[u32; 64], s: usize, v: Node) -> bool
     requires { ⌜ (g .m ≤ 32) × (s < 64) ⌝ }
     ensures { λ r. ⌜ r ≡ slotFits g (now (ids .entry)) s v ⌝ }
 {
@@ -91,7 +91,7 @@ pub fn slot_fits(g: Ring, ids: &[u32; 64], s: usize, v: Node) -> bool
     }
 }
 
-pub fn nodes_fit(t: Table) -> bool
+fn nodes_fit(t: Table) -> bool
     requires { ⌜ t .m ≤ 32 ⌝ }
     ensures { λ r. ⌜ r ≡ nodesFit t ⌝ }
 {
@@ -109,7 +109,7 @@ pub fn nodes_fit(t: Table) -> bool
 }
 
 // Is the word a key, a node, or 0, as the kind asks?
-pub fn word_fits(kind: u32, g: Ring, word: u32) -> bool
+fn word_fits(kind: u32, g: Ring, word: u32) -> bool
     requires { ⌜ g .m ≤ 32 ⌝ }
     ensures { λ r. ⌜ r ≡ wordFits kind g word ⌝ }
 {
@@ -170,7 +170,7 @@ pub fn failed_fits(kind: u32, g: Ring, failed: u64) -> bool
     }
 }
 
-pub fn fields_fit(kind: u32, g: Ring, m: Message) -> bool
+fn fields_fit(kind: u32, g: Ring, m: Message) -> bool
     requires { ⌜ g .m ≤ 32 ⌝ }
     ensures { λ r. ⌜ r ≡ fieldsFit kind g m ⌝ }
 {
@@ -181,7 +181,7 @@ pub fn fields_fit(kind: u32, g: Ring, m: Message) -> bool
 }
 
 // Does the message obey its kind?
-pub fn message_fits(g: Ring, m: Message) -> bool
+fn message_fits(g: Ring, m: Message) -> bool
     requires { ⌜ g .m ≤ 32 ⌝ }
     ensures { λ r. ⌜ r ≡ messageFits g m ⌝ }
 {
@@ -189,7 +189,7 @@ pub fn message_fits(g: Ring, m: Message) -> bool
     kind & (((m.dest as usize) < g.n) & ((m.hops == 0) & fields_fit(m.kind, g, m)))
 }
 
-pub fn messages_fit(g: Ring, p: Pool) -> bool
+fn messages_fit(g: Ring, p: Pool) -> bool
     requires { ⌜ (g .m ≤ 32) × (p .count ≤ 256) ⌝ }
     ensures { λ r. ⌜ r ≡ messagesFit g p ⌝ }
 {
@@ -205,7 +205,7 @@ pub fn messages_fit(g: Ring, p: Pool) -> bool
     true
 }
 
-pub fn pool_fits(g: Ring, p: Pool) -> bool
+fn pool_fits(g: Ring, p: Pool) -> bool
     requires { ⌜ g .m ≤ 32 ⌝ }
     ensures { λ r. ⌜ r ≡ poolFits g p ⌝ }
 {
