@@ -1,6 +1,6 @@
--- In a settled table a lookup at a ready node, alone for its key, is delivered at the ready node nearest its key. Each Take is done; where the node does
--- not cover the key, the lookup goes to a ready node that is nearer, and nothing equal waits there. The measure: how many ready nodes are nearer than
--- the holder; it falls with every routing and is below R. By induction on a bound of it. Assumes nothing.
+-- In a settled table a lookup at a ready node, alone for its key, is delivered at the ready node nearest its key. Each Take is done; where
+-- the node does not cover the key, the lookup goes to a ready node that is nearer, and nothing equal waits there. The measure: how many
+-- ready nodes are nearer than the holder; it falls with every routing and is below R. By induction on a bound of it. Assumes nothing.
 use mathlib.Core.Path.{_≡_, refl, sym, _∙_, ap, subst}
 use mathlib.Core.Logic.{_⊎_, inl, inr}
 use mathlib.Core.Bool.{Bool, true, false, _&&_}
@@ -15,7 +15,6 @@ use Rattle.marks.specs.Bools.{bool-false, and-left, and-right, and-both, and-fa
 use Rattle.marks.specs.declared.Found.the-variants.{Nothing}
 use Rattle.marks.specs.Marks.{has, tally, sizeOf}
 use Rattle.marks.specs.Laws.{tally-strict}
-use Rattle.rules.specs.declared.Status.the-variants as status
 use Rattle.rules.specs.declared.Hop.the-variants.{To}
 use Rattle.rules.specs.declared.Message.{Message}
 use Rattle.rules.specs.declared.Pool.{Pool}
@@ -57,7 +56,8 @@ alone-without {t} {p} v q k h alone = record { none = λ r l. go r l (lt-or-le r
         → getD (others p q) r blank .kind ≡ 1 → getD (others p q) r blank .word ≡ k → ⊥
     at r i l apart same = rw same (alone i l apart)
 
-    go : (r : ℕ) → r < length (others p q) → (r < q) ⊎ (q ≤ r) → getD (others p q) r blank .kind ≡ 1 → getD (others p q) r blank .word ≡ k → ⊥
+    go : (r : ℕ) → r < length (others p q) → (r < q) ⊎ (q ≤ r)
+        → getD (others p q) r blank .kind ≡ 1 → getD (others p q) r blank .word ≡ k → ⊥
     go r l (inl b) =
         let low : r < p .count = omega (arith, h) in
         at r r low (omega arith) (removed-low (waiting p) q q-in r b ∙ waiting-at p r low)
@@ -126,11 +126,12 @@ module _ (t : Table) (s : isSettled t ≡ true) (k : ℕ) (hk : k < 2 ^ t .m) (y
         record { hops = 0; end = d; delivers = arrived; few = omega arith; ready = r; covers = c }
 
     -- one routing more
-    one-more : (h place : ℕ) → fateOf t p q (Take q) ≡ routed h place → stepped t p (Take q) .table ≡ t → nearerReady t k h < nearerReady t k d
-        → Settles t k ys (stepped t p (Take q) .pool) place h → Settles t k ys p q d
+    one-more : (h place : ℕ) → fateOf t p q (Take q) ≡ routed h place → stepped t p (Take q) .table ≡ t
+        → nearerReady t k h < nearerReady t k d → Settles t k ys (stepped t p (Take q) .pool) place h → Settles t k ys p q d
     one-more h place fate same falls after =
+        let next = stepped t p (Take q) .pool in
         let rest =
-        subst (λ (u : Table). Delivers k u (stepped t p (Take q) .pool) place (after .hops) (after .end) t (laid ys)) (sym same) (after .delivers) in
+        subst (λ (u : Table). Delivers k u next place (after .hops) (after .end) t (laid ys)) (sym same) (after .delivers) in
         record {
           hops = suc (after .hops);
           end = after .end;

@@ -48,8 +48,8 @@ FewRoutings =
 abbrev pub Alone : Pool → ℕ → ℕ → Type 0
 Alone p q k = (r : ℕ) → r < p .count → (r ≡ q → ⊥) → messageAt p r .kind ≡ 1 → messageAt p r .word ≡ k → ⊥
 
--- what is promised of a lookup of k at place q: it is delivered after at most R - 1 routings, R being the ready nodes, at the one ready node nearest its key,
--- the table is as before, and so are the other messages
+-- what is promised of a lookup of k at place q: it is delivered after at most R - 1 routings, R being the ready nodes, at the one ready
+-- node nearest its key; the table is as before, and so are the other messages
 pub record Arrives (t : Table) (p : Pool) (q k : ℕ) : Type 0 where
   pub hops : ℕ
   pub at : ℕ
@@ -60,7 +60,8 @@ pub record Arrives (t : Table) (p : Pool) (q k : ℕ) : Type 0 where
 -- In a settled table, with no other step between, a lookup waiting at a ready node, alone for its key, arrives
 abbrev pub SettledArrives : Type 0
 SettledArrives =
-    (t : Table) (p : Pool) (q k d : ℕ) → validOf t p ≡ true → isSettled t ≡ true → LookupAt p q k d → Ready t d → Alone p q k → Arrives t p q k
+    (t : Table) (p : Pool) (q k d : ℕ) → validOf t p ≡ true → isSettled t ≡ true → LookupAt p q k d → Ready t d → Alone p q k
+    → Arrives t p q k
 
 -- Of two at equal distance, the one below the key is the nearer: going up from it by that distance reaches the key
 abbrev pub TieBelow : Type 0

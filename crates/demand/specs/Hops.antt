@@ -1,5 +1,5 @@
--- In a settled table a ready node that does not cover a key has a next hop for it, and the hop is ready and nearer. The idea: a neighbour is ready,
--- unfailed and nearer, hence a candidate of either branch; and what is not dead is ready. Assumes nothing.
+-- In a settled table a ready node that does not cover a key has a next hop for it, and the hop is ready and nearer. The idea: a neighbour
+-- is ready, unfailed and nearer, hence a candidate of either branch; and what is not dead is ready. Assumes nothing.
 use mathlib.Core.Path.{_≡_, refl, sym, _∙_, ap}
 use mathlib.Core.Logic.{⊎-elim}
 use mathlib.Core.Bool.{true, false, _||_}
@@ -45,10 +45,12 @@ module _ {t : Table} {p : Pool} (v : Sound t p) (s : isSettled t ≡ true) (k : 
 
   -- what is not dead is ready
   awake : (i : ℕ) → i < t .n → has (deadSet t) i ≡ false → Ready t i
-  awake i l f =
-      (l, ready-is t i l
-      ∙ ⊎-elim (λ e. absurd (opposed e (sym (dead-is t i l) ∙ f))) (λ e. e)
-      (or-cases (isDead (nodeAt t i .status)) (isReady (nodeAt t i .status)) (dead-or-ready t s i l)))
+  awake i l f = (
+    l,
+    ready-is t i l
+        ∙ ⊎-elim (λ e. absurd (opposed e (sym (dead-is t i l) ∙ f))) (λ e. e)
+        (or-cases (isDead (nodeAt t i .status)) (isReady (nodeAt t i .status)) (dead-or-ready t s i l)),
+  )
 
   module _ (d : ℕ) (r : Ready t d) where
     -- no ready node is in its failed
@@ -78,7 +80,8 @@ module _ {t : Table} {p : Pool} (v : Sound t p) (s : isSettled t ≡ true) (k : 
         → (h : ℕ) × (hopAt t d k ≡ To h)
     by-neighbour i u near e =
         let low = ready-low v i u in
-        let content : has (contentOf (sidesOf (nodeAt t d)) d) i ≡ true = has-content (sidesOf (nodeAt t d)) d i low ∙ or-left (eqb i d) e in
+        let content : has (contentOf (sidesOf (nodeAt t d)) d) i ≡ true =
+        has-content (sidesOf (nodeAt t d)) d i low ∙ or-left (eqb i d) e in
         hop-some (ringOf t) (idsOf t) (deadSet t) d (nodeAt t d) k i low
         (content-candidate (ringOf t) (idsOf t) (deadSet t) d (nodeAt t d) i low content (trusted i u) (alive i u)) near
 
@@ -98,4 +101,3 @@ module _ {t : Table} {p : Pool} (v : Sound t p) (s : isSettled t ≡ true) (k : 
         let to = hop-to (ringOf t) (idsOf t) (deadSet t) d (nodeAt t d) k h e in
         let near = hop-nearer v k d h (r .0) e in
         (awake h (near .0) (to .legal .alive), near .1)
-

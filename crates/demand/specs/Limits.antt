@@ -1,6 +1,6 @@
--- How far the statements reach, computed on small tables. n - 1 routings are reached, and R - 1 for two ready nodes. Each hypothesis of the second half is
--- needed: without it a valid table is named in which the lookup does not arrive (`Fails`), or in which a step between stops it. Of settled, which part
--- fails is told part by part (`partsOf`, which together are settled). Assumes nothing.
+-- How far the statements reach, computed on small tables. n - 1 routings are reached, and R - 1 for two ready nodes. Each hypothesis of the
+-- second half is needed: without it a valid table is named in which the lookup does not arrive, or in which a step between stops it. Of
+-- settled, which part fails is told part by part (`partsOf`; together they are settled). Assumes nothing.
 use mathlib.Core.Path.{_≡_, refl, _∙_, ap}
 use mathlib.Core.Bool.{Bool, true, false, _&&_, _||_, not, and-true}
 use mathlib.Core.List.{List, [], _∷_, _++_}
@@ -45,14 +45,16 @@ use Rattle.table.specs.Valid.{nodesFit, messagesFit, poolFits, validOf}
 use Rattle.demand.specs.Journey.{stepped, LookupAt, Fate, stays, routed, met, delivered, unroutable, fateOf, routings, Delivers}
 use Rattle.demand.specs.Journey.{here, on}
 use Rattle.demand.specs.Demand.{Ready, Alone, Arrives}
+use Rattle.demand.specs.Holder.{nextOf}
 
 -- to unfold this is to unfold all that the tests and steps below compute with
 opened : Unit {0}
-unfolding validOf numbersFit nodesFit slotFits idFits nodeFits leafFits sideFits othersFit isBlank listed sizeOf tally has allTo poolFits messagesFit messageFits
-    fieldsFit wordFits flagFits carriedFits ownerFits routingFits failedFits allDifferent alike fateOf routings stepOf isSound settle carriedOut mailed
-    sentTo planTake planTakeLookup planLeaseExpired isNeighbour coversOf seenFrom best coversKey leftCoverOf rightCoverOf fallOf nextHop byLeaf overlaps meet
-    gather leafHop routeHop leafCandidates routeCandidates contentOf union addOf without removeOf nearer absDistOf signedOf risesTo deadSet readySet
-    settledAt isSettled single firstEqual firstFrom added removedAt startNodes startNode slotsTo leafWith closest
+unfolding validOf numbersFit nodesFit slotFits idFits nodeFits leafFits sideFits othersFit isBlank listed sizeOf tally has allTo poolFits
+    messagesFit messageFits fieldsFit wordFits flagFits carriedFits ownerFits routingFits failedFits allDifferent alike fateOf
+    routings stepOf isSound settle carriedOut mailed sentTo planTake planTakeLookup planLeaseExpired isNeighbour coversOf seenFrom
+    best coversKey leftCoverOf rightCoverOf fallOf nextHop byLeaf overlaps meet gather leafHop routeHop leafCandidates
+    routeCandidates contentOf union addOf without removeOf nearer absDistOf signedOf risesTo deadSet readySet settledAt isSettled
+    single firstEqual firstFrom added removedAt startNodes startNode slotsTo leafWith closest
 opened = tt
 
 -- ---- tables
@@ -110,10 +112,10 @@ abbrev eachReady : Table → (ℕ → Bool) → Bool
 eachReady t f = allTo (t .n) (λ i. not (isReady (nodeAt t i .status)) || f i)
 
 abbrev leftRight : Table → ℕ → Bool
-leftRight t i = eqb (leftNeighbour (ringOf t) (idsOf t) i (sidesOf (nodeAt t i))) (seenFrom Up (ringOf t) (idsOf t) i (removeOf (readySet t) i))
+leftRight t i = eqb (leftNeighbour (ringOf t) (idsOf t) i (sidesOf (nodeAt t i))) (nextOf Up t i)
 
 abbrev rightRight : Table → ℕ → Bool
-rightRight t i = eqb (rightNeighbour (ringOf t) (idsOf t) i (sidesOf (nodeAt t i))) (seenFrom Down (ringOf t) (idsOf t) i (removeOf (readySet t) i))
+rightRight t i = eqb (rightNeighbour (ringOf t) (idsOf t) i (sidesOf (nodeAt t i))) (nextOf Down t i)
 
 abbrev trusting : Table → ℕ → Bool
 trusting t i = eqb (meet (nodeAt t i .failed) (readySet t)) 0
@@ -156,7 +158,11 @@ each-and t f g =
 pub parts-settled : (t : Table) → isSettled t ≡ every (partsOf t)
 unfolding isSettled settledAt partsOf
 parts-settled t =
-    rw (each-and t (leftRight t) (λ i. rightRight t i && trusting t i), each-and t (rightRight t) (trusting t), and-true (eachReady t (trusting t)))
+    rw (
+      each-and t (leftRight t) (λ i. rightRight t i && trusting t i),
+      each-and t (rightRight t) (trusting t),
+      and-true (eachReady t (trusting t)),
+    )
 
 -- ---- what is asked of a lookup that waits alone
 
@@ -200,7 +206,9 @@ pub one-waits-parts : partsOf one-waits ≡ true ∷ false ∷ true ∷ true ∷
 unfolding one-waits partsOf opened
 one-waits-parts = refl
 
-one-waits-computes : (validOf one-waits (only 2 0) ≡ true) × Ready one-waits 0 × (fateOf one-waits (only 2 0) 0 (Take 0) ≡ routed 2 0)
+one-waits-computes :
+    (validOf one-waits (only 2 0) ≡ true) × Ready one-waits 0
+    × (fateOf one-waits (only 2 0) 0 (Take 0) ≡ routed 2 0)
 unfolding one-waits opened
 one-waits-computes = (refl, (omega arith, refl), refl)
 
@@ -223,7 +231,9 @@ pub left-wrong-parts : partsOf left-wrong ≡ true ∷ true ∷ false ∷ true �
 unfolding left-wrong partsOf opened
 left-wrong-parts = refl
 
-left-wrong-computes : (validOf left-wrong (only 0 1) ≡ true) × Ready left-wrong 1 × (fateOf left-wrong (only 0 1) 0 (Take 0) ≡ unroutable)
+left-wrong-computes :
+    (validOf left-wrong (only 0 1) ≡ true) × Ready left-wrong 1
+    × (fateOf left-wrong (only 0 1) 0 (Take 0) ≡ unroutable)
 unfolding left-wrong opened
 left-wrong-computes = (refl, (omega arith, refl), refl)
 
@@ -241,7 +251,9 @@ pub right-wrong-parts : partsOf right-wrong ≡ true ∷ true ∷ true ∷ false
 unfolding right-wrong partsOf opened
 right-wrong-parts = refl
 
-right-wrong-computes : (validOf right-wrong (only 1 0) ≡ true) × Ready right-wrong 0 × (fateOf right-wrong (only 1 0) 0 (Take 0) ≡ unroutable)
+right-wrong-computes :
+    (validOf right-wrong (only 1 0) ≡ true) × Ready right-wrong 0
+    × (fateOf right-wrong (only 1 0) 0 (Take 0) ≡ unroutable)
 unfolding right-wrong opened
 right-wrong-computes = (refl, (omega arith, refl), refl)
 
@@ -259,7 +271,9 @@ pub ready-failed-parts : partsOf ready-failed ≡ true ∷ true ∷ true ∷ tru
 unfolding ready-failed partsOf opened
 ready-failed-parts = refl
 
-ready-failed-computes : (validOf ready-failed (only 1 0) ≡ true) × Ready ready-failed 0 × (fateOf ready-failed (only 1 0) 0 (Take 0) ≡ unroutable)
+ready-failed-computes :
+    (validOf ready-failed (only 1 0) ≡ true) × Ready ready-failed 0
+    × (fateOf ready-failed (only 1 0) 0 (Take 0) ≡ unroutable)
 unfolding ready-failed opened
 ready-failed-computes = (refl, (omega arith, refl), refl)
 
@@ -273,7 +287,9 @@ ready-failed-fails =
 abbrev pub both-look : Pool
 both-look = laid (placed (lookup 2) 0 ∷ placed (lookup 2) 1 ∷ [])
 
-pub met-computes : (validOf pair both-look ≡ true) × Ready pair 0 × (fateOf pair both-look 0 (Take 0) ≡ met 1 0)
+pub met-computes :
+    (validOf pair both-look ≡ true) × Ready pair 0
+    × (fateOf pair both-look 0 (Take 0) ≡ met 1 0)
 unfolding pair opened
 met-computes = (refl, (omega arith, refl), refl)
 
@@ -285,7 +301,9 @@ met-fails = (record { waits = omega arith; is = refl }, λ a. stuck (ap goesOn (
 unfoldable pub one-dead : Table
 one-dead = startTable 2 1 2 (0 ∷ 2 ∷ []) 1
 
-pub one-dead-computes : (validOf one-dead (only 2 1) ≡ true) × (isSettled one-dead ≡ true) × (fateOf one-dead (only 2 1) 0 (Take 0) ≡ stays 0)
+pub one-dead-computes :
+    (validOf one-dead (only 2 1) ≡ true) × (isSettled one-dead ≡ true)
+    × (fateOf one-dead (only 2 1) 0 (Take 0) ≡ stays 0)
 unfolding one-dead opened
 one-dead-computes = (refl, refl, refl)
 

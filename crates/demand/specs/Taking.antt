@@ -1,5 +1,5 @@
--- A Take of a lookup at a ready node is done, in every valid table: the node makes a plan, and the pool has room, since one message goes and at most one
--- comes. So its fate is what the node does: delivered where it covers the key, else on to the next hop. Assumes nothing.
+-- A Take of a lookup at a ready node is done, in every valid table: the node makes a plan, and the pool has room, since one message goes
+-- and at most one comes. So its fate is what the node does: delivered where it covers the key, else on to the next hop. Assumes nothing.
 use mathlib.Core.Path.{_≡_, refl, sym, _∙_, ap}
 use mathlib.Core.Bool.{Bool, true, false, cond}
 use mathlib.Core.List.{List}
@@ -91,4 +91,3 @@ module _ (t : Table) (p : Pool) (q k d : ℕ) (e : validOf t p ≡ true) (l : Lo
   pub fate-taken : fateOf t p q (Take q) ≡ cond (coversAt t d k) delivered (onward (hopAt t d k) (others p q) k)
   unfolding fateOf
   fate-taken = rw (take-done, eq-eqb q q refl, l .is)
-

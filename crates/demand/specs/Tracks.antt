@@ -1,7 +1,7 @@
--- The fate of a lookup is what really happens to it. `tracked`: in a valid table, after any step, the message at the place that the fate names is the same
--- Lookup, for the same slot or for the next hop; or it was delivered at a ready node that covers its key, or NoLegalRoute waits in its stead. Each fate but
--- `stays` comes from a done Take of that place, which leaves the table as it was and the other messages in their order: so no tracked lookup is lost
--- or exchanged. By cases of the action and of what the node does. Assumes nothing.
+-- The fate of a lookup is what really happens to it. `tracked`: in a valid table, after any step, the message at the place that the fate
+-- names is the same Lookup, for the same slot or for the next hop; or it was delivered at a ready node that covers its key, or NoLegalRoute
+-- waits in its stead. Each fate but `stays` comes from a done Take of that place, which leaves the table as it was and the other messages
+-- in their order: so no tracked lookup is lost or exchanged. By cases of the action and of what the node does. Assumes nothing.
 use mathlib.Core.Path.{_≡_, refl, sym, _∙_, ap, ap₂, subst}
 use mathlib.Core.Bool.{Bool, true, false, cond, not}
 use mathlib.Core.List.{List, [], _∷_, _++_}
@@ -189,7 +189,8 @@ module _ (t : Table) (p : Pool) (q k d : ℕ) (v : Sound t p) (l : LookupAt p q 
           → LookupAt (stepped t p (Take q) .pool) r k h
       there ys r w i = rw (w .leaves) (stands-laid i)
 
-      lands : (f : Found) → firstEqual (others p q) (placed (lookup k) h) ≡ f → Tracked t p q k d (Take q) (landing f h (length (others p q)))
+      lands : (f : Found) → firstEqual (others p q) (placed (lookup k) h) ≡ f
+          → Tracked t p q k d (Take q) (landing f h (length (others p q)))
       lands (At r) f =
           let w = arrives (others p q) (added-at (others p q) (placed (lookup k) h) r f) in
           record {
@@ -200,7 +201,8 @@ module _ (t : Table) (p : Pool) (q k d : ℕ) (v : Sound t p) (l : LookupAt p q 
           }
       lands Nothing f =
           let w = arrives _ (added-nothing (others p q) (placed (lookup k) h) f) in
-          record { took = w; uncovered = c; hop = o; now = there _ (length (others p q)) w (stands-last (others p q) (placed (lookup k) h)) }
+          let last = stands-last (others p q) (placed (lookup k) h) in
+          record { took = w; uncovered = c; hop = o; now = there _ (length (others p q)) w last }
 
     -- NoLegalRoute is added, or one waits already
     tells : (f : Found) → firstEqual (others p q) (placed (noLegalRoute k) d) ≡ f
@@ -209,10 +211,12 @@ module _ (t : Table) (p : Pool) (q k d : ℕ) (v : Sound t p) (l : LookupAt p q 
         rw (added-at (others p q) (placed (noLegalRoute k) d) r f)
         (r, first-stands (ringOf t) (others p q) (placed (noLegalRoute k) d) r others-fit refl f)
     tells Nothing f =
-        rw (added-nothing (others p q) (placed (noLegalRoute k) d) f) (length (others p q), stands-last (others p q) (placed (noLegalRoute k) d))
+        rw (added-nothing (others p q) (placed (noLegalRoute k) d) f)
+        (length (others p q), stands-last (others p q) (placed (noLegalRoute k) d))
 
     taken : Treats t k d x → Tracked t p q k d (Take q) (fateTaken t p q (placed (lookup k) d))
-    taken (holds c s) = rw c (record { took = took (quietPlan (nodeAt t d)) _ s refl (mailed-quiet (nodeAt t d) (others p q)); covered = c })
+    taken (holds c s) =
+        rw c (record { took = took (quietPlan (nodeAt t d)) _ s refl (mailed-quiet (nodeAt t d) (others p q)); covered = c })
     taken (sends h c o s) = rw (c, o) (lands h c o s (firstEqual (others p q) (placed (lookup k) h)) refl)
     taken (gives-up c o s) =
         rw (c, o)
