@@ -38,7 +38,7 @@ use Rattle.table.specs.declared.Table.{Table}
 use Rattle.table.specs.declared.Stepped.{Stepped}
 use Rattle.table.specs.Settle.{doneOf, carriedOut, settle}
 use Rattle.table.specs.Settled.{readySet, deadSet, settledAt, isSettled}
-use Rattle.table.specs.Start.{startNode, startNodes, startTable, slotsTo}
+use Rattle.table.specs.Start.{slotIds, slotsTo, startNode, startNodes, startFits, idsRise, listFits, startOf}
 use Rattle.table.specs.Step.{isSound, stepOf}
 use Rattle.table.specs.Table.{nodeAt, idsOf, ringOf}
 use Rattle.table.specs.Valid.{nodesFit, messagesFit, poolFits, validOf}
@@ -54,7 +54,8 @@ unfolding validOf numbersFit nodesFit slotFits idFits nodeFits leafFits sideFits
     routings stepOf isSound settle carriedOut mailed sentTo planTake planTakeLookup planLeaseExpired isNeighbour coversOf seenFrom
     best coversKey leftCoverOf rightCoverOf fallOf nextHop byLeaf overlaps meet gather leafHop routeHop leafCandidates
     routeCandidates contentOf union addOf without removeOf nearer absDistOf signedOf risesTo deadSet readySet settledAt isSettled
-    single firstEqual firstFrom added removedAt startNodes startNode slotsTo leafWith closest
+    single firstEqual firstFrom added removedAt startOf startFits listFits idsRise slotIds startNodes startNode slotsTo
+    leafWith closest
 opened = tt
 
 -- ---- tables
@@ -86,9 +87,9 @@ pub chain-routings : routings chain (only 0 3) (Take 0 ∷ Take 0 ∷ Take 0 ∷
 unfolding chain opened
 chain-routings = refl
 
--- two ready nodes: the lookup of the other's id is routed R - 1 times, and delivered
+-- two ready nodes, as started: the lookup of the other's id is routed R - 1 times, and delivered
 unfoldable pub pair : Table
-pair = startTable 2 1 2 (0 ∷ 2 ∷ []) 3
+pair = startOf 2 1 (0 ∷ 2 ∷ []) 3 .table
 
 pub pair-valid : validOf pair (only 2 0) ≡ true
 unfolding pair opened
@@ -134,7 +135,6 @@ abbrev every : List Bool → Bool
 every [] = true
 every (b ∷ bs) = b && every bs
 
--- together they are settled
 all-and : (n : ℕ) (f g : ℕ → Bool) → allTo n (λ i. f i && g i) ≡ (allTo n f && allTo n g)
 unfolding allTo
 all-and zero f g = refl
@@ -155,6 +155,7 @@ each-and : (t : Table) (f g : ℕ → Bool) → eachReady t (λ i. f i && g i) �
 each-and t f g =
     all-same (t .n) _ _ (λ i l. or-and (not (isReady (nodeAt t i .status))) (f i) (g i)) ∙ all-and (t .n) _ _
 
+-- together they are settled
 pub parts-settled : (t : Table) → isSettled t ≡ every (partsOf t)
 unfolding isSettled settledAt partsOf
 parts-settled t =
@@ -299,7 +300,7 @@ met-fails = (record { waits = omega arith; is = refl }, λ a. stuck (ap goesOn (
 -- ---- waiting at a ready node: 2 is dead
 
 unfoldable pub one-dead : Table
-one-dead = startTable 2 1 2 (0 ∷ 2 ∷ []) 1
+one-dead = startOf 2 1 (0 ∷ 2 ∷ []) 1 .table
 
 pub one-dead-computes :
     (validOf one-dead (only 2 1) ≡ true) × (isSettled one-dead ≡ true)
