@@ -17,6 +17,7 @@ use Rattle.table.specs.declared.Table.{Table}
 use Rattle.table.specs.Table.{nodeAt, idsOf, ringOf}
 use Rattle.table.specs.Valid.{validOf}
 use Rattle.table.specs.Settled.{readySet, isSettled}
+use Rattle.demand.specs.Fates.{Tracked}
 use Rattle.demand.specs.Journey.{LookupAt, fateOf, RoutesTo, routings, Delivers}
 
 -- slot a is nearer to key k than slot b
@@ -32,6 +33,17 @@ pub record NearestReady (t : Table) (k e : ℕ) : Type 0 where
   pub ready : Ready t e
   pub nearest : (j : ℕ) → Ready t j → (j ≡ e → ⊥) → Nearer t k e j
   pub one : (j : ℕ) → Ready t j → ((i : ℕ) → Ready t i → (i ≡ j → ⊥) → Nearer t k j i) → j ≡ e
+
+-- what the rest speaks of: every waiting message of kind 1 is a lookup for its key and slot
+abbrev pub EveryLookup : Type 0
+EveryLookup =
+    (t : Table) (p : Pool) (q : ℕ) → validOf t p ≡ true → q < p .count → messageAt p q .kind ≡ 1
+    → LookupAt p q (messageAt p q .word) (messageAt p q .dest)
+
+-- and what its fate says of the real step is so (Fates)
+abbrev pub FatesHold : Type 0
+FatesHold =
+    (t : Table) (p : Pool) (q k d : ℕ) (a : Action) → validOf t p ≡ true → LookupAt p q k d → Tracked t p q k d a (fateOf t p q a)
 
 -- In every valid table, a routed lookup goes to a node nearer its key
 abbrev pub GoesNearer : Type 0

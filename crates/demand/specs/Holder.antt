@@ -31,7 +31,8 @@ use Rattle.table.specs.Settled.{readySet, settledAt, isSettled}
 use Rattle.sound.specs.Nodes.{both}
 use Rattle.sound.specs.Sound.{Sound, sound}
 use Rattle.demand.specs.Demand.{Nearer, Ready, NearestReady, TieBelow, CoversNearest}
-use Rattle.demand.specs.Tracks.{coversAt, ready-is}
+use Rattle.demand.specs.Fates.{coversAt}
+use Rattle.demand.specs.Tracks.{ready-is}
 
 -- ---- what settled says of a ready node
 

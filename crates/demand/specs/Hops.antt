@@ -25,7 +25,8 @@ use Rattle.table.specs.Table.{nodeAt, idsOf, ringOf}
 use Rattle.table.specs.Settled.{readySet, deadSet, isSettled}
 use Rattle.sound.specs.Sound.{Sound}
 use Rattle.demand.specs.Demand.{Nearer, Ready}
-use Rattle.demand.specs.Tracks.{coversAt, hopAt, holds, ready-is}
+use Rattle.demand.specs.Fates.{coversAt, hopAt}
+use Rattle.demand.specs.Tracks.{holds, ready-is}
 use Rattle.demand.specs.Routings.{hop-nearer}
 use Rattle.demand.specs.Holder.{dead-or-ready, settled-at, ready-low, nextOf, next-ready, not-covered}
 

@@ -30,7 +30,8 @@ use Rattle.keeps.specs.Proved.{keeps-valid, keeps-ring}
 use Rattle.demand.specs.Journey.{stepped, LookupAt, Fate, stays, routed, met, delivered, unroutable, fateOf, counted, routings}
 use Rattle.demand.specs.Journey.{RoutesTo, waits-there, ends-there}
 use Rattle.demand.specs.Demand.{Nearer, GoesNearer, FewRoutings}
-use Rattle.demand.specs.Tracks.{hopAt, Tracked, tracked, dest-in}
+use Rattle.demand.specs.Fates.{hopAt, Tracked}
+use Rattle.demand.specs.Tracks.{tracked, dest-in}
 
 -- ---- a hop goes to a listed node that is nearer
 
