@@ -187,3 +187,22 @@ settled-arrives t p q k d e s l r alone =
       few = omega (arith, j .few, ready-few t k d (ready-low v d r) (r .1));
       nearest = cover-nearest v s k hk (j .end) (j .ready) (j .covers);
     }
+
+-- ---- the journey is one: no other number of routings, slot, table or pool comes of the same Takes
+
+dest-same : {p : Pool} {q k d e : ℕ} → LookupAt p q k d → LookupAt p q k e → d ≡ e
+dest-same l i = ap (λ (m : Message). m .dest) (sym (l .is) ∙ i .is)
+
+never-both : {h i : ℕ} → delivered ≡ routed h i → ⊥
+never-both e = let z : _≡_ {A = ℕ} 0 1 = cc in omega arith
+
+pub delivers-one : {k : ℕ} {t u u′ : Table} {p r r′ : Pool} {q m m′ e e′ : ℕ} → Delivers k t p q m e u r → Delivers k t p q m′ e′ u′ r′
+    → (m ≡ m′) × (e ≡ e′) × (u ≡ u′) × (r ≡ r′)
+delivers-one (here l a f) (here l′ a′ f′) = (refl, dest-same l l′, refl, refl)
+delivers-one (here l a f) (on l′ a′ f′ rest′) = absurd (never-both (sym f ∙ f′))
+delivers-one (on l a f rest) (here l′ a′ f′) = absurd (never-both (sym f′ ∙ f))
+delivers-one {k = k} (on {t = t} {p = p} {q = q} {q′ = i} l a f rest) (on {u = w} {r = s} {q′ = j} {m = n} {e = g} l′ a′ f′ rest′) =
+    let same : i ≡ j = cc in
+    let next = stepped t p (Take q) in
+    let all = delivers-one rest (subst (λ (x : ℕ). Delivers k (next .table) (next .pool) x n g w s) (sym same) rest′) in
+    (ap suc (all .0), all .1, all .2, all .3)
