@@ -1,6 +1,6 @@
--- In a settled table a lookup at a ready node, alone for its key, is delivered at the ready node nearest its key. Each Take is done; where the node does
--- not cover the key, the lookup goes to a ready node that is nearer, and nothing equal waits there. The measure: how many ready nodes are nearer than
--- the holder; it falls with every routing and is below R. By induction on a bound of it. Assumes nothing.
+-- In a settled table a lookup at a ready node, alone for its key, is delivered at the ready node nearest its key. Each Take is done; where
+-- the node does not cover the key, the lookup goes to a ready node that is nearer, and nothing equal waits there. The measure: how many
+-- ready nodes are nearer than the holder; it falls with every routing and is below R. By induction on a bound of it. Assumes nothing.
 use mathlib.Core.Path.{_≡_, refl, sym, _∙_, ap, subst}
 use mathlib.Core.Logic.{_⊎_, inl, inr}
 use mathlib.Core.Bool.{Bool, true, false, _&&_}
@@ -15,7 +15,6 @@ use Rattle.marks.specs.Bools.{bool-false, and-left, and-right, and-both, and-fa
 use Rattle.marks.specs.declared.Found.the-variants.{Nothing}
 use Rattle.marks.specs.Marks.{has, tally, sizeOf}
 use Rattle.marks.specs.Laws.{tally-strict}
-use Rattle.rules.specs.declared.Status.the-variants as status
 use Rattle.rules.specs.declared.Hop.the-variants.{To}
 use Rattle.rules.specs.declared.Message.{Message}
 use Rattle.rules.specs.declared.Pool.{Pool}
@@ -36,7 +35,8 @@ use Rattle.keeps.specs.Proved.{keeps-valid}
 use Rattle.demand.specs.Journey.{stepped, LookupAt, delivered, routed, fateOf, Delivers, here, on}
 use Rattle.demand.specs.Demand.{Nearer, Ready, Alone, SettledArrives}
 use Rattle.demand.specs.Stands.{count-is}
-use Rattle.demand.specs.Tracks.{others, coversAt, hopAt, key-in, Tracked, tracked}
+use Rattle.demand.specs.Fates.{others, coversAt, hopAt, Tracked}
+use Rattle.demand.specs.Tracks.{key-in, tracked}
 use Rattle.demand.specs.Holder.{ready-low, cover-nearest}
 use Rattle.demand.specs.Taking.{take-done, fate-taken}
 use Rattle.demand.specs.Hops.{hop-there, hop-ready}
@@ -57,7 +57,8 @@ alone-without {t} {p} v q k h alone = record { none = λ r l. go r l (lt-or-le r
         → getD (others p q) r blank .kind ≡ 1 → getD (others p q) r blank .word ≡ k → ⊥
     at r i l apart same = rw same (alone i l apart)
 
-    go : (r : ℕ) → r < length (others p q) → (r < q) ⊎ (q ≤ r) → getD (others p q) r blank .kind ≡ 1 → getD (others p q) r blank .word ≡ k → ⊥
+    go : (r : ℕ) → r < length (others p q) → (r < q) ⊎ (q ≤ r)
+        → getD (others p q) r blank .kind ≡ 1 → getD (others p q) r blank .word ≡ k → ⊥
     go r l (inl b) =
         let low : r < p .count = omega (arith, h) in
         at r r low (omega arith) (removed-low (waiting p) q q-in r b ∙ waiting-at p r low)
@@ -126,11 +127,12 @@ module _ (t : Table) (s : isSettled t ≡ true) (k : ℕ) (hk : k < 2 ^ t .m) (y
         record { hops = 0; end = d; delivers = arrived; few = omega arith; ready = r; covers = c }
 
     -- one routing more
-    one-more : (h place : ℕ) → fateOf t p q (Take q) ≡ routed h place → stepped t p (Take q) .table ≡ t → nearerReady t k h < nearerReady t k d
-        → Settles t k ys (stepped t p (Take q) .pool) place h → Settles t k ys p q d
+    one-more : (h place : ℕ) → fateOf t p q (Take q) ≡ routed h place → stepped t p (Take q) .table ≡ t
+        → nearerReady t k h < nearerReady t k d → Settles t k ys (stepped t p (Take q) .pool) place h → Settles t k ys p q d
     one-more h place fate same falls after =
+        let next = stepped t p (Take q) .pool in
         let rest =
-        subst (λ (u : Table). Delivers k u (stepped t p (Take q) .pool) place (after .hops) (after .end) t (laid ys)) (sym same) (after .delivers) in
+        subst (λ (u : Table). Delivers k u next place (after .hops) (after .end) t (laid ys)) (sym same) (after .delivers) in
         record {
           hops = suc (after .hops);
           end = after .end;
@@ -185,3 +187,22 @@ settled-arrives t p q k d e s l r alone =
       few = omega (arith, j .few, ready-few t k d (ready-low v d r) (r .1));
       nearest = cover-nearest v s k hk (j .end) (j .ready) (j .covers);
     }
+
+-- ---- the journey is one: no other number of routings, slot, table or pool comes of the same Takes
+
+dest-same : {p : Pool} {q k d e : ℕ} → LookupAt p q k d → LookupAt p q k e → d ≡ e
+dest-same l i = ap (λ (m : Message). m .dest) (sym (l .is) ∙ i .is)
+
+never-both : {h i : ℕ} → delivered ≡ routed h i → ⊥
+never-both e = let z : _≡_ {A = ℕ} 0 1 = cc in omega arith
+
+pub delivers-one : {k : ℕ} {t u u′ : Table} {p r r′ : Pool} {q m m′ e e′ : ℕ} → Delivers k t p q m e u r → Delivers k t p q m′ e′ u′ r′
+    → (m ≡ m′) × (e ≡ e′) × (u ≡ u′) × (r ≡ r′)
+delivers-one (here l a f) (here l′ a′ f′) = (refl, dest-same l l′, refl, refl)
+delivers-one (here l a f) (on l′ a′ f′ rest′) = absurd (never-both (sym f ∙ f′))
+delivers-one (on l a f rest) (here l′ a′ f′) = absurd (never-both (sym f′ ∙ f))
+delivers-one {k = k} (on {t = t} {p = p} {q = q} {q′ = i} l a f rest) (on {u = w} {r = s} {q′ = j} {m = n} {e = g} l′ a′ f′ rest′) =
+    let same : i ≡ j = cc in
+    let next = stepped t p (Take q) in
+    let all = delivers-one rest (subst (λ (x : ℕ). Delivers k (next .table) (next .pool) x n g w s) (sym same) rest′) in
+    (ap suc (all .0), all .1, all .2, all .3)

@@ -17,6 +17,7 @@ use Rattle.table.specs.declared.Table.{Table}
 use Rattle.table.specs.Table.{nodeAt, idsOf, ringOf}
 use Rattle.table.specs.Valid.{validOf}
 use Rattle.table.specs.Settled.{readySet, isSettled}
+use Rattle.demand.specs.Fates.{Tracked}
 use Rattle.demand.specs.Journey.{LookupAt, fateOf, RoutesTo, routings, Delivers}
 
 -- slot a is nearer to key k than slot b
@@ -33,6 +34,17 @@ pub record NearestReady (t : Table) (k e : ℕ) : Type 0 where
   pub nearest : (j : ℕ) → Ready t j → (j ≡ e → ⊥) → Nearer t k e j
   pub one : (j : ℕ) → Ready t j → ((i : ℕ) → Ready t i → (i ≡ j → ⊥) → Nearer t k j i) → j ≡ e
 
+-- what the rest speaks of: every waiting message of kind 1 is a lookup for its key and slot
+abbrev pub EveryLookup : Type 0
+EveryLookup =
+    (t : Table) (p : Pool) (q : ℕ) → validOf t p ≡ true → q < p .count → messageAt p q .kind ≡ 1
+    → LookupAt p q (messageAt p q .word) (messageAt p q .dest)
+
+-- and what its fate says of the real step is so (Fates)
+abbrev pub FatesHold : Type 0
+FatesHold =
+    (t : Table) (p : Pool) (q k d : ℕ) (a : Action) → validOf t p ≡ true → LookupAt p q k d → Tracked t p q k d a (fateOf t p q a)
+
 -- In every valid table, a routed lookup goes to a node nearer its key
 abbrev pub GoesNearer : Type 0
 GoesNearer =
@@ -48,8 +60,8 @@ FewRoutings =
 abbrev pub Alone : Pool → ℕ → ℕ → Type 0
 Alone p q k = (r : ℕ) → r < p .count → (r ≡ q → ⊥) → messageAt p r .kind ≡ 1 → messageAt p r .word ≡ k → ⊥
 
--- what is promised of a lookup of k at place q: it is delivered after at most R - 1 routings, R being the ready nodes, at the one ready node nearest its key,
--- the table is as before, and so are the other messages
+-- what is promised of a lookup of k at place q: it is delivered after at most R - 1 routings, R being the ready nodes, at the one ready
+-- node nearest its key; the table is as before, and so are the other messages
 pub record Arrives (t : Table) (p : Pool) (q k : ℕ) : Type 0 where
   pub hops : ℕ
   pub at : ℕ
@@ -60,7 +72,8 @@ pub record Arrives (t : Table) (p : Pool) (q k : ℕ) : Type 0 where
 -- In a settled table, with no other step between, a lookup waiting at a ready node, alone for its key, arrives
 abbrev pub SettledArrives : Type 0
 SettledArrives =
-    (t : Table) (p : Pool) (q k d : ℕ) → validOf t p ≡ true → isSettled t ≡ true → LookupAt p q k d → Ready t d → Alone p q k → Arrives t p q k
+    (t : Table) (p : Pool) (q k d : ℕ) → validOf t p ≡ true → isSettled t ≡ true → LookupAt p q k d → Ready t d → Alone p q k
+    → Arrives t p q k
 
 -- Of two at equal distance, the one below the key is the nearer: going up from it by that distance reaches the key
 abbrev pub TieBelow : Type 0

@@ -1,6 +1,6 @@
--- Who holds a key in a settled table. The idea: each ready node's neighbours are the next ready ids (Next of crate ring), so a ready node covers a key exactly
--- if it is the ready node nearest it, and a key that it does not cover is nearer to a neighbour, which is ready and not in its failed. And of two
--- nodes at equal distance, the one below the key is the nearer. Assumes nothing.
+-- Who holds a key in a settled table. The idea: each ready node's neighbours are the next ready ids (Next of crate ring), so a ready node
+-- covers a key exactly if it is the ready node nearest it, and a key that it does not cover is nearer to a neighbour. And of two nodes at
+-- equal distance, the one below the key is the nearer. Assumes nothing.
 use mathlib.Core.Path.{_≡_, refl, sym, _∙_, ap}
 use mathlib.Core.Logic.{_⊎_, ⊎-elim}
 use mathlib.Core.Bool.{true, false, _||_, not}
@@ -19,7 +19,7 @@ use Rattle.rules.specs.declared.Way.{Way}
 use Rattle.rules.specs.declared.Way.the-variants.{Up, Down}
 use Rattle.rules.specs.declared.Pool.{Pool}
 use Rattle.rules.specs.declared.Ring.{Ring}
-use Rattle.rules.specs.Leaf.{coversOf, seenFrom, leftNeighbour, rightNeighbour}
+use Rattle.rules.specs.Leaf.{coversOf, seenFrom, leftNeighbour, rightNeighbour, wayUp, wayDown}
 use Rattle.rules.specs.Nodes.{sidesOf}
 use Rattle.rules.specs.Pick.{idAt}
 use Rattle.rules.specs.Plans.{isDead, isReady}
@@ -31,7 +31,8 @@ use Rattle.table.specs.Settled.{readySet, settledAt, isSettled}
 use Rattle.sound.specs.Nodes.{both}
 use Rattle.sound.specs.Sound.{Sound, sound}
 use Rattle.demand.specs.Demand.{Nearer, Ready, NearestReady, TieBelow, CoversNearest}
-use Rattle.demand.specs.Tracks.{coversAt, ready-is}
+use Rattle.demand.specs.Fates.{coversAt}
+use Rattle.demand.specs.Tracks.{ready-is}
 
 -- ---- what settled says of a ready node
 
@@ -113,10 +114,10 @@ module _ {t : Table} {p : Pool} (v : Sound t p) where
           let other = rest-ready (nextOf w t i) (lead .below) (lead .holds) in
           ids-apart (nextOf w t i) i (other .0) r (other .1)
 
-      next-up : fallOf (2 ^ t .m) (idAt (idsOf t) (nextOf Up t i)) (idAt (idsOf t) i) ≤ fallOf (2 ^ t .m) (idAt (idsOf t) j) (idAt (idsOf t) i)
+      next-up : wayUp (ringOf t) (idsOf t) i (nextOf Up t i) ≤ wayUp (ringOf t) (idsOf t) i j
       next-up = seen-up (v .listed) i (ready-low i r) (restOf t i) j (ready-low j k) (rest-has j k apart)
 
-      next-down : fallOf (2 ^ t .m) (idAt (idsOf t) i) (idAt (idsOf t) (nextOf Down t i)) ≤ fallOf (2 ^ t .m) (idAt (idsOf t) i) (idAt (idsOf t) j)
+      next-down : wayDown (ringOf t) (idsOf t) i (nextOf Down t i) ≤ wayDown (ringOf t) (idsOf t) i j
       next-down = seen-down (v .listed) i (ready-low i r) (restOf t i) j (ready-low j k) (rest-has j k apart)
 
     pub next-is : Next (2 ^ t .m) (ReadyId t) (idAt (idsOf t) i) (idAt (idsOf t) (nextOf Up t i)) (idAt (idsOf t) (nextOf Down t i))

@@ -1,5 +1,5 @@
--- In a settled table a ready node that does not cover a key has a next hop for it, and the hop is ready and nearer. The idea: a neighbour is ready,
--- unfailed and nearer, hence a candidate of either branch; and what is not dead is ready. Assumes nothing.
+-- In a settled table a ready node that does not cover a key has a next hop for it, and the hop is ready and nearer. The idea: a neighbour
+-- is ready, unfailed and nearer, hence a candidate of either branch; and what is not dead is ready. Assumes nothing.
 use mathlib.Core.Path.{_≡_, refl, sym, _∙_, ap}
 use mathlib.Core.Logic.{⊎-elim}
 use mathlib.Core.Bool.{true, false, _||_}
@@ -25,7 +25,8 @@ use Rattle.table.specs.Table.{nodeAt, idsOf, ringOf}
 use Rattle.table.specs.Settled.{readySet, deadSet, isSettled}
 use Rattle.sound.specs.Sound.{Sound}
 use Rattle.demand.specs.Demand.{Nearer, Ready}
-use Rattle.demand.specs.Tracks.{coversAt, hopAt, holds, ready-is}
+use Rattle.demand.specs.Fates.{coversAt, hopAt}
+use Rattle.demand.specs.Tracks.{holds, ready-is}
 use Rattle.demand.specs.Routings.{hop-nearer}
 use Rattle.demand.specs.Holder.{dead-or-ready, settled-at, ready-low, nextOf, next-ready, not-covered}
 
@@ -80,7 +81,8 @@ module _ {t : Table} {p : Pool} (v : Sound t p) (s : isSettled t ≡ true) (k : 
         → (h : ℕ) × (hopAt t d k ≡ To h)
     by-neighbour i u near e =
         let low = ready-low v i u in
-        let content : has (contentOf (sidesOf (nodeAt t d)) d) i ≡ true = has-content (sidesOf (nodeAt t d)) d i low ∙ or-left (eqb i d) e in
+        let content : has (contentOf (sidesOf (nodeAt t d)) d) i ≡ true =
+        has-content (sidesOf (nodeAt t d)) d i low ∙ or-left (eqb i d) e in
         hop-some (ringOf t) (idsOf t) (deadSet t) d (nodeAt t d) k i low
         (content-candidate (ringOf t) (idsOf t) (deadSet t) d (nodeAt t d) i low content (trusted i u) (alive i u)) near
 

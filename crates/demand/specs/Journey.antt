@@ -1,5 +1,5 @@
--- The journey of one lookup through any steps. A tracked lookup is known by its place in the pool; each step of the real step function moves it, routes it,
--- ends it or leaves it. Definitions only: Tracks proves that they say where the message really is. Assumes nothing.
+-- The journey of one lookup through any steps. A tracked lookup is known by its place in the pool; each step of the real step function
+-- moves it, routes it, ends it or leaves it. Definitions only: Tracks proves that they say where the message really is. Assumes nothing.
 use mathlib.Core.Path.{_≡_}
 use mathlib.Core.Bool.{cond}
 use mathlib.Core.List.{List, [], _∷_}
@@ -99,8 +99,8 @@ pub data RoutesTo : Fate → ℕ → Type 0 where
   waits-there : {h q : ℕ} → RoutesTo (routed h q) h
   ends-there : {h r : ℕ} → RoutesTo (met h r) h
 
--- taken again and again, with no other step between, the lookup of k at place q is routed m times and delivered at slot e; each Take is done, on the table
--- and the pool that the one before it left, and the last leaves the table u and the pool r
+-- taken again and again, with no other step between, the lookup of k at place q is routed m times and delivered at slot e; each Take is
+-- done, on the table and the pool that the one before it left, and the last leaves the table u and the pool r
 pub data Delivers (k : ℕ) : Table → Pool → ℕ → ℕ → ℕ → Table → Pool → Type 0 where
   here : {t : Table} {p : Pool} {q e : ℕ} → LookupAt p q k e → stepped t p (Take q) .answer ≡ Done → fateOf t p q (Take q) ≡ delivered
       → Delivers k t p q 0 e (stepped t p (Take q) .table) (stepped t p (Take q) .pool)

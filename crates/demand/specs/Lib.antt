@@ -1,6 +1,7 @@
 pub mod Journey
-pub mod Stands
+pub mod Fates
 pub mod Demand
+pub mod Stands
 pub mod Tracks
 pub mod Routings
 pub mod Holder

@@ -1,6 +1,6 @@
--- How far the statements reach, computed on small tables. n - 1 routings are reached, and R - 1 for two ready nodes. Each hypothesis of the second half is
--- needed: without it a valid table is named in which the lookup does not arrive (`Fails`), or in which a step between stops it. Of settled, which part
--- fails is told part by part (`partsOf`, which together are settled). Assumes nothing.
+-- How far the statements reach, computed on small tables. n - 1 routings are reached, and R - 1 for two ready nodes. Each hypothesis of the
+-- second half is needed: without it a valid table is named in which the lookup does not arrive, or in which a step between stops it. Of
+-- settled, which part fails is told part by part (`partsOf`; together they are settled). Assumes nothing.
 use mathlib.Core.Path.{_≡_, refl, _∙_, ap}
 use mathlib.Core.Bool.{Bool, true, false, _&&_, _||_, not, and-true}
 use mathlib.Core.List.{List, [], _∷_, _++_}
@@ -38,21 +38,24 @@ use Rattle.table.specs.declared.Table.{Table}
 use Rattle.table.specs.declared.Stepped.{Stepped}
 use Rattle.table.specs.Settle.{doneOf, carriedOut, settle}
 use Rattle.table.specs.Settled.{readySet, deadSet, settledAt, isSettled}
-use Rattle.table.specs.Start.{startNode, startNodes, startTable, slotsTo}
+use Rattle.table.specs.Start.{slotIds, slotsTo, startNode, startNodes, startFits, idsRise, listFits, startOf}
 use Rattle.table.specs.Step.{isSound, stepOf}
 use Rattle.table.specs.Table.{nodeAt, idsOf, ringOf}
 use Rattle.table.specs.Valid.{nodesFit, messagesFit, poolFits, validOf}
 use Rattle.demand.specs.Journey.{stepped, LookupAt, Fate, stays, routed, met, delivered, unroutable, fateOf, routings, Delivers}
 use Rattle.demand.specs.Journey.{here, on}
 use Rattle.demand.specs.Demand.{Ready, Alone, Arrives}
+use Rattle.demand.specs.Holder.{nextOf}
 
 -- to unfold this is to unfold all that the tests and steps below compute with
 opened : Unit {0}
-unfolding validOf numbersFit nodesFit slotFits idFits nodeFits leafFits sideFits othersFit isBlank listed sizeOf tally has allTo poolFits messagesFit messageFits
-    fieldsFit wordFits flagFits carriedFits ownerFits routingFits failedFits allDifferent alike fateOf routings stepOf isSound settle carriedOut mailed
-    sentTo planTake planTakeLookup planLeaseExpired isNeighbour coversOf seenFrom best coversKey leftCoverOf rightCoverOf fallOf nextHop byLeaf overlaps meet
-    gather leafHop routeHop leafCandidates routeCandidates contentOf union addOf without removeOf nearer absDistOf signedOf risesTo deadSet readySet
-    settledAt isSettled single firstEqual firstFrom added removedAt startNodes startNode slotsTo leafWith closest
+unfolding validOf numbersFit nodesFit slotFits idFits nodeFits leafFits sideFits othersFit isBlank listed sizeOf tally has allTo poolFits
+    messagesFit messageFits fieldsFit wordFits flagFits carriedFits ownerFits routingFits failedFits allDifferent alike fateOf
+    routings stepOf isSound settle carriedOut mailed sentTo planTake planTakeLookup planLeaseExpired isNeighbour coversOf seenFrom
+    best coversKey leftCoverOf rightCoverOf fallOf nextHop byLeaf overlaps meet gather leafHop routeHop leafCandidates
+    routeCandidates contentOf union addOf without removeOf nearer absDistOf signedOf risesTo deadSet readySet settledAt isSettled
+    single firstEqual firstFrom added removedAt startOf startFits listFits idsRise slotIds startNodes startNode slotsTo
+    leafWith closest
 opened = tt
 
 -- ---- tables
@@ -84,9 +87,9 @@ pub chain-routings : routings chain (only 0 3) (Take 0 ∷ Take 0 ∷ Take 0 ∷
 unfolding chain opened
 chain-routings = refl
 
--- two ready nodes: the lookup of the other's id is routed R - 1 times, and delivered
+-- two ready nodes, as started: the lookup of the other's id is routed R - 1 times, and delivered
 unfoldable pub pair : Table
-pair = startTable 2 1 2 (0 ∷ 2 ∷ []) 3
+pair = startOf 2 1 (0 ∷ 2 ∷ []) 3 .table
 
 pub pair-valid : validOf pair (only 2 0) ≡ true
 unfolding pair opened
@@ -110,10 +113,10 @@ abbrev eachReady : Table → (ℕ → Bool) → Bool
 eachReady t f = allTo (t .n) (λ i. not (isReady (nodeAt t i .status)) || f i)
 
 abbrev leftRight : Table → ℕ → Bool
-leftRight t i = eqb (leftNeighbour (ringOf t) (idsOf t) i (sidesOf (nodeAt t i))) (seenFrom Up (ringOf t) (idsOf t) i (removeOf (readySet t) i))
+leftRight t i = eqb (leftNeighbour (ringOf t) (idsOf t) i (sidesOf (nodeAt t i))) (nextOf Up t i)
 
 abbrev rightRight : Table → ℕ → Bool
-rightRight t i = eqb (rightNeighbour (ringOf t) (idsOf t) i (sidesOf (nodeAt t i))) (seenFrom Down (ringOf t) (idsOf t) i (removeOf (readySet t) i))
+rightRight t i = eqb (rightNeighbour (ringOf t) (idsOf t) i (sidesOf (nodeAt t i))) (nextOf Down t i)
 
 abbrev trusting : Table → ℕ → Bool
 trusting t i = eqb (meet (nodeAt t i .failed) (readySet t)) 0
@@ -132,7 +135,6 @@ abbrev every : List Bool → Bool
 every [] = true
 every (b ∷ bs) = b && every bs
 
--- together they are settled
 all-and : (n : ℕ) (f g : ℕ → Bool) → allTo n (λ i. f i && g i) ≡ (allTo n f && allTo n g)
 unfolding allTo
 all-and zero f g = refl
@@ -153,10 +155,15 @@ each-and : (t : Table) (f g : ℕ → Bool) → eachReady t (λ i. f i && g i) �
 each-and t f g =
     all-same (t .n) _ _ (λ i l. or-and (not (isReady (nodeAt t i .status))) (f i) (g i)) ∙ all-and (t .n) _ _
 
+-- together they are settled
 pub parts-settled : (t : Table) → isSettled t ≡ every (partsOf t)
 unfolding isSettled settledAt partsOf
 parts-settled t =
-    rw (each-and t (leftRight t) (λ i. rightRight t i && trusting t i), each-and t (rightRight t) (trusting t), and-true (eachReady t (trusting t)))
+    rw (
+      each-and t (leftRight t) (λ i. rightRight t i && trusting t i),
+      each-and t (rightRight t) (trusting t),
+      and-true (eachReady t (trusting t)),
+    )
 
 -- ---- what is asked of a lookup that waits alone
 
@@ -200,7 +207,9 @@ pub one-waits-parts : partsOf one-waits ≡ true ∷ false ∷ true ∷ true ∷
 unfolding one-waits partsOf opened
 one-waits-parts = refl
 
-one-waits-computes : (validOf one-waits (only 2 0) ≡ true) × Ready one-waits 0 × (fateOf one-waits (only 2 0) 0 (Take 0) ≡ routed 2 0)
+one-waits-computes :
+    (validOf one-waits (only 2 0) ≡ true) × Ready one-waits 0
+    × (fateOf one-waits (only 2 0) 0 (Take 0) ≡ routed 2 0)
 unfolding one-waits opened
 one-waits-computes = (refl, (omega arith, refl), refl)
 
@@ -223,7 +232,9 @@ pub left-wrong-parts : partsOf left-wrong ≡ true ∷ true ∷ false ∷ true �
 unfolding left-wrong partsOf opened
 left-wrong-parts = refl
 
-left-wrong-computes : (validOf left-wrong (only 0 1) ≡ true) × Ready left-wrong 1 × (fateOf left-wrong (only 0 1) 0 (Take 0) ≡ unroutable)
+left-wrong-computes :
+    (validOf left-wrong (only 0 1) ≡ true) × Ready left-wrong 1
+    × (fateOf left-wrong (only 0 1) 0 (Take 0) ≡ unroutable)
 unfolding left-wrong opened
 left-wrong-computes = (refl, (omega arith, refl), refl)
 
@@ -241,7 +252,9 @@ pub right-wrong-parts : partsOf right-wrong ≡ true ∷ true ∷ true ∷ false
 unfolding right-wrong partsOf opened
 right-wrong-parts = refl
 
-right-wrong-computes : (validOf right-wrong (only 1 0) ≡ true) × Ready right-wrong 0 × (fateOf right-wrong (only 1 0) 0 (Take 0) ≡ unroutable)
+right-wrong-computes :
+    (validOf right-wrong (only 1 0) ≡ true) × Ready right-wrong 0
+    × (fateOf right-wrong (only 1 0) 0 (Take 0) ≡ unroutable)
 unfolding right-wrong opened
 right-wrong-computes = (refl, (omega arith, refl), refl)
 
@@ -259,7 +272,9 @@ pub ready-failed-parts : partsOf ready-failed ≡ true ∷ true ∷ true ∷ tru
 unfolding ready-failed partsOf opened
 ready-failed-parts = refl
 
-ready-failed-computes : (validOf ready-failed (only 1 0) ≡ true) × Ready ready-failed 0 × (fateOf ready-failed (only 1 0) 0 (Take 0) ≡ unroutable)
+ready-failed-computes :
+    (validOf ready-failed (only 1 0) ≡ true) × Ready ready-failed 0
+    × (fateOf ready-failed (only 1 0) 0 (Take 0) ≡ unroutable)
 unfolding ready-failed opened
 ready-failed-computes = (refl, (omega arith, refl), refl)
 
@@ -273,7 +288,9 @@ ready-failed-fails =
 abbrev pub both-look : Pool
 both-look = laid (placed (lookup 2) 0 ∷ placed (lookup 2) 1 ∷ [])
 
-pub met-computes : (validOf pair both-look ≡ true) × Ready pair 0 × (fateOf pair both-look 0 (Take 0) ≡ met 1 0)
+pub met-computes :
+    (validOf pair both-look ≡ true) × Ready pair 0
+    × (fateOf pair both-look 0 (Take 0) ≡ met 1 0)
 unfolding pair opened
 met-computes = (refl, (omega arith, refl), refl)
 
@@ -283,9 +300,11 @@ met-fails = (record { waits = omega arith; is = refl }, λ a. stuck (ap goesOn (
 -- ---- waiting at a ready node: 2 is dead
 
 unfoldable pub one-dead : Table
-one-dead = startTable 2 1 2 (0 ∷ 2 ∷ []) 1
+one-dead = startOf 2 1 (0 ∷ 2 ∷ []) 1 .table
 
-pub one-dead-computes : (validOf one-dead (only 2 1) ≡ true) × (isSettled one-dead ≡ true) × (fateOf one-dead (only 2 1) 0 (Take 0) ≡ stays 0)
+pub one-dead-computes :
+    (validOf one-dead (only 2 1) ≡ true) × (isSettled one-dead ≡ true)
+    × (fateOf one-dead (only 2 1) 0 (Take 0) ≡ stays 0)
 unfolding one-dead opened
 one-dead-computes = (refl, refl, refl)
 

@@ -1,6 +1,6 @@
--- A routed lookup goes nearer, so it is routed at most n - 1 times. The measure: how many listed nodes are nearer to the key than the holder. It falls with
--- every routing, it is below n, and other steps leave it alone, since ids, n and M never change; what steps keep is taken from crate keeps. By
--- induction on the actions. Assumes nothing.
+-- A routed lookup goes nearer, so it is routed at most n - 1 times. The measure: how many listed nodes are nearer to the key than the
+-- holder. It falls with every routing, it is below n, and other steps leave it alone, since ids, n and M never change. By induction on the
+-- actions. Assumes nothing.
 use mathlib.Core.Path.{_≡_, refl}
 use mathlib.Core.Bool.{true, false}
 use mathlib.Core.List.{List, [], _∷_}
@@ -30,7 +30,8 @@ use Rattle.keeps.specs.Proved.{keeps-valid, keeps-ring}
 use Rattle.demand.specs.Journey.{stepped, LookupAt, Fate, stays, routed, met, delivered, unroutable, fateOf, counted, routings}
 use Rattle.demand.specs.Journey.{RoutesTo, waits-there, ends-there}
 use Rattle.demand.specs.Demand.{Nearer, GoesNearer, FewRoutings}
-use Rattle.demand.specs.Tracks.{hopAt, Tracked, tracked, dest-in}
+use Rattle.demand.specs.Fates.{hopAt, Tracked}
+use Rattle.demand.specs.Tracks.{tracked, dest-in}
 
 -- ---- a hop goes to a listed node that is nearer
 
@@ -77,11 +78,11 @@ module _ (m n : ℕ) (ids : List ℕ) (k : ℕ) where
         tally-all n (λ s. true) (λ s i. refl),
       )
 
-abbrev pub left : Table → ℕ → ℕ → ℕ
-left t k d = nearerThan (t .m) (t .n) (idsOf t) k d
+abbrev pub nearerListed : Table → ℕ → ℕ → ℕ
+nearerListed t k d = nearerThan (t .m) (t .n) (idsOf t) k d
 
-pub same-left : {t u : Table} → SameRing t u → (k d : ℕ) → left u k d ≡ left t k d
-same-left s k d = rw (s .m, s .n, s .ids)
+pub same-listed : {t u : Table} → SameRing t u → (k d : ℕ) → nearerListed u k d ≡ nearerListed t k d
+same-listed s k d = rw (s .m, s .n, s .ids)
 
 -- ---- the induction
 
@@ -92,7 +93,8 @@ step-valid t p a e = go (stepped t p a .answer) refl
     go Done d = keeps-valid t p 256 a d
     go (Refused why) d = rw (step-refused t p 256 a why d .1) e
 
-pub routed-few : (acts : List Action) (t : Table) (p : Pool) (q k d : ℕ) → validOf t p ≡ true → LookupAt p q k d → routings t p acts q ≤ left t k d
+pub routed-few : (acts : List Action) (t : Table) (p : Pool) (q k d : ℕ) → validOf t p ≡ true → LookupAt p q k d
+    → routings t p acts q ≤ nearerListed t k d
 unfolding routings
 routed-few [] t p q k d e l = omega arith
 routed-few (a ∷ acts) t p q k d e l =
@@ -105,16 +107,16 @@ routed-few (a ∷ acts) t p q k d e l =
     v : Sound t p
     v = sound t p e
 
-    falls : (h : ℕ) → hopAt t d k ≡ To h → left t k h < left t k d
+    falls : (h : ℕ) → hopAt t d k ≡ To h → nearerListed t k h < nearerListed t k d
     falls h o =
         let near = hop-nearer v k d h (dest-in t p q k d v l) o in
         nearer-falls (t .m) (t .n) (idsOf t) k h d (near .0) (near .1)
 
     go : (f : Fate) → Tracked t p q k d a f
-        → ((r j : ℕ) → LookupAt (stepped t p a .pool) r k j → routings u (stepped t p a .pool) acts r ≤ left u k j)
-        → counted f (routings u (stepped t p a .pool) acts) ≤ left t k d
-    go (stays r) w rest = omega (arith, rest r d w, same-left (keeps-ring t p 256 a) k d)
-    go (routed h r) w rest = omega (arith, rest r h (w .now), same-left (keeps-ring t p 256 a) k h, falls h (w .hop))
+        → ((r j : ℕ) → LookupAt (stepped t p a .pool) r k j → routings u (stepped t p a .pool) acts r ≤ nearerListed u k j)
+        → counted f (routings u (stepped t p a .pool) acts) ≤ nearerListed t k d
+    go (stays r) w rest = omega (arith, rest r d w, same-listed (keeps-ring t p 256 a) k d)
+    go (routed h r) w rest = omega (arith, rest r h (w .now), same-listed (keeps-ring t p 256 a) k h, falls h (w .hop))
     go (met h r) w rest = omega (arith, falls h (w .hop))
     go delivered w rest = omega arith
     go unroutable w rest = omega arith

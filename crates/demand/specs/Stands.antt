@@ -1,5 +1,5 @@
--- Where a message stands in a list, and where it stands after messages are removed, added and laid out as a pool. In a valid pool every message of kind 1 is
--- a Lookup, and a message equal to a Lookup is that Lookup. Assumes nothing.
+-- Where a message stands in a list, and where it stands after messages are removed, added and laid out as a pool. In a valid pool every
+-- message of kind 1 is a Lookup, and a message equal to a Lookup is that Lookup. Assumes nothing.
 use mathlib.Core.Path.{_≡_, refl, _∙_, ap}
 use mathlib.Core.Logic.{_⊎_, inl, inr}
 use mathlib.Core.Bool.{Bool, true, false, cond, _&&_}

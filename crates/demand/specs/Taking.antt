@@ -1,5 +1,5 @@
--- A Take of a lookup at a ready node is done, in every valid table: the node makes a plan, and the pool has room, since one message goes and at most one
--- comes. So its fate is what the node does: delivered where it covers the key, else on to the next hop. Assumes nothing.
+-- A Take of a lookup at a ready node is done, in every valid table: the node makes a plan, and the pool has room, since one message goes
+-- and at most one comes. So its fate is what the node does: delivered where it covers the key, else on to the next hop. Assumes nothing.
 use mathlib.Core.Path.{_≡_, refl, sym, _∙_, ap}
 use mathlib.Core.Bool.{Bool, true, false, cond}
 use mathlib.Core.List.{List}
@@ -33,7 +33,8 @@ use Rattle.keeps.specs.By.{RefusedFor, invalid, out-of-range, forbidden, full, 
 use Rattle.demand.specs.Journey.{stepped, LookupAt, delivered, onward, fateOf}
 use Rattle.demand.specs.Demand.{Ready}
 use Rattle.demand.specs.Stands.{count-is}
-use Rattle.demand.specs.Tracks.{others, coversAt, hopAt, planAt, Treats, holds, sends, gives-up, treats, ready-is, plan-is}
+use Rattle.demand.specs.Fates.{others, coversAt, hopAt}
+use Rattle.demand.specs.Tracks.{planAt, Treats, holds, sends, gives-up, treats, ready-is, plan-is}
 
 planned : (t : Table) (k d : ℕ) → isReady (nodeAt t d .status) ≡ true → (x : Plan) × (planAt t d k ≡ Go x)
 unfolding planTakeLookup

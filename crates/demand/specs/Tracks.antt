@@ -1,10 +1,9 @@
--- The fate of a lookup is what really happens to it. `tracked`: in a valid table, after any step, the message at the place that the fate names is the same
--- Lookup, for the same slot or for the next hop; or it was delivered at a ready node that covers its key, or NoLegalRoute waits in its stead. Each fate but
--- `stays` comes from a done Take of that place, which leaves the table as it was and the other messages in their order: so no tracked lookup is lost
--- or exchanged. By cases of the action and of what the node does. Assumes nothing.
+-- The fate of a lookup is what really happens to it (`tracked`): what Fates says of each fate holds after every step on a valid table. A
+-- refused step changes nothing; of a done step, what waited before stands in front; and a Take of the lookup itself is by cases of what
+-- the node does. Assumes nothing.
 use mathlib.Core.Path.{_≡_, refl, sym, _∙_, ap, ap₂, subst}
 use mathlib.Core.Bool.{Bool, true, false, cond, not}
-use mathlib.Core.List.{List, [], _∷_, _++_}
+use mathlib.Core.List.{List}
 use Prim.Native.Nat.{ℕ, pred, _^_, _<_}
 use native.Mathlib.Omega.{arith}
 use lib.Dec.{eqb, ltb}
@@ -30,15 +29,13 @@ use Rattle.rules.specs.declared.Refusal.the-variants as no
 use Rattle.rules.specs.declared.Answer.{Answer}
 use Rattle.rules.specs.declared.Answer.the-variants.{Done, Refused}
 use Rattle.rules.specs.Fits.{messageFits}
-use Rattle.rules.specs.Hop.{nextHop}
-use Rattle.rules.specs.Leaf.{coversOf}
 use Rattle.rules.specs.Letters.{lookup, noLegalRoute}
-use Rattle.rules.specs.Mail.{firstEqual, added, removedAt}
-use Rattle.rules.specs.Nodes.{noNode, sidesOf, placed}
+use Rattle.rules.specs.Mail.{firstEqual, added}
+use Rattle.rules.specs.Nodes.{noNode, placed}
 use Rattle.rules.specs.Plans.{isReady, quietPlan, sendPlan, mailed}
 use Rattle.rules.specs.Pool.{waiting, messageAt, laid}
 use Rattle.rules.specs.Take.{forwardPlan, planTakeLookup, planTake}
-use Rattle.mail.specs.Laws.{All, all-index, all-removed, added-at, added-nothing, mailed-quiet, mailed-send, waiting-at}
+use Rattle.mail.specs.Laws.{laid-at, All, all-index, all-removed, added-at, added-nothing, mailed-quiet, mailed-send, waiting-at}
 use Rattle.table.specs.declared.Table.{Table}
 use Rattle.table.specs.Table.{nodeAt, withNode, idsOf, ringOf}
 use Rattle.table.specs.Settle.{doneOf}
@@ -47,58 +44,11 @@ use Rattle.table.specs.Valid.{validOf}
 use Rattle.sound.specs.Obeys.{obeys}
 use Rattle.sound.specs.Sound.{Sound, sound}
 use Rattle.keeps.specs.By.{leftOf, takenOf, plannedOf, DoneWith, leavesOf, step-refused, step-done}
-use Rattle.demand.specs.Demand.{Ready}
-use Rattle.demand.specs.Journey.{stepped, LookupAt, Fate, stays, routed, met, delivered, unroutable, landing, fateTaken, fateDone}
+use Rattle.demand.specs.Fates.{others, coversAt, hopAt, Took, Tracked}
+use Rattle.demand.specs.Journey.{stepped, LookupAt, stays, landing, fateTaken, fateDone}
 use Rattle.demand.specs.Journey.{fateBy, fateOf}
 use Rattle.demand.specs.Stands.{Stands, stands-mailed, stands-down, stands-still, stands-last, stands-laid, stands-waiting}
 use Rattle.demand.specs.Stands.{count-is, first-stands}
-
--- the messages but the one at place q
-abbrev pub others : Pool → ℕ → List Message
-others p q = removedAt (waiting p) q
-
--- slot d covers k, and its next hop for k
-abbrev pub coversAt : Table → ℕ → ℕ → Bool
-coversAt t d k = coversOf (ringOf t) (idsOf t) d (sidesOf (nodeAt t d)) k
-
-abbrev pub hopAt : Table → ℕ → ℕ → Hop
-hopAt t d k = nextHop (ringOf t) (idsOf t) (deadSet t) d (nodeAt t d) k
-
--- the step is a done Take of place q, at slot d, which is ready; it leaves the table as it was, and these messages
-pub record Took (t : Table) (p : Pool) (q d : ℕ) (a : Action) (ys : List Message) : Type 0 where
-  pub act : a ≡ Take q
-  pub ready : Ready t d
-  pub leaves : stepped t p a ≡ doneOf t (laid ys)
-
--- what each fate says of the step a on the table t and the pool p, in which a Lookup of k for slot d waits at place q
-pub record Goes (t : Table) (p : Pool) (q k d : ℕ) (a : Action) (h r : ℕ) : Type 0 where
-  pub took : Took t p q d a (others p q ++ (placed (lookup k) h ∷ []))
-  pub uncovered : coversAt t d k ≡ false
-  pub hop : hopAt t d k ≡ To h
-  pub now : LookupAt (stepped t p a .pool) r k h
-
-pub record Meets (t : Table) (p : Pool) (q k d : ℕ) (a : Action) (h r : ℕ) : Type 0 where
-  pub took : Took t p q d a (others p q)
-  pub uncovered : coversAt t d k ≡ false
-  pub hop : hopAt t d k ≡ To h
-  pub equal : LookupAt (stepped t p a .pool) r k h
-
-pub record Ends (t : Table) (p : Pool) (q k d : ℕ) (a : Action) : Type 0 where
-  pub took : Took t p q d a (others p q)
-  pub covered : coversAt t d k ≡ true
-
-pub record Strands (t : Table) (p : Pool) (q k d : ℕ) (a : Action) : Type 0 where
-  pub took : Took t p q d a (added (others p q) (placed (noLegalRoute k) d))
-  pub uncovered : coversAt t d k ≡ false
-  pub no-hop : hopAt t d k ≡ NoRoute
-  pub told : (r : ℕ) × Stands (added (others p q) (placed (noLegalRoute k) d)) r (placed (noLegalRoute k) d)
-
-abbrev pub Tracked : Table → Pool → ℕ → ℕ → ℕ → Action → Fate → Type 0
-Tracked t p q k d a (stays r) = LookupAt (stepped t p a .pool) r k d
-Tracked t p q k d a (routed h r) = Goes t p q k d a h r
-Tracked t p q k d a (met h r) = Meets t p q k d a h r
-Tracked t p q k d a delivered = Ends t p q k d a
-Tracked t p q k d a unroutable = Strands t p q k d a
 
 -- ---- ready
 
@@ -176,7 +126,7 @@ module _ (t : Table) (p : Pool) (q k d : ℕ) (v : Sound t p) (l : LookupAt p q 
         ap₂ (λ (m : Message) (u : Node). withNode t (m .dest) u) (l .is) node ∙ same-node t d in
         record {
           act = refl;
-          ready = (dest-in, ready-is t d dest-in ∙ ready);
+          ready = ready;
           leaves = e ∙ ap (leavesOf t p (Take q)) s ∙ ap₂ (λ (u : Table) (zs : List Message). doneOf u (laid zs)) same mail;
         }
 
@@ -189,7 +139,8 @@ module _ (t : Table) (p : Pool) (q k d : ℕ) (v : Sound t p) (l : LookupAt p q 
           → LookupAt (stepped t p (Take q) .pool) r k h
       there ys r w i = rw (w .leaves) (stands-laid i)
 
-      lands : (f : Found) → firstEqual (others p q) (placed (lookup k) h) ≡ f → Tracked t p q k d (Take q) (landing f h (length (others p q)))
+      lands : (f : Found) → firstEqual (others p q) (placed (lookup k) h) ≡ f
+          → Tracked t p q k d (Take q) (landing f h (length (others p q)))
       lands (At r) f =
           let w = arrives (others p q) (added-at (others p q) (placed (lookup k) h) r f) in
           record {
@@ -200,7 +151,8 @@ module _ (t : Table) (p : Pool) (q k d : ℕ) (v : Sound t p) (l : LookupAt p q 
           }
       lands Nothing f =
           let w = arrives _ (added-nothing (others p q) (placed (lookup k) h) f) in
-          record { took = w; uncovered = c; hop = o; now = there _ (length (others p q)) w (stands-last (others p q) (placed (lookup k) h)) }
+          let last = stands-last (others p q) (placed (lookup k) h) in
+          record { took = w; uncovered = c; hop = o; now = there _ (length (others p q)) w last }
 
     -- NoLegalRoute is added, or one waits already
     tells : (f : Found) → firstEqual (others p q) (placed (noLegalRoute k) d) ≡ f
@@ -209,18 +161,23 @@ module _ (t : Table) (p : Pool) (q k d : ℕ) (v : Sound t p) (l : LookupAt p q 
         rw (added-at (others p q) (placed (noLegalRoute k) d) r f)
         (r, first-stands (ringOf t) (others p q) (placed (noLegalRoute k) d) r others-fit refl f)
     tells Nothing f =
-        rw (added-nothing (others p q) (placed (noLegalRoute k) d) f) (length (others p q), stands-last (others p q) (placed (noLegalRoute k) d))
+        rw (added-nothing (others p q) (placed (noLegalRoute k) d) f)
+        (length (others p q), stands-last (others p q) (placed (noLegalRoute k) d))
 
     taken : Treats t k d x → Tracked t p q k d (Take q) (fateTaken t p q (placed (lookup k) d))
-    taken (holds c s) = rw c (record { took = took (quietPlan (nodeAt t d)) _ s refl (mailed-quiet (nodeAt t d) (others p q)); covered = c })
+    taken (holds c s) =
+        rw c (record { took = took (quietPlan (nodeAt t d)) _ s refl (mailed-quiet (nodeAt t d) (others p q)); covered = c })
     taken (sends h c o s) = rw (c, o) (lands h c o s (firstEqual (others p q) (placed (lookup k) h)) refl)
     taken (gives-up c o s) =
+        let ys = added (others p q) (placed (noLegalRoute k) d) in
+        let w = took (sendPlan (nodeAt t d) (noLegalRoute k) d) ys s refl (mailed-send (nodeAt t d) (noLegalRoute k) d (others p q)) in
+        let last = tells (firstEqual (others p q) (placed (noLegalRoute k) d)) refl in
         rw (c, o)
         (record {
-          took = took (sendPlan (nodeAt t d) (noLegalRoute k) d) _ s refl (mailed-send (nodeAt t d) (noLegalRoute k) d (others p q));
+          took = w;
           uncovered = c;
           no-hop = o;
-          told = tells (firstEqual (others p q) (placed (noLegalRoute k) d)) refl;
+          told = rw (w .leaves) (last .0, last .1 .below, laid-at ys (last .0) (last .1 .below) ∙ last .1 .same);
         })
 
 -- ---- every step
