@@ -25,7 +25,8 @@ use Rattle.laws.specs.Leaf.{Fit, fits-leaf, leaf-fits, neighbour-of-added-left,
 use Rattle.table.specs.declared.Table.{Table}
 use Rattle.table.specs.Ids.{ids-at}
 use Rattle.table.specs.Settled.{readySet, settledAt}
-use Rattle.table.specs.Start.{slotIds, emptySides, readyNode, deadNode, startNode, startTable}
+use Rattle.rules.specs.Letters.{noSides}
+use Rattle.table.specs.Start.{slotIds, readyNode, deadNode, startNode, startTable}
 use Rattle.table.specs.Starts.{StartFits, ListFits, slot-ids-long, slot-ids-past, start-listed}
 use Rattle.table.specs.Starts.{start-nodes-long, start-node-at, start-node-past}
 use Rattle.table.specs.Table.{nodeAt, idOf, idsOf, ringOf}
@@ -33,7 +34,7 @@ use Rattle.table.specs.Table.{nodeAt, idOf, idsOf, ringOf}
 -- ---- one node of a start
 
 module _ (g : Ring) (ids : List ℕ) (a s : ℕ) where
-  pub node-in : has a s ≡ true → startNode g ids a s ≡ readyNode (idAt ids s) (leafWith g ids s emptySides a) a
+  pub node-in : has a s ≡ true → startNode g ids a s ≡ readyNode (idAt ids s) (leafWith g ids s noSides a) a
   unfolding startNode
   node-in p = rw p
 
@@ -68,7 +69,7 @@ module _ {g : Ring} {ids : List ℕ} (v : Listed g ids) (a : ℕ) (e : listed (g
       ready : has a s ≡ true → nodeFits g s (startNode g ids a s) ≡ true
       ready p =
           rw (node-in g ids a s p)
-          (and-both (leaf-fits v s h emptySides a) (and-both (others-none g s) (and-both (others-none g s) (and-both e (and-both e e)))))
+          (and-both (leaf-fits v s h noSides a) (and-both (others-none g s) (and-both (others-none g s) (and-both e (and-both e e)))))
 
       dead : has a s ≡ false → nodeFits g s (startNode g ids a s) ≡ true
       dead p =

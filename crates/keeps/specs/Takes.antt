@@ -26,7 +26,8 @@ use Rattle.rules.specs.Nodes.{sidesOf, carriedOf, placed}
 use Rattle.rules.specs.Pick.{idAt}
 use Rattle.rules.specs.Pool.{blank}
 use Rattle.rules.specs.Take.{joinReplyPlan, failedWithout, probes2, probesOf, learntNode, probePlanOf, replyPlanOf}
-use Rattle.rules.specs.Take.{grantPlan, newNeighbour, broadcastPlan}
+use Rattle.rules.specs.Actions.{isBeside}
+use Rattle.rules.specs.Take.{grantPlan, broadcastPlan}
 use Rattle.rules.specs.Take.{planTakeLookup, planTakeJoinRequest, planTakeJoinReply, planTakeProbe, planTakeProbeReply}
 use Rattle.rules.specs.Take.{planTakeLeaseRequest, planTakeBroadcast, planTake}
 use Rattle.laws.specs.Leaf.{content-listed, leaf-fits, leaf-one-fits}
@@ -243,7 +244,7 @@ module _ {g : Ring} {ids : List ℕ} (l : Listed g ids) {i : ℕ} (hi : i < g .n
         probing = r .probing;
         failed = r .failed;
         routing = r .routing;
-        lease = lease-listed (eqb (m .flag) 1 && newNeighbour g ids i s (m .owner)) (m .owner) h;
+        lease = lease-listed (eqb (m .flag) 1 && isBeside g ids i s (m .owner)) (m .owner) h;
         grant = r .grant;
       })
 

@@ -3,9 +3,9 @@ ghost use mathlib.Core.Path.{_≡_};
 ghost use Prim.Native.Nat.{ℕ, _<_};
 ghost use Rattle.rules.specs.Asks.{Listed};
 ghost use Rattle.rules.specs.Letters.{leaseRequest, broadcastLSet};
-ghost use Rattle.rules.specs.Actions.{unlessIn, leasePlan, planRequestLease, isNeighbour, planLeaseExpired, planGrantExpired};
+ghost use Rattle.rules.specs.Actions.{isBeside, unlessIn, leasePlan, planRequestLease, isNeighbour, planLeaseExpired, planGrantExpired};
 ghost use Rattle.rules.specs.Take.{grantPlan, planTakeLeaseRequest};
-ghost use Rattle.rules.specs.Take.{newNeighbour, leaseAfter, statusAfterLease, leasedNode, broadcastPlan, planTakeBroadcast};
+ghost use Rattle.rules.specs.Take.{leaseAfter, statusAfterLease, leasedNode, broadcastPlan, planTakeBroadcast};
 use marks::Found;
 use rules::Message;
 use rules::Node;
@@ -76,7 +76,7 @@ pub fn plan_request_lease(g: Ring, ids: &[u32; 64], i: usize, v: Node) -> Planne
 // Is j the left or the right neighbour of i, in the leaf set s?
 fn is_next(g: Ring, ids: &[u32; 64], i: usize, s: Sides, j: usize) -> bool
     requires { ⌜ Listed g (now ids) × (i < 64) ⌝ }
-    ensures { λ r. ⌜ r ≡ newNeighbour g (now (ids .entry)) i s j ⌝ }
+    ensures { λ r. ⌜ r ≡ isBeside g (now (ids .entry)) i s j ⌝ }
 {
     let above = leaf::seen(Way::Up, g, ids, i, s.left);
     let below = leaf::seen(Way::Down, g, ids, i, s.right);
@@ -160,15 +160,7 @@ pub fn plan_take_lease_request(g: Ring, ids: &[u32; 64], i: usize, v: Node, j: u
 }
 
 // The lease after a broadcast of j: it gains j where the flag is set and j is a neighbour in the new leaf set s.
-fn lease_after(
-    g: Ring,
-    ids: &[u32; 64],
-    i: usize,
-    v: Node,
-    s: Sides,
-    j: usize,
-    flag: u32,
-) -> u64
+fn lease_after(g: Ring, ids: &[u32; 64], i: usize, v: Node, s: Sides, j: usize, flag: u32) -> u64
     requires { ⌜ Listed g (now ids) × (i < 64) ⌝ }
     ensures { λ r. ⌜ r ≡ leaseAfter g (now (ids .entry)) i v s j flag ⌝ }
 {

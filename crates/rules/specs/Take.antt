@@ -25,7 +25,7 @@ use Rattle.rules.specs.declared.Planned.{Planned}
 use Rattle.rules.specs.declared.Planned.the-variants.{No, Go}
 use Rattle.rules.specs.Letters.{lookup, joinRequest, joinReply, lsProbe, lsProbeReply, noLegalRoute, broadcastLSet, noSides}
 use Rattle.rules.specs.Plans.{isDead, isWait, isReady, isUp, withLeases, quietPlan, sendPlan}
-use Rattle.rules.specs.Actions.{isNeighbour}
+use Rattle.rules.specs.Actions.{isBeside, isNeighbour}
 
 -- ---- 1 Lookup
 
@@ -195,13 +195,9 @@ sameNeighbours g ids i s old =
 abbrev pub bothLeased : Ring → List ℕ → ℕ → Sides → ℕ → Bool
 bothLeased g ids i s lease = has lease (leftNeighbour g ids i s) && has lease (rightNeighbour g ids i s)
 
--- j is a new neighbour: a neighbour in the new leaf set
-abbrev pub newNeighbour : Ring → List ℕ → ℕ → Sides → ℕ → Bool
-newNeighbour g ids i s j = eqb (leftNeighbour g ids i s) j || eqb (rightNeighbour g ids i s) j
-
--- if the flag is set and j is a new neighbour, lease gains j
+-- if the flag is set and j is a new neighbour (a neighbour in the new leaf set s), lease gains j
 abbrev pub leaseAfter : Ring → List ℕ → ℕ → Node → Sides → ℕ → ℕ → ℕ
-leaseAfter g ids i v s j flag = cond (eqb flag 1 && newNeighbour g ids i s j) (addOf (v .lease) j) (v .lease)
+leaseAfter g ids i v s j flag = cond (eqb flag 1 && isBeside g ids i s j) (addOf (v .lease) j) (v .lease)
 
 -- if both new neighbours are in lease and equal the old neighbours, i becomes ready
 abbrev pub statusAfterLease : Ring → List ℕ → ℕ → Node → Sides → ℕ → Status

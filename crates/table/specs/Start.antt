@@ -19,6 +19,7 @@ use Rattle.rules.specs.declared.Answer.{Answer}
 use Rattle.rules.specs.declared.Answer.the-variants.{Done, Refused}
 use Rattle.table.specs.declared.Started.{Started}
 use Rattle.rules.specs.Limits.{mLow, mHigh, lLow, lHigh, nodesHigh}
+use Rattle.rules.specs.Letters.{noSides}
 use Rattle.rules.specs.Nodes.{noNode}
 
 -- the ids in their slots, and 0 in the slots past them
@@ -30,9 +31,6 @@ unfoldable pub slotsTo : {A : Type 0} → ℕ → (ℕ → A) → List A
 slotsTo zero f = []
 slotsTo (suc n) f = slotsTo n f ++ (f n ∷ [])
 
-abbrev pub emptySides : Sides
-emptySides = record { left = 0; right = 0 }
-
 -- a ready node with the leaf set s
 abbrev pub readyNode : ℕ → Sides → ℕ → Node
 readyNode id s a =
@@ -42,7 +40,7 @@ abbrev pub deadNode : ℕ → ℕ → Node
 deadNode id s = record { id = id; status = status.Dead; left = 0; right = 0; probing = 0; failed = 0; routing = single s; lease = 0; grant = 0 }
 
 unfoldable pub startNode : Ring → List ℕ → ℕ → ℕ → Node
-startNode g ids a s = cond (has a s) (readyNode (idAt ids s) (leafWith g ids s emptySides a) a) (deadNode (idAt ids s) s)
+startNode g ids a s = cond (has a s) (readyNode (idAt ids s) (leafWith g ids s noSides a) a) (deadNode (idAt ids s) s)
 
 unfoldable pub startNodes : Ring → List ℕ → ℕ → List Node
 startNodes g ids a = slotsTo 64 (λ s. cond (ltb s (g .n)) (startNode g ids a s) noNode)
