@@ -9,6 +9,7 @@ use Rattle.rules.specs.declared.Refusal.the-variants as no
 use Rattle.rules.specs.declared.Answer.{Answer}
 use Rattle.rules.specs.declared.Answer.the-variants.{Done, Refused}
 use Rattle.rules.specs.Limits.{messagesHigh}
+use Rattle.rules.specs.Numbers.{refusalNumber}
 use Rattle.rules.specs.Pool.{laid}
 use Rattle.table.specs.declared.Table.{Table}
 use Rattle.table.specs.declared.Stepped.{Stepped}
@@ -31,3 +32,9 @@ startStep t p len m l ids a = cond (eqb len messagesHigh) (began (startOf m l id
 -- 10 for a list without 256 places or an invalid table, else whether it is settled
 unfoldable pub restOf : Table → Pool → ℕ → Rest
 restOf t p len = cond (isSound t p len) (cond (isSettled t) Settled Unsettled) (NotAsked no.Invalid)
+
+-- 01's number: 0 where it was looked at
+abbrev pub restNumber : Rest → ℕ
+restNumber Settled = 0
+restNumber Unsettled = 0
+restNumber (NotAsked why) = refusalNumber why
