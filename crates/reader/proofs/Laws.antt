@@ -12,14 +12,12 @@ use lib.Dec.{eqb, leb}
 use lib.ListN.{length, getD, take, drop, set, replicate, length-map, length-drop}
 use lib.Seq.{take-all, drop-drop, set-at, append-snoc}
 use Rattle.marks.specs.Bools.{and-left, and-right}
-use Rattle.rules.specs.declared.Node.{Node}
-use Rattle.rules.specs.declared.Message.{Message}
+use Rattle.rules.specs.Limits.{mLow, mHigh, lLow, lHigh, nodesHigh, messagesHigh}
+use Rattle.rules.specs.Fits.{between}
 use Rattle.format.specs.Bytes.{numberOf, decode, decodeAll}
 use Rattle.format.specs.Codec.{decode-all-length}
 use Rattle.format.specs.Format.{nodeWidths, messageWidths, nodesAt, messagesAt, totalOf, statusOf, nodeFrom, messageFrom}
 use Rattle.format.specs.Load.{headerWord, fileM, fileL, fileN, fileCount, headerFits, offsetsFit}
-use Rattle.rules.specs.Limits.{mLow, mHigh, lLow, lHigh, nodesHigh, messagesHigh}
-use Rattle.rules.specs.Fits.{between}
 
 -- the number whose w bytes begin at a place
 abbrev pub field : ℕ → ℕ → List ℕ → ℕ

@@ -1,7 +1,7 @@
 -- `reader::load_records` meets its contract: each of its three returns is one of the ways in which the records end. Assumes nothing.
 use borrow.Author.Needs.{needs}
 use borrow.Author.Tests.{not-true, not-false}
-use mathlib.Core.Path.{_≡_, sym, _∙_}
+use mathlib.Core.Path.{sym, _∙_}
 use native.Mathlib.Omega.{arith}
 use Rattle.reader.proofs.Laws.{offsets-long}
 use Rattle.reader.proofs.Ends.{records-status, records-invalid, records-done}

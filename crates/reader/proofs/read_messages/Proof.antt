@@ -1,12 +1,11 @@
 -- `reader::read_messages` meets its contract: the message offset is where the definition's part begins, and the length leaves room for
 -- the messages. Assumes nothing.
 use borrow.Author.Needs.{needs}
-use mathlib.Core.Path.{_≡_, _∙_}
-use Prim.Native.Nat.{_*_, _+_, _≤_}
+use mathlib.Core.Path.{_≡_}
+use Prim.Native.Nat.{_+_, _*_}
 use native.Mathlib.Omega.{arith}
 use lib.ListN.{length}
-use Rattle.format.specs.Format.{messagesAt}
-use Rattle.format.specs.Load.{fileN, fileCount, filePool}
+use Rattle.format.specs.Load.{filePool}
 use Rattle.format.specs.Back.{Header, header-told}
 use Rattle.reader.proofs.Laws.{rest-whole, header-counts}
 use Rattle.reader.proofs.read_messages.Statement.{statement}

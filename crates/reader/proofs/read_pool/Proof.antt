@@ -22,7 +22,8 @@ blank-message-requires c κs = search needs
 
 loop-holds : tie.Need-loop-holds Inv-loop μ-loop
 loop-holds c =
-    (zero-le, rw (c .blank-message .ensures) (sym (passed-none 256 blank messageFrom messageWidths 56 (c .before .before .args .part .now))))
+    let part = c .before .before .args .part .now in
+    (zero-le, rw (c .blank-message .ensures) (sym (passed-none 256 blank messageFrom messageWidths 56 part)))
 
 mul-read-message : tie.Need-mul-read-message Inv-loop μ-loop
 mul-read-message c = omega arith

@@ -55,7 +55,7 @@ add-read-node : tie.Need-add-read-node Inv-loop μ-loop
 add-read-node c = omega (arith, narrow (c .before .before .before))
 
 read-node-requires : tie.Need-read-node-requires Inv-loop μ-loop
-read-node-requires c κs = let w = c .before .before .before in omega (arith, long (w .before .before .before .before))
+read-node-requires c κs = omega (arith, long (c .before .before .before .before .before .before .before))
 
 mul-nodes : tie.Need-mul-nodes Inv-loop μ-loop
 mul-nodes c = omega (arith, narrow (c .before .before .before .before))

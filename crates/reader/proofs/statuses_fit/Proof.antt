@@ -51,16 +51,16 @@ unfolding allTo
 loop-holds c = (zero-le, refl)
 
 mul-read32 : tie.Need-mul-read32 Inv-loop μ-loop
-mul-read32 c = let l = c .before in omega (arith, long (l .before .before .before))
+mul-read32 c = omega (arith, long (c .before .before .before .before))
 
 add-read32 : tie.Need-add-read32 Inv-loop μ-loop
-add-read32 c = let l = c .before in omega (arith, long (l .before .before .before))
+add-read32 c = omega (arith, long (c .before .before .before .before))
 
 add-read32-2 : tie.Need-add-read32-2 Inv-loop μ-loop
-add-read32-2 c = let l = c .before in omega (arith, long (l .before .before .before))
+add-read32-2 c = omega (arith, long (c .before .before .before .before))
 
 read32-requires : tie.Need-read32-requires Inv-loop μ-loop
-read32-requires c κs = let l = c .before in omega (arith, long (l .before .before .before))
+read32-requires c κs = omega (arith, long (c .before .before .before .before))
 
 returns : tie.Need-returns Inv-loop μ-loop
 unfolding statusesFit
