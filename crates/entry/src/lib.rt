@@ -1,5 +1,7 @@
 // The start and the question whether a table is settled, by value, for any input.
 ghost use mathlib.Core.Path.{_≡_};
+ghost use mathlib.Core.List.{[]};
+ghost use Rattle.rules.specs.Pool.{laid};
 ghost use Rattle.entry.specs.Entry.{startStep, restOf};
 use rules::Answer;
 use rules::Pool;
@@ -14,6 +16,17 @@ pub enum Rest {
     NotAsked(Refusal),
 }
 
+// The pool in which none waits.
+pub fn no_messages() -> Pool
+    ensures { λ r. ⌜ r ≡ laid [] ⌝ }
+{
+    let none = parts::blank_message();
+    Pool {
+        count: 0,
+        places: [none; 256],
+    }
+}
+
 // The table of a start, with no messages; a refusal leaves table and pool as they are.
 pub fn start(t: Table, p: Pool, len: usize, m: u32, l: u32, ids: &[u32], a: u64) -> Stepped
     ensures { λ r. ⌜ r ≡ startStep t p len m l (now (ids .entry)) a ⌝ }
@@ -25,7 +38,7 @@ pub fn start(t: Table, p: Pool, len: usize, m: u32, l: u32, ids: &[u32], a: u64)
     let answer = made.answer;
     let table = made.table;
     match answer {
-        Answer::Done => settle::done(table, mail::no_messages()),
+        Answer::Done => settle::done(table, no_messages()),
         Answer::Refused(why) => settle::refused(t, p, why),
     }
 }

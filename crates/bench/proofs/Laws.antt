@@ -1,0 +1,53 @@
+-- Laws for a loop that copies a list, one element a turn, where the list is of the right length, and nothing where not.
+use Prim.Native.Nat.{ℕ, _+_, _<_, _≤_}
+use mathlib.Core.Path.{_≡_, refl, sym, _∙_, ap}
+use mathlib.Core.Bool.{Bool, true, false}
+use mathlib.Core.Logic.{_⊎_, inl, inr}
+use mathlib.Core.List.{List}
+use native.Mathlib.Omega.{arith}
+use lib.Dec.{eqb}
+use borrow.Author.Count.{below-more}
+use borrow.Author.Tests.{eqb-true, eq-eqb}
+use lib.ListN.{length, getD, set, length-set}
+use lib.Seq.{getD-set-same, getD-set-other, ext-getD}
+use mathlib.Core.Bool.{cond}
+use Rattle.bench.specs.Lent.{placesOf}
+
+-- how many places are copied, of a list of n
+abbrev pub Either : ℕ → ℕ → Type 0
+Either n k = ((k ≡ 256) × (n ≡ 256)) ⊎ ((k ≡ 0) × (eqb n 256 ≡ false))
+
+by-test : (n k : ℕ) (t : Bool) → eqb n 256 ≡ t → k ≡ cond t 256 0 → Either n k
+by-test n k true e h = inl (h, eqb-true n 256 e)
+by-test n k false e h = inr (h, e)
+
+pub either : (n k : ℕ) → k ≡ placesOf n → Either n k
+either n k h = by-test n k (eqb n 256) refl h
+
+pub within : (n k i : ℕ) → Either n k → i < k → (i < n) × (i < 256)
+within n k i (inl h) l = (omega (arith, h .0, h .1), omega (arith, h .0))
+within n k i (inr h) l = absurd (omega (arith, h .0))
+
+pub at-most : (n k : ℕ) → Either n k → k ≤ 256
+at-most n k (inl h) = omega (arith, h .0)
+at-most n k (inr h) = omega (arith, h .0)
+
+-- the first i of dst are those of src
+pub record Copied {A : Type 0} (d : A) (src dst : List A) (i : ℕ) : Type 0 where
+  pub same : (k : ℕ) → k < i → getD dst k d ≡ getD src k d
+
+module _ {A : Type 0} (d : A) where
+  pub copied-none : (src dst : List A) → Copied d src dst 0
+  copied-none src dst = record { same = λ k l. absurd (omega arith) }
+
+  pub copied-more : (src dst : List A) (i : ℕ) → i < length dst → Copied d src dst i → Copied d src (set dst i (getD src i d)) (i + 1)
+  copied-more src dst i l c = record {
+    same = below-more (λ k. getD (set dst i (getD src i d)) k d ≡ getD src k d) i
+        (λ k h. getD-set-other dst i k (getD src i d) d (λ e. omega arith) ∙ c .same k h)
+        (getD-set-same dst i (getD src i d) d l);
+  }
+
+  -- the loop is done: all is copied, or nothing was
+  pub copied-done : (src dst rest : List A) (n k i : ℕ) → Either n k → k ≤ i → i ≤ k → (n ≡ 256 → length src ≡ 256) → (n ≡ 256 → length dst ≡ 256) → Copied d src dst i → (i ≡ 0 → dst ≡ rest) → dst ≡ cond (eqb n 256) src rest
+  copied-done src dst rest n k i (inl h) l m s t c z = ext-getD d dst src (t (h .1) ∙ sym (s (h .1))) (λ j w. c .same j (omega (arith, h .0, t (h .1)))) ∙ sym (ap (λ (b : Bool). cond b src rest) (eq-eqb n 256 (h .1)))
+  copied-done src dst rest n k i (inr h) l m s t c z = z (omega (arith, h .0)) ∙ sym (ap (λ (b : Bool). cond b src rest) (h .1))
