@@ -64,11 +64,13 @@ fn begun(m: u64, l: u64, a: u64, ids: &[u32]) -> Stepped
 {
     let t = no_table();
     let p = entry::no_messages();
-    if (m < 4294967296) & (l < 4294967296) {
-        entry::start(t, p, 256, m as u32, l as u32, ids, a)
-    } else {
-        settle::refused(t, p, Refusal::Header)
+    if m >= 4294967296 {
+        return settle::refused(t, p, Refusal::Header);
     }
+    if l >= 4294967296 {
+        return settle::refused(t, p, Refusal::Header);
+    }
+    entry::start(t, p, 256, m as u32, l as u32, ids, a)
 }
 
 // Reads a table file and writes it back. A refusal of either leaves `out` as it is.
