@@ -50,11 +50,11 @@ abbrev pub Alone : Pool → ℕ → ℕ → Type 0
 Alone p q k = (r : ℕ) → r < p .count → (r ≡ q → ⊥) → messageAt p r .kind ≡ 1 → messageAt p r .word ≡ k → ⊥
 
 -- what is promised of a lookup of k at place q: it is delivered after at most R - 1 routings, R being the ready nodes, at the one ready node nearest its key,
--- and the other messages wait as before
+-- the table is as before, and so are the other messages
 pub record Arrives (t : Table) (p : Pool) (q k : ℕ) : Type 0 where
   pub hops : ℕ
   pub at : ℕ
-  pub delivers : Delivers t k p q hops at (laid (removedAt (waiting p) q))
+  pub delivers : Delivers k t p q hops at t (laid (removedAt (waiting p) q))
   pub few : hops ≤ sizeOf (readySet t) - 1
   pub nearest : NearestReady t k at
 

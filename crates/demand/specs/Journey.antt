@@ -99,10 +99,11 @@ pub data RoutesTo : Fate → ℕ → Type 0 where
   waits-there : {h q : ℕ} → RoutesTo (routed h q) h
   ends-there : {h r : ℕ} → RoutesTo (met h r) h
 
--- taken again and again, with no other step between, the lookup of k at place q is routed m times and delivered at slot e; r waits at the end.
--- Every Take is done.
-pub data Delivers (t : Table) (k : ℕ) : Pool → ℕ → ℕ → ℕ → Pool → Type 0 where
-  here : {p : Pool} {q e : ℕ} → LookupAt p q k e → stepped t p (Take q) .answer ≡ Done → fateOf t p q (Take q) ≡ delivered
-      → Delivers t k p q 0 e (stepped t p (Take q) .pool)
-  on : {p r : Pool} {q d h q′ m e : ℕ} → LookupAt p q k d → stepped t p (Take q) .answer ≡ Done → fateOf t p q (Take q) ≡ routed h q′
-      → Delivers t k (stepped t p (Take q) .pool) q′ m e r → Delivers t k p q (suc m) e r
+-- taken again and again, with no other step between, the lookup of k at place q is routed m times and delivered at slot e; each Take is done, on the table
+-- and the pool that the one before it left, and the last leaves the table u and the pool r
+pub data Delivers (k : ℕ) : Table → Pool → ℕ → ℕ → ℕ → Table → Pool → Type 0 where
+  here : {t : Table} {p : Pool} {q e : ℕ} → LookupAt p q k e → stepped t p (Take q) .answer ≡ Done → fateOf t p q (Take q) ≡ delivered
+      → Delivers k t p q 0 e (stepped t p (Take q) .table) (stepped t p (Take q) .pool)
+  on : {t u : Table} {p r : Pool} {q d h q′ m e : ℕ} → LookupAt p q k d → stepped t p (Take q) .answer ≡ Done
+      → fateOf t p q (Take q) ≡ routed h q′ → Delivers k (stepped t p (Take q) .table) (stepped t p (Take q) .pool) q′ m e u r
+      → Delivers k t p q (suc m) e u r

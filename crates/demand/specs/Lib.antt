@@ -1,2 +1,7 @@
 pub mod Journey
+pub mod Stands
 pub mod Demand
+pub mod Tracks
+pub mod Routings
+pub mod Holder
+pub mod Arrives
