@@ -1,2 +1,3 @@
 pub mod Trip
 pub mod Print
+pub mod Follow
