@@ -5,7 +5,7 @@
 use mathlib.Core.Path.{_≡_, refl, sym, _∙_, ap}
 use mathlib.Core.Bool.{Bool, true, false, cond, not}
 use mathlib.Core.List.{List, [], _∷_}
-use Prim.Native.Nat.{ℕ, zero, suc, _+_, _^_, _<_, _≤_}
+use Prim.Native.Nat.{ℕ, zero, suc, _+_, _-_, _^_, _<_, _≤_}
 use native.Mathlib.Omega.{arith}
 use native.Mathlib.Nat.{zero-add, add-zero}
 use lib.Seq.{set-getD}
@@ -109,6 +109,9 @@ pub data Does (t : Table) (m : Message) : Turn → Type 0 where
   strands : taken t m ≡ doneOf t (only (placed (noLegalRoute (m .word)) (m .dest))) → Does t m (Ends Nothing)
   routes : (h : ℕ) → hopAt t (m .dest) (m .word) ≡ To h → taken t m ≡ doneOf t (only (placed (lookup (m .word)) h)) → Does t m (Goes h)
 
+no-turn : {e : Found} {h : ℕ} → Ends e ≡ Goes h → ⊥
+no-turn q = let z : _≡_ {A = ℕ} 0 1 = cc in omega arith
+
 added-first : (m : Message) → added [] m ≡ m ∷ []
 unfolding added firstEqual firstFrom
 added-first m = refl
@@ -166,6 +169,23 @@ module _ {t : Table} {m : Message} (l : Lone t m) where
     routed-falls : left t (m .word) h < left t (m .word) (m .dest)
     routed-falls = nearer-falls (t .m) (t .n) (idsOf t) (m .word) h (m .dest) (near .0) (near .1)
 
+  -- and by the rules it goes on to a listed slot
+  pub lone-goes : (k i h : ℕ) → i < t .n → turnAt t k i ≡ Goes h → h < t .n
+  unfolding turnOf
+  lone-goes k i h b = ready (isReady (nodeAt t i .status))
+    where
+      hop : (x : Hop) → hopAt t i k ≡ x → turnBy x ≡ Goes h → h < t .n
+      hop (To j) e q = let d : j ≡ h = cc in rw d at (hop-nearer lone-sound k i j b e .0)
+      hop NoRoute e q = absurd (no-turn q)
+
+      covers : (c : Bool) → cond c (Ends (At i)) (turnBy (hopAt t i k)) ≡ Goes h → h < t .n
+      covers true q = absurd (no-turn q)
+      covers false q = hop (hopAt t i k) refl q
+
+      ready : (r : Bool) → cond (not r) (Ends Nothing) (cond (coversAt t i k) (Ends (At i)) (turnBy (hopAt t i k))) ≡ Goes h → h < t .n
+      ready true q = covers (coversAt t i k) q
+      ready false q = absurd (no-turn q)
+
 -- ---- following by the rules alone
 
 -- it ends, or goes on from another slot
@@ -177,6 +197,16 @@ onward (Goes h) hops rest = rest h
 unfoldable pub followTo : ℕ → Table → ℕ → ℕ → ℕ → Trip
 followTo zero t k i hops = ended Nothing hops
 followTo (suc takes) t k i hops = onward (turnAt t k i) hops (λ h. followTo takes t k h (hops + 1))
+
+-- one turn of 64, and none
+pub turn : (t : Table) (k i hops : ℕ) → hops < 64
+    → followTo (64 - hops) t k i hops ≡ onward (turnAt t k i) hops (λ h. followTo (64 - (hops + 1)) t k h (hops + 1))
+unfolding followTo
+turn t k i hops h = let e : 64 - hops ≡ suc (64 - (hops + 1)) = omega arith in rw e
+
+pub turn-none : (t : Table) (k i hops : ℕ) → 64 ≤ hops → followTo (64 - hops) t k i hops ≡ ended Nothing hops
+unfolding followTo
+turn-none t k i hops h = let e : 64 - hops ≡ 0 = omega arith in rw e
 
 -- it is following by the step
 pub trip-is : (n : ℕ) {t : Table} {m : Message} → Lone t m → (hops : ℕ) → tripOf n t (only m) hops ≡ followTo n t (m .word) (m .dest) hops

@@ -1,77 +1,102 @@
+-- `listing::follow` meets its contract. The invariant: what remains to be followed gives the trip of the whole. The measure: the takes left.
+-- Assumes nothing.
+use borrow.Author.Needs.{needs}
+use mathlib.Core.Path.{_≡_, refl, sym, _∙_}
+use mathlib.Core.List.{List}
+use Prim.Native.Nat.{ℕ, _-_, _<_, _≤_}
+use native.Mathlib.Omega.{arith}
+use Rattle.rules.specs.declared.Node.{Node}
+use Rattle.rules.specs.declared.Ring.{Ring}
+use Rattle.listing.specs.Follow.{turnOf, turnAt, followTo, turn, turn-none, follow-is, lone-listed, lone-slot, lone-key, lone-goes}
 use Rattle.listing.proofs.follow.Statement.{statement}
 use Rattle.listing.proofs.follow.Tie as tie
-use Rattle.listing.proofs.follow.Reads as reads
-use Rattle.listing.proofs.follow.Lts as lts
-use Rattle.listing.proofs.turn_at.Reads as turn-at-reads
-use Rattle.settled.proofs.dead_set.Reads as dead-set-reads
-use Rattle.table.proofs.ids.Reads as ids-reads
-use Rattle.table.proofs.ring_of.Reads as ring-of-reads
 
 abbrev Inv-loop : tie.InvT-loop
-Inv-loop t g ids dead k i₀ hops₀ i hops = ?
+Inv-loop t g ids dead k i₀ hops₀ i hops = (hops ≤ 64) × (i < t .n) × (followTo (64 - hops) t k i hops ≡ followTo 64 t k i₀ hops₀)
 
 abbrev μ-loop : tie.MeasureT-loop
-μ-loop t g ids dead k i₀ hops₀ i hops = ?
+μ-loop t g ids dead k i₀ hops₀ i hops = 64 - hops
 
--- src/lib.rt:49:9
+same-turn : {g h : Ring} {ids js : List ℕ} {dead gone : ℕ} (i : ℕ) (v : Node) (k : ℕ) → g ≡ h → ids ≡ js → dead ≡ gone
+    → turnOf g ids dead i v k ≡ turnOf h js gone i v k
+same-turn i v k p q r = rw (p, q, r)
+
+abbrev start : tie.At-loop Inv-loop μ-loop → tie.Start Inv-loop μ-loop
+start c = c .before .before .before .before .before
+
+-- the node's turn is that of the rules
+told : (c : tie.After-turn-at Inv-loop μ-loop)
+    → let l = c .before .before .before .before in
+    c .turn-at .result ≡ turnAt (start l .args .t1) (start l .args .m .word) (l .loop .i)
+told c =
+    let d = c .before .before .before .before .before .before in
+    c .turn-at .ensures ∙ same-turn _ _ _ (d .before .before .ring-of .ensures) (d .before .ids .ensures) (d .dead-set .ensures)
+
 ring-of-requires : tie.Need-ring-of-requires Inv-loop μ-loop
-ring-of-requires c κs = ?
+ring-of-requires c κs = search needs
 
--- src/lib.rt:50:15
 ids-requires : tie.Need-ids-requires Inv-loop μ-loop
-ids-requires c κs = ?
+ids-requires c κs = search needs
 
--- src/lib.rt:51:9
 dead-set-requires : tie.Need-dead-set-requires Inv-loop μ-loop
-dead-set-requires c κs = ?
+dead-set-requires c κs = lone-listed (c .before .before .pre) .n-high
 
--- src/lib.rt:53:17
 cast-i : tie.Need-cast-i Inv-loop μ-loop
-cast-i c = ?
+cast-i c = search needs
 
--- src/lib.rt:55:5
 loop-holds : tie.Need-loop-holds Inv-loop μ-loop
-loop-holds c = ?
+loop-holds c = (omega arith, lone-slot (c .before .before .before .before .pre), refl)
 
--- src/lib.rt:56:17
 mul-v : tie.Need-mul-v Inv-loop μ-loop
-mul-v c = ?
+mul-v c = omega (arith, lone-listed (start (c .before) .pre) .n-high)
 
--- src/lib.rt:56:17
 element-copy-out-v : tie.Need-element-copy-out-v Inv-loop μ-loop
-element-copy-out-v c = ?
+element-copy-out-v c = omega (arith, lone-listed (start (c .before) .pre) .n-high)
 
--- src/lib.rt:57:13
 turn-at-requires : tie.Need-turn-at-requires Inv-loop μ-loop
-turn-at-requires c κs = ?
+turn-at-requires c κs =
+    let l = c .before .before .before in
+    let d = l .before .before in
+    let pre = start l .pre in
+    rw (d .before .ids .ensures, d .before .before .ring-of .ensures)
+    (lone-listed pre, omega (arith, lone-listed pre .n-high), lone-key pre)
 
--- src/lib.rt:59:24
 enum-known-next : tie.Need-enum-known-next Inv-loop μ-loop
-enum-known-next c = ?
+enum-known-next c = search needs
 
--- src/lib.rt:59:32
 returns : tie.Need-returns Inv-loop μ-loop
-returns c = ?
+returns c =
+    let w = c .before .before .before in
+    let l = w .before .before .before .before in
+    let a = start l .args in
+    sym (follow-is (start l .pre) ∙ sym (l .loop .inv .2) ∙ turn (a .t1) (a .m .word) (l .loop .i) (l .loop .hops) (omega arith)
+    ∙ rw (← told w, c .before .next .given .1))
 
--- src/lib.rt:60:24
 enum-known-next-2 : tie.Need-enum-known-next-2 Inv-loop μ-loop
-enum-known-next-2 c = ?
+enum-known-next-2 c = search needs
 
--- src/lib.rt:62:17
 add-hops : tie.Need-add-hops Inv-loop μ-loop
-add-hops c = ?
+add-hops c = search needs
 
--- src/lib.rt:55:5
 loop-less : tie.Need-loop-less Inv-loop μ-loop
-loop-less c = ?
+loop-less c = search needs
 
--- src/lib.rt:55:5
 loop-again : tie.Need-loop-again Inv-loop μ-loop
-loop-again c = ?
+loop-again c =
+    let w = c .before .before .before in
+    let l = w .before .before .before .before in
+    let a = start l .args in
+    let goes = sym (told w) ∙ c .before .next2 .given .1 in (
+      omega arith,
+      lone-goes (start l .pre) (a .m .word) (l .loop .i) _ (l .loop .inv .1) goes,
+      sym (turn (a .t1) (a .m .word) (l .loop .i) (l .loop .hops) (omega arith) ∙ rw goes) ∙ l .loop .inv .2,
+    )
 
--- src/lib.rt:45:1
 returns-2 : tie.Need-returns-2 Inv-loop μ-loop
-returns-2 c = ?
+returns-2 c =
+    let l = c .before in
+    let a = start l .args in
+    sym (follow-is (start l .pre) ∙ sym (l .loop .inv .2) ∙ turn-none (a .t1) (a .m .word) (l .loop .i) (l .loop .hops) (omega arith))
 
 pub follow-spec : {M : Type 1} → statement M
 follow-spec =
