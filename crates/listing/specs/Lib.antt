@@ -1,3 +1,5 @@
 pub mod Trip
 pub mod Print
+pub mod Prints
 pub mod Follow
+pub mod Text

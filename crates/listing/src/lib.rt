@@ -1,13 +1,21 @@
 // The listing of a table file: each waiting lookup followed to its end, and printed as a line.
 ghost use mathlib.Core.Path.{_≡_};
-ghost use Prim.Native.Nat.{ℕ, _^_, _<_};
-ghost use Rattle.rules.specs.Asks.{Listed};
+ghost use mathlib.Core.Bool.{true};
+ghost use mathlib.Core.List.{[], _∷_, _++_};
+ghost use Prim.Native.Nat.{ℕ, _+_, _^_, _<_, _≤_};
+ghost use lib.ListN.{length};
+ghost use Rattle.rules.specs.Asks.{Listed, Below};
+ghost use Rattle.rules.specs.Pool.{waiting};
+ghost use Rattle.table.specs.Valid.{validOf};
 ghost use Rattle.listing.specs.Trip.{followOf};
+ghost use Rattle.listing.specs.Print.{decimal, headline, endText, lineOf, linesOf};
+ghost use Rattle.listing.specs.Prints.{Prints};
 ghost use Rattle.listing.specs.Follow.{Lone, turnOf};
 use marks::Found;
 use rules::Hop;
 use rules::Message;
 use rules::Node;
+use rules::Pool;
 use rules::Ring;
 use table::Table;
 
@@ -67,4 +75,91 @@ pub fn follow(t: Table, m: Message) -> Trip
         end: Found::Nothing,
         hops,
     }
+}
+
+// Writes one byte.
+fn put_byte(b: &mut [u8], at: usize, x: u8) -> usize
+    requires { ⌜ at + 1 ≤ length (now b) ⌝ }
+    ensures { λ r. ⌜ Prints (now (b .entry)) at (x ∷ []) r (now (b .exit)) ⌝ }
+{
+    b[at] = x;
+    at + 1
+}
+
+// Writes a text.
+fn put_text(b: &mut [u8], at: usize, text: &[u8]) -> usize
+    requires { ⌜ at + length (now text) ≤ length (now b) ⌝ }
+    ensures { λ r. ⌜ Prints (now (b .entry)) at (now (text .entry)) r (now (b .exit)) ⌝ }
+{
+    let n = bytes::copy(text, &mut b[at..]);
+    at + n
+}
+
+// Writes a number in decimal digits: those of its tenth, and its last.
+fn put_number(b: &mut [u8], at: usize, x: u32) -> usize
+    requires { ⌜ at + length (decimal x) ≤ length (now b) ⌝ }
+    ensures { λ r. ⌜ Prints (now (b .entry)) at (decimal x) r (now (b .exit)) ⌝ }
+{
+    if x < 10 {
+        return put_byte(b, at, 48 + x as u8);
+    }
+    let next = put_number(b, at, x / 10);
+    put_byte(b, next, 48 + (x % 10) as u8)
+}
+
+// Writes a number, and the byte that ends its field.
+fn put_field(b: &mut [u8], at: usize, x: u32, mark: u8) -> usize
+    requires { ⌜ at + length (decimal x) + 1 ≤ length (now b) ⌝ }
+    ensures { λ r. ⌜ Prints (now (b .entry)) at (decimal x ++ (mark ∷ [])) r (now (b .exit)) ⌝ }
+{
+    let next = put_number(b, at, x);
+    put_byte(b, next, mark)
+}
+
+// Writes the id of the slot that delivered a lookup, or `-`.
+fn put_end(b: &mut [u8], at: usize, t: Table, end: Found) -> usize
+    requires { ⌜ Below end 64 × (at + length (endText t end) ≤ length (now b)) ⌝ }
+    ensures { λ r. ⌜ Prints (now (b .entry)) at (endText t end) r (now (b .exit)) ⌝ }
+{
+    match end {
+        Found::At(e) => {
+            let v = t.nodes[e];
+            put_number(b, at, v.id)
+        }
+        Found::Nothing => put_byte(b, at, 45),
+    }
+}
+
+// Writes the line of a lookup.
+fn put_line(b: &mut [u8], at: usize, t: Table, m: Message) -> usize
+    requires { ⌜ Lone t m × (at + length (lineOf t m) ≤ length (now b)) ⌝ }
+    ensures { λ r. ⌜ Prints (now (b .entry)) at (lineOf t m) r (now (b .exit)) ⌝ }
+{
+    let trip = follow(t, m);
+    let i = m.dest as usize;
+    let v = t.nodes[i];
+    let a1 = put_field(b, at, m.word, 32);
+    let a2 = put_field(b, a1, v.id, 32);
+    let end = trip.end;
+    let a3 = put_end(b, a2, t, end);
+    let a4 = put_byte(b, a3, 32);
+    put_field(b, a4, trip.hops as u32, 10)
+}
+
+// Writes the listing of a loaded table: the header line, and the line of each waiting lookup, in pool order.
+pub fn print(t: Table, p: Pool, out: &mut [u8]) -> usize
+    requires { ⌜ (validOf t p ≡ true) × (16384 ≤ length (now out)) ⌝ }
+    ensures { λ r. ⌜ Prints (now (out .entry)) 0 (headline ++ linesOf t (waiting p)) r (now (out .exit)) ⌝ }
+{
+    let n = p.count;
+    let mut at = put_text(out, 0, b"key from to hops\n");
+    let mut q: usize = 0;
+    while q < n {
+        let m = p.places[q];
+        if m.kind == 1 {
+            at = put_line(out, at, t, m);
+        }
+        q += 1;
+    }
+    at
 }
