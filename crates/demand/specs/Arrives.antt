@@ -135,10 +135,12 @@ module _ {t : Table} {p : Pool} (v : Sound t p) (s : isSettled t ≡ true) (k : 
 
   -- what is not dead is ready
   awake : (i : ℕ) → i < t .n → has (deadSet t) i ≡ false → Ready t i
-  awake i l f =
-      (l, ready-is t i l
-      ∙ ⊎-elim (λ e. absurd (opposed e (sym (dead-is t i l) ∙ f))) (λ e. e)
-      (or-cases (isDead (nodeAt t i .status)) (isReady (nodeAt t i .status)) (dead-or-ready t s i l)))
+  awake i l f = (
+    l,
+    ready-is t i l
+        ∙ ⊎-elim (λ e. absurd (opposed e (sym (dead-is t i l) ∙ f))) (λ e. e)
+        (or-cases (isDead (nodeAt t i .status)) (isReady (nodeAt t i .status)) (dead-or-ready t s i l)),
+  )
 
   module _ (d : ℕ) (r : Ready t d) where
     -- no ready node is in its failed

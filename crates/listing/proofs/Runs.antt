@@ -2,25 +2,27 @@
 -- there on. Digits, fields and lines are put together of these. Assumes nothing.
 use mathlib.Core.Path.{_≡_, refl, sym, _∙_, ap}
 use mathlib.Core.List.{List, [], _∷_, _++_, append-assoc, append-nil}
-use Prim.Native.Nat.{ℕ, suc, _+_, _-_, _/_, _%_, _<_, _≤_}
+use Prim.Native.Nat.{ℕ, suc, _+_, _-_, _*_, _/_, _%_, _<_, _≤_}
 use native.Mathlib.Numerals.{add-one}
 use native.Mathlib.Omega.{arith}
-use lib.ListN.{length, take, drop, set, length-append, length-drop}
+use borrow.Author.Tests.{ne-eqb}
+use lib.ListN.{getD, length, length-take, take, drop, set, length-append, length-drop}
 use lib.Seq.{set-split, append-snoc, take-all, take-length, drop-length, drop-drop}
 use borrow.Rule.Slice.PartMut.{midOf, postOf, putMid, post-is}
 use Rattle.marks.specs.declared.Found.{Found}
 use Rattle.marks.specs.declared.Found.the-variants.{At, Nothing}
 use Rattle.rules.specs.declared.Message.{Message}
 use Rattle.rules.specs.Asks.{Below}
+use Rattle.rules.specs.Pool.{blank}
 use Rattle.table.specs.declared.Table.{Table}
 use Rattle.table.specs.Table.{nodeAt}
 use Rattle.writer.proofs.Laws.{follow, put-length}
 use Rattle.listing.specs.declared.Trip.{Trip}
 use Rattle.listing.specs.Trip.{followOf}
-use Rattle.listing.specs.Print.{decimal, endText, lineOf}
+use Rattle.listing.specs.Print.{decimal, endText, lineOf, linesOf}
 use Rattle.listing.specs.Prints.{Prints}
 use Rattle.listing.specs.Follow.{Lone, lone-listed, follow-few, follow-below}
-use Rattle.listing.specs.Text.{digit, decimal-more, line-length}
+use Rattle.listing.specs.Text.{digit, decimal-more, line-length, lines-more, lines-short}
 
 pub then : {a b c : List ℕ} {at i j : ℕ} {vs ws : List ℕ} → Prints a at vs i b → Prints b i ws j c → Prints a at (vs ++ ws) j c
 then p q = rw length-append (follow p q)
@@ -108,3 +110,21 @@ pub line-run : {a b c d e f : List ℕ} {at i j k l n : ℕ} (t : Table) (m : Me
     → Prints a at (lineOf t m) n f
 unfolding lineOf
 line-run t m trip g p q r s u = rw (← g) (simp append-assoc at (then p (then q (then r (then s u)))))
+
+-- ---- the lines of the messages passed
+
+module _ (t : Table) (ms : List Message) (q : ℕ) where
+  -- where they end
+  pub lines-end : {a b : List ℕ} {at i : ℕ} → Prints a at (linesOf t (take q ms)) i b → (i ≤ at + 36 * q) × (length b ≡ length a)
+  lines-end p = (omega (arith, p .next-is, lines-short t (take q ms), length-take q ms), put-length p)
+
+  module _ (h : q < length ms) where
+    -- one lookup more
+    pub lines-line : {a b c : List ℕ} {at i j : ℕ} → getD ms q blank .kind ≡ 1 → Prints a at (linesOf t (take q ms)) i b
+        → Prints b i (lineOf t (getD ms q blank)) j c → Prints a at (linesOf t (take (q + 1) ms)) j c
+    lines-line k p r = rw (lines-more t ms q h, k) (then p r)
+
+    -- one other message more
+    pub lines-skip : {a b : List ℕ} {at i : ℕ} → (getD ms q blank .kind ≡ 1 → ⊥) → Prints a at (linesOf t (take q ms)) i b
+        → Prints a at (linesOf t (take (q + 1) ms)) i b
+    lines-skip k p = rw (lines-more t ms q h, ne-eqb (getD ms q blank .kind) 1 k, append-nil) p

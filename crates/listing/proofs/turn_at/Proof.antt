@@ -3,9 +3,6 @@ use borrow.Author.Needs.{needs}
 use Rattle.listing.specs.Follow.{turnOf}
 use Rattle.listing.proofs.turn_at.Statement.{statement}
 use Rattle.listing.proofs.turn_at.Tie as tie
-use Rattle.hop.proofs.next_hop.Reads as next-hop-reads
-use Rattle.parts.proofs.is_ready.Reads as is-ready-reads
-use Rattle.parts.proofs.sides_of.Reads as sides-of-reads
 
 is-ready-requires : tie.Need-is-ready-requires
 is-ready-requires c κs = search needs
