@@ -3,3 +3,4 @@ pub mod Print
 pub mod Prints
 pub mod Follow
 pub mod Text
+pub mod List

@@ -5,18 +5,25 @@ ghost use mathlib.Core.List.{[], _∷_, _++_};
 ghost use Prim.Native.Nat.{ℕ, _+_, _^_, _<_, _≤_};
 ghost use lib.ListN.{length};
 ghost use Rattle.rules.specs.Asks.{Listed, Below};
-ghost use Rattle.rules.specs.Pool.{waiting};
+ghost use Rattle.rules.specs.Numbers.{refusalNumber};
+ghost use Rattle.rules.specs.Pool.{laid, waiting};
+ghost use Rattle.table.specs.Start.{noTable};
 ghost use Rattle.table.specs.Valid.{validOf};
 ghost use Rattle.listing.specs.Trip.{followOf};
-ghost use Rattle.listing.specs.Print.{decimal, headline, endText, lineOf, linesOf};
+ghost use Rattle.listing.specs.Print.{decimal, headline, refusedWord, endText, lineOf, linesOf, printOf};
 ghost use Rattle.listing.specs.Prints.{Prints};
 ghost use Rattle.listing.specs.Follow.{Lone, turnOf};
+ghost use Rattle.listing.specs.List.{Loaded, listOf, listedOf};
+use format::Wrote;
 use marks::Found;
+use rules::Answer;
 use rules::Hop;
 use rules::Message;
 use rules::Node;
 use rules::Pool;
+use rules::Refusal;
 use rules::Ring;
+use table::Stepped;
 use table::Table;
 
 // Where a lookup ended, if it was delivered, and how often it was routed.
@@ -162,4 +169,64 @@ pub fn print(t: Table, p: Pool, out: &mut [u8]) -> usize
         q += 1;
     }
     at
+}
+
+// Writes the line of a refused file.
+fn put_refused(b: &mut [u8], why: Refusal) -> usize
+    requires { ⌜ 16384 ≤ length (now b) ⌝ }
+    ensures { λ r. ⌜ Prints (now (b .entry)) 0 (refusedWord ++ (decimal (refusalNumber why) ++ (10 ∷ []))) r (now (b .exit)) ⌝ }
+{
+    let number = parts::answer_number(Answer::Refused(why));
+    let at = put_text(b, 0, b"refused ");
+    put_field(b, at, number, 10)
+}
+
+// Writes the listing of what a load left.
+fn put_loaded(b: &mut [u8], s: Stepped) -> usize
+    requires { ⌜ Loaded s × (16384 ≤ length (now b)) ⌝ }
+    ensures { λ r. ⌜ Prints (now (b .entry)) 0 (printOf s) r (now (b .exit)) ⌝ }
+{
+    let answer = s.answer;
+    match answer {
+        Answer::Done => print(s.table, s.pool, b),
+        Answer::Refused(why) => put_refused(b, why),
+    }
+}
+
+// The table of no node.
+fn no_table() -> Table
+    ensures { λ r. ⌜ r ≡ noTable ⌝ }
+{
+    let none = table::not_started(Refusal::Invalid);
+    none.table
+}
+
+// The pool in which nothing waits.
+fn no_pool() -> Pool
+    ensures { λ r. ⌜ r ≡ laid [] ⌝ }
+{
+    let none = parts::blank_message();
+    Pool {
+        count: 0,
+        places: [none; 256],
+    }
+}
+
+// Writes the listing of a file into the first bytes of a buffer, and tells how many: of a table file its header line and a line for each waiting lookup, of any
+// other file one line with the number of its refusal. 11 for a buffer of fewer than 16,384 bytes, which stays as it is.
+pub fn list(file: &[u8], out: &mut [u8]) -> Wrote
+    ensures { λ r. ⌜ (r ≡ listOf (now (file .entry)) (now (out .entry))) × (now (out .exit) ≡ listedOf (now (file .entry)) (now (out .entry))) ⌝ }
+{
+    if out.len() < 16384 {
+        return Wrote {
+            answer: Answer::Refused(Refusal::NoRoom),
+            count: 0,
+        };
+    }
+    let s = reader::load(file, no_table(), no_pool(), 256);
+    let count = put_loaded(out, s);
+    Wrote {
+        answer: Answer::Done,
+        count,
+    }
 }
