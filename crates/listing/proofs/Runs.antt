@@ -12,14 +12,16 @@ use borrow.Rule.Slice.PartMut.{midOf, postOf, putMid, post-is}
 use Rattle.marks.specs.declared.Found.{Found}
 use Rattle.marks.specs.declared.Found.the-variants.{At, Nothing}
 use Rattle.rules.specs.declared.Message.{Message}
+use Rattle.rules.specs.declared.Refusal.{Refusal}
 use Rattle.rules.specs.Asks.{Below}
+use Rattle.rules.specs.Numbers.{refusalNumber}
 use Rattle.rules.specs.Pool.{blank}
 use Rattle.table.specs.declared.Table.{Table}
 use Rattle.table.specs.Table.{nodeAt}
 use Rattle.writer.proofs.Laws.{follow, put-length}
 use Rattle.listing.specs.declared.Trip.{Trip}
 use Rattle.listing.specs.Trip.{followOf}
-use Rattle.listing.specs.Print.{decimal, endText, lineOf, linesOf}
+use Rattle.listing.specs.Print.{decimal, refusedWord, endText, lineOf, linesOf}
 use Rattle.listing.specs.Prints.{Prints}
 use Rattle.listing.specs.Follow.{Lone, lone-listed, follow-few, follow-below}
 use Rattle.listing.specs.Text.{digit, decimal-more, line-length, lines-more, lines-short}
@@ -128,3 +130,9 @@ module _ (t : Table) (ms : List Message) (q : ℕ) where
     pub lines-skip : {a b : List ℕ} {at i : ℕ} → (getD ms q blank .kind ≡ 1 → ⊥) → Prints a at (linesOf t (take q ms)) i b
         → Prints a at (linesOf t (take (q + 1) ms)) i b
     lines-skip k p = rw (lines-more t ms q h, ne-eqb (getD ms q blank .kind) 1 k, append-nil) p
+
+-- ---- a refused file
+
+pub refused-run : {a b c : List ℕ} {i j x : ℕ} (why : Refusal) → x ≡ refusalNumber why → Prints a 0 refusedWord i b
+    → Prints b i (decimal x ++ (10 ∷ [])) j c → Prints a 0 (refusedWord ++ (decimal (refusalNumber why) ++ (10 ∷ []))) j c
+refused-run why e p q = rw (← e) (then p q)

@@ -1,11 +1,10 @@
+-- `listing::put_refused` meets its contract: the word, then the number. Assumes nothing.
 use borrow.Author.Needs.{needs}
+use native.Mathlib.Omega.{arith}
+use Rattle.listing.specs.Text.{digits-most}
+use Rattle.listing.proofs.Runs.{text-end, refused-run}
 use Rattle.listing.proofs.put_refused.Statement.{statement}
 use Rattle.listing.proofs.put_refused.Tie as tie
-use Rattle.listing.proofs.put_refused.Reads as reads
-use Rattle.listing.proofs.put_refused.Lts as lts
-use Rattle.listing.proofs.put_field.Reads as put-field-reads
-use Rattle.listing.proofs.put_text.Reads as put-text-reads
-use Rattle.parts.proofs.answer_number.Reads as answer-number-reads
 
 answer-number-requires : tie.Need-answer-number-requires
 answer-number-requires c κs = search needs
@@ -17,13 +16,20 @@ put-text-requires : tie.Need-put-text-requires
 put-text-requires c κs = search needs
 
 put-field-requires : tie.Need-put-field-requires
-put-field-requires c κs = ?
+put-field-requires c κs =
+    let text = c .before .before .before in
+    let number = text .before .before .before in
+    omega (arith, text-end (text .put-text .ensures), digits-most 10 (number .answer-number .result))
 
 same-length : tie.Need-same-length
 same-length c = search needs
 
 returns : tie.Need-returns
-returns c = ?
+returns c =
+    let field = c .before .before in
+    let text = field .before .before .before .before in
+    let number = text .before .before .before in
+    refused-run (number .before .before .args .why) (number .answer-number .ensures) (text .put-text .ensures) (field .put-field .ensures)
 
 pub put-refused-spec : {M : Type 1} → statement M
 put-refused-spec =
