@@ -135,7 +135,7 @@ module _ {t : Table} {p : Pool} (v : Sound t p) where
         up : (x : ℕ) → ReadyId t x → (x ≡ idAt (idsOf t) i → ⊥)
             → (idAt (idsOf t) (nextOf Up t i) ≡ idAt (idsOf t) i → ⊥)
             × (fallOf (2 ^ t .m) (idAt (idsOf t) (nextOf Up t i)) (idAt (idsOf t) i) ≤ fallOf (2 ^ t .m) x (idAt (idsOf t) i))
-        up x (j, k, e) d = 
+        up x (j, k, e) d =
             let apart : j ≡ i → ⊥ = λ f. d (sym e ∙ ap (idAt (idsOf t)) f) in
             (next-apart j k apart Up, rw (← e) (next-up j k apart))
 

@@ -129,7 +129,9 @@ fn header_fits(bs: &[u8]) -> bool
     let n = word(bs, 2);
     let count = word(bs, 3);
     let last = word(bs, 7);
-    (2 <= m) & (m <= 32) & ((1 <= l) & (l <= 8) & ((1 <= n) & (n <= 64) & ((count <= 256) & (last == 0))))
+    (2 <= m)
+        & (m <= 32)
+        & ((1 <= l) & (l <= 8) & ((1 <= n) & (n <= 64) & ((count <= 256) & (last == 0))))
 }
 
 // Do the offsets, the total and the real length agree with the counts?
