@@ -130,14 +130,24 @@ fn ask_settled(rest: &[u8], out: &mut [u8]) -> Reply {
     match said {
         Rest::Settled => {
             out[0] = 1;
-            Reply { number: 0, count: 1 }
+            Reply {
+                number: 0,
+                count: 1,
+            }
         }
         Rest::Unsettled => {
             out[0] = 0;
-            Reply { number: 0, count: 1 }
+            Reply {
+                number: 0,
+                count: 1,
+            }
         }
         Rest::NotAsked(why) => refused(parts::answer_number(Answer::Refused(why))),
     }
+}
+
+fn print_list(rest: &[u8], out: &mut [u8]) -> Reply {
+    reply_of(listing::list(rest, out))
 }
 
 // The reply to a request.
@@ -151,6 +161,7 @@ fn reply_to(request: &[u8], out: &mut [u8]) -> Reply {
         1 => make_step(&request[1..], out),
         2 => make_start(&request[1..], out),
         3 => ask_settled(&request[1..], out),
+        4 => print_list(&request[1..], out),
         _ => malformed(),
     }
 }
