@@ -1,2 +1,6 @@
 pub mod Trip
 pub mod Print
+pub mod Prints
+pub mod Follow
+pub mod Text
+pub mod List
