@@ -4,3 +4,4 @@ pub mod Prints
 pub mod Follow
 pub mod Text
 pub mod List
+pub mod Cut

@@ -6,7 +6,9 @@ use mathlib.Core.List.{List, [], _∷_, _++_}
 use Prim.Native.Nat.{ℕ, _+_, _*_, _<_, _≤_}
 use native.Mathlib.Omega.{arith}
 use lib.Dec.{eqb, ltb}
-use lib.ListN.{length, drop, length-append}
+use borrow.Author.Tests.{le-ltb}
+use lib.ListN.{length, take, drop, length-append}
+use lib.Seq.{take-append-seam}
 use Rattle.marks.specs.Bools.{and-right}
 use Rattle.rules.specs.declared.Pool.{Pool}
 use Rattle.rules.specs.declared.Answer.{Answer}
@@ -69,3 +71,21 @@ print-short s v = go (s .answer) refl
 pub listing-short : (bs : List ℕ) → length (listingOf bs) ≤ 17 + 256 * 36
 unfolding listingOf
 listing-short bs = print-short (loadOf bs noTable (laid []) 256) (loaded bs noTable (laid []) 256)
+
+-- ---- what a caller prints
+
+module _ (file out : List ℕ) where
+  -- the count lies within the buffer
+  pub list-inside : listOf file out .count ≤ length (listedOf file out)
+  unfolding listOf listedOf
+  list-inside = go (ltb (length out) room)
+    where
+      go : (b : Bool) → cond b (notWritten no.NoRoom) (record { answer = Done; count = length (listingOf file) }) .count
+          ≤ length (cond b out (listingOf file ++ drop (length (listingOf file)) out))
+      go true = omega arith
+      go false = rw length-append (omega arith)
+
+  -- where there is room, so many of its first bytes are the listing
+  pub list-tells : room ≤ length out → take (listOf file out .count) (listedOf file out) ≡ listingOf file
+  unfolding listOf listedOf
+  list-tells h = rw (le-ltb (length out) room h) (take-append-seam (listingOf file) _)
