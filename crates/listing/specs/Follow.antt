@@ -42,8 +42,9 @@ use Rattle.sound.specs.Made.{lookup-fits}
 use Rattle.sound.specs.Obeys.{Obeys, obeys}
 use Rattle.sound.specs.Sound.{Sound, sound, sound-valid}
 use Rattle.demand.specs.Demand.{Nearer}
-use Rattle.demand.specs.Tracks.{coversAt, hopAt, planAt}
-use Rattle.demand.specs.Routings.{left, hop-nearer, nearer-falls, nearer-few}
+use Rattle.demand.specs.Fates.{coversAt, hopAt}
+use Rattle.demand.specs.Tracks.{planAt}
+use Rattle.demand.specs.Routings.{nearerListed, hop-nearer, nearer-falls, nearer-few}
 use Rattle.listing.specs.declared.Trip.{Trip}
 use Rattle.listing.specs.declared.Turn.{Turn}
 use Rattle.listing.specs.declared.Turn.the-variants.{Ends, Goes}
@@ -166,7 +167,7 @@ module _ {t : Table} {m : Message} (l : Lone t m) where
         let fits = lookup-fits (ringOf t) h (near .0) (m .word) lone-key in
         record { valid = sound-valid (sound-only lone-sound _ fits); is-lookup = refl }
 
-    routed-falls : left t (m .word) h < left t (m .word) (m .dest)
+    routed-falls : nearerListed t (m .word) h < nearerListed t (m .word) (m .dest)
     routed-falls = nearer-falls (t .m) (t .n) (idsOf t) (m .word) h (m .dest) (near .0) (near .1)
 
   -- and by the rules it goes on to a listed slot
@@ -258,10 +259,10 @@ record Journey (t : Table) (m : Message) : Type 0 where
   end : Found
   hops : ℕ
   travels : Travels t m end hops
-  few : hops ≤ left t (m .word) (m .dest)
+  few : hops ≤ nearerListed t (m .word) (m .dest)
   below : Below end (t .n)
 
-journey-in : (n : ℕ) {t : Table} {m : Message} → Lone t m → left t (m .word) (m .dest) < n → Journey t m
+journey-in : (n : ℕ) {t : Table} {m : Message} → Lone t m → nearerListed t (m .word) (m .dest) < n → Journey t m
 journey-in zero l f = absurd (omega arith)
 journey-in (suc n) {t} {m} l f =
     go (turnAt t (m .word) (m .dest)) (does l) (λ h e. journey-in n (lone-routed l h e) (omega (arith, routed-falls l h e)))
@@ -285,7 +286,7 @@ journey-in (suc n) {t} {m} l f =
 
 module _ {t : Table} {m : Message} (l : Lone t m) where
   journey : Journey t m
-  journey = journey-in (suc (left t (m .word) (m .dest))) l (omega arith)
+  journey = journey-in (suc (nearerListed t (m .word) (m .dest))) l (omega arith)
 
   journey-few : journey .hops < t .n
   journey-few = omega (arith, journey .few, nearer-few (t .m) (t .n) (idsOf t) (m .word) (m .dest) (lone-slot l))
