@@ -23,7 +23,7 @@ use types.Kit.{Given, Item, ‵, raw, _⊛_, mean, ⋆, nth, put, pop, push, Pos
 use types.Part.{Part, agg, whole, sub, look-in}
 use types.Run.{Reads, Walks, Opd, Rv, look, init, stop, hop, fld, from, load, addr, and-then, no-more, land, assigns, alloc1, alloc0}
 use denote.Laws.{Is, Typed}
-use denote.Plain.{UInt, uint-makes}
+use denote.Plain.{UInt, uint-tells, uint-lawful, uint-makes}
 use denote.Slice.{sliceTy, sliceVal}
 use denote.Steps.{owned, only}
 use denote.Struct.Declared.{Declared, fields, row}
@@ -200,6 +200,14 @@ module _ {M : Type 1} {𝓤 : URA M} {H : Heap 𝓤} {A : Atoms 𝓤} {K : Type 
           → Step K W (put 𝓤 H A n (‵ (fat fullShare (spotOf 𝓤 H E i .0) (spotOf 𝓤 H E i .1) zero v)) Γ) (runs C Λ E rest q) Γ (runs C Λ E (seq (assign (place i []) rv) rest) q)
       sets t n e r wt = assigns t r (from t (stop t)) (init t n e wt)
 
+      -- the same, with the value in other words
+      pub sets-as : K → (n : ℕ) {rv : RValue} {v w : Val} → nth 𝓤 H A n Γ ≡ ‵ (froom (spotOf 𝓤 H E i .0) (spotOf 𝓤 H E i .1) zero) → Rv K W Γ E rv v
+          → T (hasTy (spotOf 𝓤 H E i .0) v) × WT v → v ≡ w
+          → Step K W (put 𝓤 H A n (‵ (fat fullShare (spotOf 𝓤 H E i .0) (spotOf 𝓤 H E i .1) zero w)) Γ) (runs C Λ E rest q) Γ (runs C Λ E (seq (assign (place i []) rv) rest) q)
+      sets-as t n {rv} e r wt is =
+          subst (λ (u : Val). Step K W (put 𝓤 H A n (‵ (fat fullShare (spotOf 𝓤 H E i .0) (spotOf 𝓤 H E i .1) zero u)) Γ) (runs C Λ E rest q) Γ (runs C Λ E (seq (assign (place i []) rv) rest) q)) is
+          (sets t n e r wt)
+
       pub lands-as : K → (n : ℕ) {v w : Val} → nth 𝓤 H A n Γ ≡ ‵ (froom (spotOf 𝓤 H E i .0) (spotOf 𝓤 H E i .1) zero) → T (hasTy (spotOf 𝓤 H E i .0) v) × WT v → v ≡ w
           → Step K W (put 𝓤 H A n (‵ (fat fullShare (spotOf 𝓤 H E i .0) (spotOf 𝓤 H E i .1) zero w)) Γ) (runs C Λ E rest q) Γ (lands C Λ E (place i []) v rest q)
       lands-as t n {v} {w} e wt is =
@@ -212,6 +220,13 @@ module _ {M : Type 1} {𝓤 : URA M} {H : Heap 𝓤} {A : Atoms 𝓤} {K : Type 
           → Step K W (put 𝓤 H A n (‵ (fat fullShare (spotOf 𝓤 H E i .0) (spotOf 𝓤 H E i .1) zero (LL.val D L d))) Γ) (runs C Λ E rest q) Γ (lands C Λ E (place i []) v rest q)
       lands-struct t n D L d {v} m e is =
           lands-as t n e (subst (λ (τs : List Ty). Typed τs (v ∷ [])) m (LL.lawful D L 𝓤 H A W .typed d (v ∷ []) is) .0) (ap only (LL.tells D L d (v ∷ []) is))
+
+      -- a word's
+      pub lands-word : K → (n : ℕ) (m : ℕ) {v : Val} → spotOf 𝓤 H E i .0 ≡ tyInt w64 → nth 𝓤 H A n Γ ≡ ‵ (froom (spotOf 𝓤 H E i .0) (spotOf 𝓤 H E i .1) zero)
+          → Is (UInt w64) m (v ∷ [])
+          → Step K W (put 𝓤 H A n (‵ (fat fullShare (spotOf 𝓤 H E i .0) (spotOf 𝓤 H E i .1) zero (vint w64 m))) Γ) (runs C Λ E rest q) Γ (lands C Λ E (place i []) v rest q)
+      lands-word t n m {v} τ e is =
+          lands-as t n e (subst (λ (ρ : Ty). T (hasTy ρ v) × WT v) (sym τ) (uint-lawful 𝓤 H A W w64 .typed m (v ∷ []) is .0)) (ap only (uint-tells w64 m (v ∷ []) is))
 
 -- ---- what is had for nothing
 -- a value's relation holds at the machine value that its type spells
