@@ -147,7 +147,7 @@ module _ {M : Type 1} {𝓤 : URA M} {H : Heap 𝓤} {A : Atoms 𝓤} {K : Type 
 
 -- ---- operands and statements
 -- a word, and a count of a slice, that fits its type
-pub word-typed : {n : ℕ} → n < 2 ^ 64 → Unit {0} × Fits w64 n
+pub word-typed : {w : Width} {n : ℕ} → n < 2 ^ bits w → Unit {0} × Fits w n
 word-typed h = (tt, record { fits = h })
 
 pub slice-typed : {n : ℕ} → n < 2 ^ 64 → Unit {0} × (Unit {0} × (Fits w64 n × Unit {0}))
