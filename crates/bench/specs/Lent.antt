@@ -14,6 +14,7 @@ use Rattle.table.specs.declared.Stepped.{Stepped}
 use Rattle.table.specs.declared.Table.{Table}
 use Rattle.table.specs.Step.{stepOf}
 use Rattle.format.specs.declared.Wrote.{Wrote}
+use Rattle.format.specs.Load.{loadOf}
 use Rattle.format.specs.Write.{wroteOf, writtenOf}
 use Rattle.entry.specs.declared.Rest.{Rest}
 use Rattle.entry.specs.Entry.{startStep, restOf}
@@ -46,6 +47,9 @@ lentStep t ys n a = stepOf t (lent ys n) (length ys) a
 
 abbrev pub lentStart : Table → List Message → ℕ → ℕ → ℕ → List ℕ → ℕ → Stepped
 lentStart t ys n m l ids a = startStep t (lent ys n) (length ys) m l ids a
+
+abbrev pub lentLoad : List ℕ → Table → List Message → ℕ → Stepped
+lentLoad bs t ys n = loadOf bs t (lent ys n) (length ys)
 
 abbrev pub lentRest : Table → List Message → ℕ → Rest
 lentRest t ys n = restOf t (lent ys n) (length ys)
