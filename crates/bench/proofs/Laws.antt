@@ -11,7 +11,11 @@ use borrow.Author.Tests.{eqb-true, eq-eqb}
 use lib.ListN.{length, getD, set, length-set}
 use lib.Seq.{getD-set-same, getD-set-other, ext-getD}
 use mathlib.Core.Bool.{cond}
-use Rattle.bench.specs.Lent.{placesOf}
+use Rattle.rules.specs.declared.Message.{Message}
+use Rattle.rules.specs.declared.Pool.{Pool}
+use Rattle.table.specs.declared.Stepped.{Stepped}
+use Rattle.bench.specs.declared.Reply.{Reply}
+use Rattle.bench.specs.Lent.{lent, placesOf, givenOf, replyOf, Handed}
 
 -- how many places are copied, of a list of n
 abbrev pub Either : ℕ → ℕ → Type 0
@@ -51,3 +55,10 @@ module _ {A : Type 0} (d : A) where
   pub copied-done : (src dst rest : List A) (n k i : ℕ) → Either n k → k ≤ i → i ≤ k → (n ≡ 256 → length src ≡ 256) → (n ≡ 256 → length dst ≡ 256) → Copied d src dst i → (i ≡ 0 → dst ≡ rest) → dst ≡ cond (eqb n 256) src rest
   copied-done src dst rest n k i (inl h) l m s t c z = ext-getD d dst src (t (h .1) ∙ sym (s (h .1))) (λ j w. c .same j (omega (arith, h .0, t (h .1)))) ∙ sym (ap (λ (b : Bool). cond b src rest) (eq-eqb n 256 (h .1)))
   copied-done src dst rest n k i (inr h) l m s t c z = z (omega (arith, h .0)) ∙ sym (ap (λ (b : Bool). cond b src rest) (h .1))
+
+-- what the caller has, where the core f was given the pool that its list holds
+pub handed : (f : Pool → Stepped) (ys zs : List Message) (n : ℕ) (p : Pool) (g : Stepped) (r : Reply)
+    → p ≡ lent ys n → g ≡ f p → zs ≡ givenOf ys (g .pool .places) → r ≡ replyOf g → Handed (f (lent ys n)) ys zs r
+handed f ys zs n p g r ep eg ez er =
+    let e : g ≡ f (lent ys n) = eg ∙ ap f ep in
+    (er ∙ ap replyOf e, ez ∙ ap (λ (x : Stepped). givenOf ys (x .pool .places)) e)

@@ -1,7 +1,9 @@
 // The bench as a caller has it: a table by value, and the waiting messages in a list that the caller lends, with their count. Each function copies the
 // list in, lets the core do the work on values, and copies the list back; its reply and what the list then holds are stated for every input.
 ghost use mathlib.Core.Path.{_≡_};
-ghost use Rattle.bench.specs.Lent.{poolOf, blanks, placesOf, takenOf, givenOf, replyOf, lentStep, Handed};
+ghost use Rattle.bench.specs.Lent.{poolOf, blanks, placesOf, takenOf, givenOf, replyOf, lentStep, lentStart, lentRest, lentLoad, Handed, Filed};
+use entry::Rest;
+use format::Wrote;
 use rules::Action;
 use rules::Answer;
 use rules::Message;
@@ -82,4 +84,46 @@ pub fn step(table: Table, pool: &mut [Message], count: usize, action: Action) ->
     let g = step::step(table, x, len, action);
     give_back(pool, g.pool);
     replied(g)
+}
+
+// The start, with no messages: 10 for a list without 256 places, then 8 or 10 as the start says. A refusal changes nothing.
+pub fn start(table: Table, pool: &mut [Message], count: usize, m: u32, l: u32, ids: &[u32], a: u64) -> Reply
+    ensures { λ r. ⌜ Handed (lentStart table (now (pool .entry)) count m l (now (ids .entry)) a) (now (pool .entry)) (now (pool .exit)) r ⌝ }
+{
+    let len = pool.len();
+    let x = take_in(pool, count);
+    let g = entry::start(table, x, len, m, l, ids, a);
+    give_back(pool, g.pool);
+    replied(g)
+}
+
+// Is the table settled? 10 for an invalid table or a list without 256 places.
+pub fn settled(table: Table, pool: &[Message], count: usize) -> Rest
+    ensures { λ r. ⌜ r ≡ lentRest table (now (pool .entry)) count ⌝ }
+{
+    let len = pool.len();
+    let x = take_in(pool, count);
+    entry::settled(table, x, len)
+}
+
+// Reads a table file into the table and the list: 7 to 9, then 10 for a list without 256 places, then 10 for records that break validity. A refusal
+// changes nothing.
+pub fn load(file: &[u8], table: Table, pool: &mut [Message], count: usize) -> Reply
+    ensures { λ r. ⌜ Handed (lentLoad (now (file .entry)) table (now (pool .entry)) count) (now (pool .entry)) (now (pool .exit)) r ⌝ }
+{
+    let len = pool.len();
+    let x = take_in(pool, count);
+    let g = reader::load(file, table, x, len);
+    give_back(pool, g.pool);
+    replied(g)
+}
+
+// Writes the table file into the first bytes of a buffer, and tells how many. 10 for an invalid table or a list without 256 places, then 11 for a
+// buffer that is too small. A refusal leaves the buffer as it is.
+pub fn write(table: Table, pool: &[Message], count: usize, buf: &mut [u8]) -> Wrote
+    ensures { λ r. ⌜ Filed table (now (pool .entry)) count (now (buf .entry)) (now (buf .exit)) r ⌝ }
+{
+    let len = pool.len();
+    let x = take_in(pool, count);
+    writer::write(table, x, len, buf)
 }
