@@ -47,7 +47,7 @@ use Rattle.demand.specs.Tracks.{planAt}
 use Rattle.demand.specs.Routings.{nearerListed, hop-nearer, nearer-falls, nearer-few}
 use Rattle.listing.specs.declared.Trip.{Trip}
 use Rattle.listing.specs.declared.Turn.{Turn}
-use Rattle.listing.specs.declared.Turn.the-variants.{Ends, Goes}
+use Rattle.listing.specs.declared.Turn.the-variants.{Delivers, Stops, Goes}
 use Rattle.listing.specs.Trip.{ended, tripBy, tripOf, followOf}
 
 -- ---- a lookup that waits alone
@@ -93,25 +93,28 @@ taken t m = stepOf t (only m) 256 (Take 0)
 -- what a node does with a lookup of k, by the rules
 abbrev pub turnBy : Hop → Turn
 turnBy (To h) = Goes h
-turnBy NoRoute = Ends Nothing
+turnBy NoRoute = Stops
 
--- not ready: it ends there; covered: delivered; else on to the next hop, or no legal route
+-- not ready: it stops there; covered: delivered; else on to the next hop, or no legal route
 unfoldable pub turnOf : Ring → List ℕ → ℕ → ℕ → Node → ℕ → Turn
 turnOf g ids dead i v k =
-    cond (not (isReady (v .status))) (Ends Nothing) (cond (coversOf g ids i (sidesOf v) k) (Ends (At i)) (turnBy (nextHop g ids dead i v k)))
+    cond (not (isReady (v .status))) Stops (cond (coversOf g ids i (sidesOf v) k) Delivers (turnBy (nextHop g ids dead i v k)))
 
 abbrev pub turnAt : Table → ℕ → ℕ → Turn
 turnAt t k i = turnOf (ringOf t) (idsOf t) (deadSet t) i (nodeAt t i) k
 
 -- and by the step; the table stays as it was
 pub data Does (t : Table) (m : Message) : Turn → Type 0 where
-  stops : taken t m ≡ refusedOf t (only m) no.Status → Does t m (Ends Nothing)
-  delivers : taken t m ≡ doneOf t (laid []) → Does t m (Ends (At (m .dest)))
-  strands : taken t m ≡ doneOf t (only (placed (noLegalRoute (m .word)) (m .dest))) → Does t m (Ends Nothing)
+  stops : taken t m ≡ refusedOf t (only m) no.Status → Does t m Stops
+  delivers : taken t m ≡ doneOf t (laid []) → Does t m Delivers
+  strands : taken t m ≡ doneOf t (only (placed (noLegalRoute (m .word)) (m .dest))) → Does t m Stops
   routes : (h : ℕ) → hopAt t (m .dest) (m .word) ≡ To h → taken t m ≡ doneOf t (only (placed (lookup (m .word)) h)) → Does t m (Goes h)
 
-no-turn : {e : Found} {h : ℕ} → Ends e ≡ Goes h → ⊥
-no-turn q = let z : _≡_ {A = ℕ} 0 1 = cc in omega arith
+stops-goes : {h : ℕ} → Stops ≡ Goes h → ⊥
+stops-goes q = let z : _≡_ {A = ℕ} 0 1 = cc in omega arith
+
+delivers-goes : {h : ℕ} → Delivers ≡ Goes h → ⊥
+delivers-goes q = let z : _≡_ {A = ℕ} 0 1 = cc in omega arith
 
 added-first : (m : Message) → added [] m ≡ m ∷ []
 unfolding added firstEqual firstFrom
@@ -132,13 +135,12 @@ module _ {t : Table} {m : Message} (l : Lone t m) where
       hop r c NoRoute e = strands (take-is ∙ rw (r, c, e, mailed-send, added-first, set-getD))
 
       covers : isReady (nodeAt t (m .dest) .status) ≡ true → (b : Bool) → coversAt t (m .dest) (m .word) ≡ b
-          → Does t m (cond b (Ends (At (m .dest))) (turnBy (hopAt t (m .dest) (m .word))))
+          → Does t m (cond b Delivers (turnBy (hopAt t (m .dest) (m .word))))
       covers r true c = delivers (take-is ∙ rw (r, c, mailed-quiet, set-getD))
       covers r false c = hop r c (hopAt t (m .dest) (m .word)) refl
 
       ready : (b : Bool) → isReady (nodeAt t (m .dest) .status) ≡ b
-          → Does t m (cond (not b) (Ends Nothing)
-          (cond (coversAt t (m .dest) (m .word)) (Ends (At (m .dest))) (turnBy (hopAt t (m .dest) (m .word)))))
+          → Does t m (cond (not b) Stops (cond (coversAt t (m .dest) (m .word)) Delivers (turnBy (hopAt t (m .dest) (m .word)))))
       ready true r = covers r (coversAt t (m .dest) (m .word)) refl
       ready false r = stops (take-is ∙ rw r)
 
@@ -177,31 +179,32 @@ module _ {t : Table} {m : Message} (l : Lone t m) where
     where
       hop : (x : Hop) → hopAt t i k ≡ x → turnBy x ≡ Goes h → h < t .n
       hop (To j) e q = let d : j ≡ h = cc in rw d at (hop-nearer lone-sound k i j b e .0)
-      hop NoRoute e q = absurd (no-turn q)
+      hop NoRoute e q = absurd (stops-goes q)
 
-      covers : (c : Bool) → cond c (Ends (At i)) (turnBy (hopAt t i k)) ≡ Goes h → h < t .n
-      covers true q = absurd (no-turn q)
+      covers : (c : Bool) → cond c Delivers (turnBy (hopAt t i k)) ≡ Goes h → h < t .n
+      covers true q = absurd (delivers-goes q)
       covers false q = hop (hopAt t i k) refl q
 
-      ready : (r : Bool) → cond (not r) (Ends Nothing) (cond (coversAt t i k) (Ends (At i)) (turnBy (hopAt t i k))) ≡ Goes h → h < t .n
+      ready : (r : Bool) → cond (not r) Stops (cond (coversAt t i k) Delivers (turnBy (hopAt t i k))) ≡ Goes h → h < t .n
       ready true q = covers (coversAt t i k) q
-      ready false q = absurd (no-turn q)
+      ready false q = absurd (stops-goes q)
 
 -- ---- following by the rules alone
 
--- it ends, or goes on from another slot
-abbrev pub onward : Turn → ℕ → (ℕ → Trip) → Trip
-onward (Ends end) hops rest = ended end hops
-onward (Goes h) hops rest = rest h
+-- it ends at slot i, delivered or not, or goes on from another slot
+abbrev pub onward : Turn → ℕ → ℕ → (ℕ → Trip) → Trip
+onward Delivers i hops rest = ended (At i) hops
+onward Stops i hops rest = ended Nothing hops
+onward (Goes h) i hops rest = rest h
 
 -- with at most so many takes, from slot i
 unfoldable pub followTo : ℕ → Table → ℕ → ℕ → ℕ → Trip
 followTo zero t k i hops = ended Nothing hops
-followTo (suc takes) t k i hops = onward (turnAt t k i) hops (λ h. followTo takes t k h (hops + 1))
+followTo (suc takes) t k i hops = onward (turnAt t k i) i hops (λ h. followTo takes t k h (hops + 1))
 
 -- one turn of 64, and none
 pub turn : (t : Table) (k i hops : ℕ) → hops < 64
-    → followTo (64 - hops) t k i hops ≡ onward (turnAt t k i) hops (λ h. followTo (64 - (hops + 1)) t k h (hops + 1))
+    → followTo (64 - hops) t k i hops ≡ onward (turnAt t k i) i hops (λ h. followTo (64 - (hops + 1)) t k h (hops + 1))
 unfolding followTo
 turn t k i hops h = let e : 64 - hops ≡ suc (64 - (hops + 1)) = omega arith in rw e
 
@@ -218,7 +221,7 @@ trip-is (suc n) {t} {m} l hops = go (turnAt t (m .word) (m .dest)) (does l) (λ 
     go : (x : Turn) → Does t m x
         → ((h : ℕ) → hopAt t (m .dest) (m .word) ≡ To h
         → tripOf n t (only (placed (lookup (m .word)) h)) (hops + 1) ≡ followTo n t (m .word) h (hops + 1))
-        → tripOf (suc n) t (only m) hops ≡ onward x hops (λ h. followTo n t (m .word) h (hops + 1))
+        → tripOf (suc n) t (only m) hops ≡ onward x (m .dest) hops (λ h. followTo n t (m .word) h (hops + 1))
     go x (stops s) on = rw s
     go x (delivers s) on = rw s
     go x (strands s) on = rw s

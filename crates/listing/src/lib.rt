@@ -32,9 +32,10 @@ pub struct Trip {
     pub hops: usize,
 }
 
-// What a node does with a lookup that it takes: it ends there, delivered or not, or goes on to another slot.
+// What a node does with a lookup that it takes: delivers it, stops it (it is not ready, or there is no legal route), or routes it to another slot.
 pub enum Turn {
-    Ends(Found),
+    Delivers,
+    Stops,
     Goes(usize),
 }
 
@@ -45,15 +46,16 @@ pub fn turn_at(g: Ring, ids: &[u32; 64], dead: u64, i: usize, v: Node, k: u32) -
 {
     let st = v.status;
     if !parts::is_ready(st) {
-        return Turn::Ends(Found::Nothing);
+        return Turn::Stops;
     }
     if leaf::covers(g, ids, i, parts::sides_of(v), k) {
-        return Turn::Ends(Found::At(i));
+        return Turn::Delivers;
     }
-    let Hop::To(h) = hop::next_hop(g, ids, dead, i, v, k) else {
-        return Turn::Ends(Found::Nothing);
-    };
-    Turn::Goes(h)
+    let next = hop::next_hop(g, ids, dead, i, v, k);
+    match next {
+        Hop::To(h) => Turn::Goes(h),
+        Hop::NoRoute => Turn::Stops,
+    }
 }
 
 // Follows a lookup as the only message of the table, with no other step: by the rules alone, with no pool and no test of validity at each hop.
@@ -65,13 +67,25 @@ pub fn follow(t: Table, m: Message) -> Trip
     let ids = table::ids(t);
     let dead = settled::dead_set(t);
     let k = m.word;
-    let mut i = m.dest as usize;
+    let from = m.dest as usize;
+    let mut i = from;
     let mut hops: usize = 0;
     while hops < 64 {
         let v = t.nodes[i];
-        let next = turn_at(g, &ids, dead, i, v, k);
-        match next {
-            Turn::Ends(end) => return Trip { end, hops },
+        let turn = turn_at(g, &ids, dead, i, v, k);
+        match turn {
+            Turn::Delivers => {
+                return Trip {
+                    end: Found::At(i),
+                    hops,
+                };
+            }
+            Turn::Stops => {
+                return Trip {
+                    end: Found::Nothing,
+                    hops,
+                };
+            }
             Turn::Goes(h) => {
                 i = h;
                 hops += 1;

@@ -12,10 +12,10 @@ use Rattle.listing.proofs.follow.Statement.{statement}
 use Rattle.listing.proofs.follow.Tie as tie
 
 abbrev Inv-loop : tie.InvT-loop
-Inv-loop t g ids dead k i₀ hops₀ i hops = (hops ≤ 64) × (i < t .n) × (followTo (64 - hops) t k i hops ≡ followTo 64 t k i₀ hops₀)
+Inv-loop t g ids dead k from i₀ hops₀ i hops = (hops ≤ 64) × (i < t .n) × (followTo (64 - hops) t k i hops ≡ followTo 64 t k i₀ hops₀)
 
 abbrev μ-loop : tie.MeasureT-loop
-μ-loop t g ids dead k i₀ hops₀ i hops = 64 - hops
+μ-loop t g ids dead k from i₀ hops₀ i hops = 64 - hops
 
 same-turn : {g h : Ring} {ids js : List ℕ} {dead gone : ℕ} (i : ℕ) (v : Node) (k : ℕ) → g ≡ h → ids ≡ js → dead ≡ gone
     → turnOf g ids dead i v k ≡ turnOf h js gone i v k
@@ -41,8 +41,8 @@ ids-requires c κs = search needs
 dead-set-requires : tie.Need-dead-set-requires Inv-loop μ-loop
 dead-set-requires c κs = lone-listed (c .before .before .pre) .n-high
 
-cast-i : tie.Need-cast-i Inv-loop μ-loop
-cast-i c = search needs
+cast-from : tie.Need-cast-from Inv-loop μ-loop
+cast-from c = search needs
 
 loop-holds : tie.Need-loop-holds Inv-loop μ-loop
 loop-holds c = (omega arith, lone-slot (c .before .before .before .before .pre), refl)
@@ -61,19 +61,30 @@ turn-at-requires c κs =
     rw (d .before .ids .ensures, d .before .before .ring-of .ensures)
     (lone-listed pre, omega (arith, lone-listed pre .n-high), lone-key pre)
 
-enum-known-next : tie.Need-enum-known-next Inv-loop μ-loop
-enum-known-next c = search needs
+enum-told : tie.Need-enum-told Inv-loop μ-loop
+enum-told c = search needs
 
 returns : tie.Need-returns Inv-loop μ-loop
 returns c =
-    let w = c .before .before .before in
+    let w = c .before .before in
     let l = w .before .before .before .before in
     let a = start l .args in
     sym (follow-is (start l .pre) ∙ sym (l .loop .inv .2) ∙ turn (a .t1) (a .m .word) (l .loop .i) (l .loop .hops) (omega arith)
-    ∙ rw (← told w, c .before .next .given .1))
+    ∙ rw (← told w, c .enum-told .given .1))
 
-enum-known-next-2 : tie.Need-enum-known-next-2 Inv-loop μ-loop
-enum-known-next-2 c = search needs
+enum-told-2 : tie.Need-enum-told-2 Inv-loop μ-loop
+enum-told-2 c = search needs
+
+returns-2 : tie.Need-returns-2 Inv-loop μ-loop
+returns-2 c =
+    let w = c .before .before in
+    let l = w .before .before .before .before in
+    let a = start l .args in
+    sym (follow-is (start l .pre) ∙ sym (l .loop .inv .2) ∙ turn (a .t1) (a .m .word) (l .loop .i) (l .loop .hops) (omega arith)
+    ∙ rw (← told w, c .enum-told2 .given .1))
+
+enum-known-turn : tie.Need-enum-known-turn Inv-loop μ-loop
+enum-known-turn c = search needs
 
 add-hops : tie.Need-add-hops Inv-loop μ-loop
 add-hops c = search needs
@@ -86,14 +97,14 @@ loop-again c =
     let w = c .before .before .before in
     let l = w .before .before .before .before in
     let a = start l .args in
-    let goes = sym (told w) ∙ c .before .next2 .given .1 in (
+    let goes = sym (told w) ∙ c .before .turn .given .1 in (
       omega arith,
       lone-goes (start l .pre) (a .m .word) (l .loop .i) _ (l .loop .inv .1) goes,
       sym (turn (a .t1) (a .m .word) (l .loop .i) (l .loop .hops) (omega arith) ∙ rw goes) ∙ l .loop .inv .2,
     )
 
-returns-2 : tie.Need-returns-2 Inv-loop μ-loop
-returns-2 c =
+returns-3 : tie.Need-returns-3 Inv-loop μ-loop
+returns-3 c =
     let l = c .before in
     let a = start l .args in
     sym (follow-is (start l .pre) ∙ sym (l .loop .inv .2) ∙ turn-none (a .t1) (a .m .word) (l .loop .i) (l .loop .hops) (omega arith))
@@ -107,15 +118,17 @@ follow-spec =
     ring-of-requires
     ids-requires
     dead-set-requires
-    cast-i
+    cast-from
     loop-holds
     mul-v
     element-copy-out-v
     turn-at-requires
-    enum-known-next
+    enum-told
     returns
-    enum-known-next-2
+    enum-told-2
+    returns-2
+    enum-known-turn
     add-hops
     loop-less
     loop-again
-    returns-2)
+    returns-3)

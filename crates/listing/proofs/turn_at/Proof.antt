@@ -26,8 +26,8 @@ returns-2 c =
 next-hop-requires : tie.Need-next-hop-requires
 next-hop-requires c κs = search needs
 
-enum-known-h : tie.Need-enum-known-h
-enum-known-h c = search needs
+enum-known-next : tie.Need-enum-known-next
+enum-known-next c = search needs
 
 enum-told : tie.Need-enum-told
 enum-told c = search needs
@@ -35,20 +35,20 @@ enum-told c = search needs
 returns-3 : tie.Need-returns-3
 unfolding turnOf
 returns-3 c =
+    let n = c .before .before .before in
+    let d = n .before in
+    let b = d .before .before .before in
+    rw (← b .before .is-ready .ensures, b .if1 .left, ← d .before .before .sides-of .ensures, ← d .before .covers .ensures, d .if2 .left)
+    (rw (← n .next-hop .ensures, c .before .next .given .1))
+
+returns-4 : tie.Need-returns-4
+unfolding turnOf
+returns-4 c =
     let n = c .before .before in
     let d = n .before in
     let b = d .before .before .before in
     rw (← b .before .is-ready .ensures, b .if1 .left, ← d .before .before .sides-of .ensures, ← d .before .covers .ensures, d .if2 .left)
     (rw (← n .next-hop .ensures, c .enum-told .given .1))
-
-returns-4 : tie.Need-returns-4
-unfolding turnOf
-returns-4 c =
-    let n = c .before .before .before in
-    let d = n .before in
-    let b = d .before .before .before in
-    rw (← b .before .is-ready .ensures, b .if1 .left, ← d .before .before .sides-of .ensures, ← d .before .covers .ensures, d .if2 .left)
-    (rw (← n .next-hop .ensures, c .before .h .given .1))
 
 pub turn-at-spec : {M : Type 1} → statement M
 turn-at-spec =
@@ -60,7 +60,7 @@ turn-at-spec =
     covers-requires
     returns-2
     next-hop-requires
-    enum-known-h
+    enum-known-next
     enum-told
     returns-3
     returns-4)
