@@ -1,16 +1,16 @@
--- Laws for a loop that copies a list, one element a turn, where the list is of the right length, and nothing where not.
+-- Laws of the copying loops: one element a turn where the list has 256, and nothing where not. And what the caller has once the core is done.
+-- Assumes nothing.
 use Prim.Native.Nat.{ℕ, _+_, _<_, _≤_}
 use mathlib.Core.Path.{_≡_, refl, sym, _∙_, ap}
-use mathlib.Core.Bool.{Bool, true, false}
+use mathlib.Core.Bool.{Bool, true, false, cond}
 use mathlib.Core.Logic.{_⊎_, inl, inr}
 use mathlib.Core.List.{List}
 use native.Mathlib.Omega.{arith}
 use lib.Dec.{eqb}
 use borrow.Author.Count.{below-more}
 use borrow.Author.Tests.{eqb-true, eq-eqb}
-use lib.ListN.{length, getD, set, length-set}
+use lib.ListN.{length, getD, set}
 use lib.Seq.{getD-set-same, getD-set-other, ext-getD}
-use mathlib.Core.Bool.{cond}
 use Rattle.rules.specs.declared.Message.{Message}
 use Rattle.rules.specs.declared.Pool.{Pool}
 use Rattle.table.specs.declared.Stepped.{Stepped}
@@ -32,10 +32,6 @@ pub within : (n k i : ℕ) → Either n k → i < k → (i < n) × (i < 256)
 within n k i (inl h) l = (omega (arith, h .0, h .1), omega (arith, h .0))
 within n k i (inr h) l = absurd (omega (arith, h .0))
 
-pub at-most : (n k : ℕ) → Either n k → k ≤ 256
-at-most n k (inl h) = omega (arith, h .0)
-at-most n k (inr h) = omega (arith, h .0)
-
 -- the first i of dst are those of src
 pub record Copied {A : Type 0} (d : A) (src dst : List A) (i : ℕ) : Type 0 where
   pub same : (k : ℕ) → k < i → getD dst k d ≡ getD src k d
@@ -52,9 +48,13 @@ module _ {A : Type 0} (d : A) where
   }
 
   -- the loop is done: all is copied, or nothing was
-  pub copied-done : (src dst rest : List A) (n k i : ℕ) → Either n k → k ≤ i → i ≤ k → (n ≡ 256 → length src ≡ 256) → (n ≡ 256 → length dst ≡ 256) → Copied d src dst i → (i ≡ 0 → dst ≡ rest) → dst ≡ cond (eqb n 256) src rest
-  copied-done src dst rest n k i (inl h) l m s t c z = ext-getD d dst src (t (h .1) ∙ sym (s (h .1))) (λ j w. c .same j (omega (arith, h .0, t (h .1)))) ∙ sym (ap (λ (b : Bool). cond b src rest) (eq-eqb n 256 (h .1)))
-  copied-done src dst rest n k i (inr h) l m s t c z = z (omega (arith, h .0)) ∙ sym (ap (λ (b : Bool). cond b src rest) (h .1))
+  module _ (src dst rest : List A) (n k i : ℕ) where
+    pub copied-done : Either n k → k ≤ i → i ≤ k → (n ≡ 256 → length src ≡ 256) → (n ≡ 256 → length dst ≡ 256) → Copied d src dst i → (i ≡ 0 → dst ≡ rest)
+        → dst ≡ cond (eqb n 256) src rest
+    copied-done (inl h) l m s t c z =
+        ext-getD d dst src (t (h .1) ∙ sym (s (h .1))) (λ j w. c .same j (omega (arith, h .0, t (h .1))))
+        ∙ sym (ap (λ (b : Bool). cond b src rest) (eq-eqb n 256 (h .1)))
+    copied-done (inr h) l m s t c z = z (omega (arith, h .0)) ∙ sym (ap (λ (b : Bool). cond b src rest) (h .1))
 
 -- what the caller has, where the core f was given the pool that its list holds
 pub handed : (f : Pool → Stepped) (ys zs : List Message) (n : ℕ) (p : Pool) (g : Stepped) (r : Reply)
