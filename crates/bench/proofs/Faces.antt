@@ -138,8 +138,8 @@ module _ {M : Type 1} {𝓤 : URA M} {H : Heap 𝓤} {A : Atoms 𝓤} {K : Type 
   pub takes-in : K → (mem : Memory → SProp 𝓤) (run : Routine → Fun 𝓤) → FmC 𝓤 H (W .laws) C → Triple 𝓤 (C #take-in) (TakeIn 𝓤 H A mem run)
       → (ℓ : Lifetime) (κ : Lft) (q : Share) (γ : GName) (b o : ℕ) (ys : List Message) (n : ℕ) → n < 2 ^ 64 → Room T.the-row (length ys)
       → ((ν : ℕ) (δ : GName)
-        → Opds K W (raw (TakeIn 𝓤 H A mem run .pre (to-take 𝓤 H A mem run b o ys (ν ∷ []) fullShare δ n)) ∷ ‵ (Kept T.the-row κ (ν ∷ []) q γ b o ys) ∷ Γ) E xs
-          (slice-at b o ys ∷ vint w64 n ∷ []))
+      → Opds K W (raw (TakeIn 𝓤 H A mem run .pre (to-take 𝓤 H A mem run b o ys (ν ∷ []) fullShare δ n)) ∷ ‵ (Kept T.the-row κ (ν ∷ []) q γ b o ys) ∷ Γ) E xs
+      (slice-at b o ys ∷ vint w64 n ∷ []))
       → ((v : Val) (p : Pool) → p ≡ lent ys n → Is P.the-row p (v ∷ []) → Seq K W (‵ (Mut ℓ κ b o ys γ ys) ∷ ‵ (flft κ q) ∷ Γ) (lands C Λ E d v rest Q))
       → Seq K W (‵ (Mut ℓ κ b o ys γ ys) ∷ ‵ (flft κ q) ∷ Γ) (runs C Λ E (seq (call #take-in xs d) rest) Q)
   takes-in t mem run fm known ℓ κ q γ b o ys n fits room os k =
@@ -171,10 +171,10 @@ module _ {M : Type 1} {𝓤 : URA M} {H : Heap 𝓤} {A : Atoms 𝓤} {K : Type 
   pub gives-back : K → (mem : Memory → SProp 𝓤) (run : Routine → Fun 𝓤) → FmC 𝓤 H (W .laws) C → Triple 𝓤 (C #give-back) (GiveBack 𝓤 H A mem run)
       → (ℓ : Lifetime) (κ : Lft) (q : Share) (γ : GName) (b o : ℕ) (ys : List Message) (p : Pool) → Is P.the-row p (machP p ∷ []) → Room T.the-row (length ys)
       → ((ν : ℕ) (δ : GName)
-        → Opds K W (raw (GiveBack 𝓤 H A mem run .pre (to-give 𝓤 H A mem run b o ys (ν ∷ []) fullShare δ p)) ∷ ‵ (LentAgain T.the-row κ (ν ∷ []) q γ b o δ ys) ∷ Γ) E xs
-          (slice-at b o ys ∷ machP p ∷ []))
+      → Opds K W (raw (GiveBack 𝓤 H A mem run .pre (to-give 𝓤 H A mem run b o ys (ν ∷ []) fullShare δ p)) ∷ ‵ (LentAgain T.the-row κ (ν ∷ []) q γ b o δ ys) ∷ Γ) E xs
+      (slice-at b o ys ∷ machP p ∷ []))
       → ((v : Val) (zs : List Message) → zs ≡ givenOf ys (p .places) → length zs ≡ length ys → Is Nothing tt (v ∷ [])
-        → Seq K W (‵ (Mut ℓ κ b o ys γ zs) ∷ ‵ (flft κ q) ∷ Γ) (lands C Λ E d v rest Q))
+      → Seq K W (‵ (Mut ℓ κ b o ys γ zs) ∷ ‵ (flft κ q) ∷ Γ) (lands C Λ E d v rest Q))
       → Seq K W (‵ (Mut ℓ κ b o ys γ ys) ∷ ‵ (flft κ q) ∷ Γ) (runs C Λ E (seq (call #give-back xs d) rest) Q)
   gives-back t mem run fm known ℓ κ q γ b o ys p ip room os k =
       lft-new t tt (λ μ. move t (1 ∷ 2 ∷ []) $
@@ -188,7 +188,7 @@ module _ {M : Type 1} {𝓤 : URA M} {H : Heap 𝓤} {A : Atoms 𝓤} {K : Type 
       (id⊢ 𝓤 _) $ await t tt $ pick t (λ u. split t $ move t (1 ∷ []) $
       use1 W
       (some (λ (zs : List Message × (Unit {0} × Unit {0})).
-        ‵ (lasts give-back.ended (μ ∷ [], tt) (list-at b o ε ys, (p, tt)) zs) ⊛ raw (fact 𝓤 (zs .0 ≡ givenOf ys (p .places)))))
+      ‵ (lasts give-back.ended (μ ∷ [], tt) (list-at b o ε ys, (p, tt)) zs) ⊛ raw (fact 𝓤 (zs .0 ≡ givenOf ys (p .places)))))
       (id⊢ 𝓤 _) $ pick t (λ zs.
       split t $ move t (1 ∷ []) $ heard t (zs .0 ≡ givenOf ys (p .places)) (λ ez. fsplit t $ fsplit t $ move t (1 ∷ []) $ feqL t (λ lz.
       -- [what it holds at the last; true; the token and the result; what was kept of the loan; …]

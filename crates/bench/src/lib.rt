@@ -87,7 +87,15 @@ pub fn step(table: Table, pool: &mut [Message], count: usize, action: Action) ->
 }
 
 // The start, with no messages: 10 for a list without 256 places, then 8 or 10 as the start says. A refusal changes nothing.
-pub fn start(table: Table, pool: &mut [Message], count: usize, m: u32, l: u32, ids: &[u32], a: u64) -> Reply
+pub fn start(
+    table: Table,
+    pool: &mut [Message],
+    count: usize,
+    m: u32,
+    l: u32,
+    ids: &[u32],
+    a: u64,
+) -> Reply
     ensures { λ r. ⌜ Handed (lentStart table (now (pool .entry)) count m l (now (ids .entry)) a) (now (pool .entry)) (now (pool .exit)) r ⌝ }
 {
     let len = pool.len();

@@ -76,9 +76,16 @@ use Rattle.bench.proofs.load.Statement as stated
 use Rattle.bench.proofs.load.Code as code
 
 abbrev stayed : Stays (f.ended .signature .params) (f.ended .kept)
-stayed =
-    (stay-none-slice (0 ∷ []) tt (plain (λ _. u8)) yes, (stay-none (λ _. B.the-row) yes, (stay-slice (1 ∷ []) tt (plain (λ _. T.the-row)),
-    (stay-none (λ _. usize) yes, tt))))
+stayed = (
+  stay-none-slice (0 ∷ []) tt (plain (λ _. u8)) yes,
+  (
+    stay-none (λ _. B.the-row) yes,
+    (
+      stay-slice (1 ∷ []) tt (plain (λ _. T.the-row)),
+      (stay-none (λ _. usize) yes, tt),
+    ),
+  ),
+)
 
 abbrev machB : Table → Val
 machB = LL.val B.the-type B′.the-laws
@@ -198,9 +205,13 @@ module _ {M : Type 1} (𝓤 : URA M) (H : Heap 𝓤) (A : Atoms 𝓤) (W : Given
 
   meets : Meets 𝓤 H A f.signature (WpFn 𝓤 H (𝓣 .C) (𝓣 .Λ) code.function) (f.spec 𝓤 H A mem run)
   meets =
-      walk-meets 𝓤 H A f.ended stayed W
-      (goes-none-slice 𝓤 H A W 2 (0 ∷ []) tt (plain (λ _. u8)) yes, (goes-none 𝓤 H A W 2 (λ _. B.the-row) yes (λ κs x f. refl),
-      (goes-slice 𝓤 H A W 2 1 tt (plain (λ _. T.the-row)), (goes-none 𝓤 H A W 2 (λ _. usize) yes (λ κs x f. refl), tt))))
+      walk-meets 𝓤 H A f.ended stayed W (
+        goes-none-slice 𝓤 H A W 2 (0 ∷ []) tt (plain (λ _. u8)) yes,
+        (
+          goes-none 𝓤 H A W 2 (λ _. B.the-row) yes (λ κs x f. refl),
+          (goes-slice 𝓤 H A W 2 1 tt (plain (λ _. T.the-row)), (goes-none 𝓤 H A W 2 (λ _. usize) yes (λ κs x f. refl), tt)),
+        ),
+      )
       (f.clauses 𝓤 H A mem run) (WpFn 𝓤 H (𝓣 .C) (𝓣 .Λ) code.function) (WpFn-mono 𝓤 H (W .laws) 𝓣 code.function) walks
 
 pub load-spec : {M : Type 1} → stated.statement M

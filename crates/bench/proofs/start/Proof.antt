@@ -76,9 +76,19 @@ use Rattle.bench.proofs.start.Statement as stated
 use Rattle.bench.proofs.start.Code as code
 
 abbrev stayed : Stays (f.ended .signature .params) (f.ended .kept)
-stayed =
-    (stay-none (λ _. B.the-row) yes, (stay-slice (0 ∷ []) tt (plain (λ _. T.the-row)), (stay-none (λ _. usize) yes, (stay-none (λ _. u32) yes,
-    (stay-none (λ _. u32) yes, (stay-none-slice (1 ∷ []) tt (plain (λ _. u32)) yes, (stay-none (λ _. u64) yes, tt)))))))
+stayed = (
+  stay-none (λ _. B.the-row) yes,
+  (
+    stay-slice (0 ∷ []) tt (plain (λ _. T.the-row)),
+    (
+      stay-none (λ _. usize) yes,
+      (
+        stay-none (λ _. u32) yes,
+        (stay-none (λ _. u32) yes, (stay-none-slice (1 ∷ []) tt (plain (λ _. u32)) yes, (stay-none (λ _. u64) yes, tt))),
+      ),
+    ),
+  ),
+)
 
 abbrev machB : Table → Val
 machB = LL.val B.the-type B′.the-laws
@@ -141,9 +151,16 @@ module _ {M : Type 1} (𝓤 : URA M) (H : Heap 𝓤) (A : Atoms 𝓤) (W : Given
       has-struct ! R.the-type R′.the-plain r _ ir $ done !
 
   abbrev to-core : Pool → Core 𝓤 H A mem run .Ghost
-  to-core p =
-      (((κ₁, tt), (q₁, tt), tt, (t, (p, (length ys, (m, (l, (x₁, (w, tt))))))),
-      (machB t ∷ [], (machP p ∷ [], (vint w64 (length ys) ∷ [], (vint w32 m ∷ [], (vint w32 l ∷ [], (s₁ ∷ [], (vint w64 w ∷ [], tt)))))))), tt)
+  to-core p = (
+    (
+      (κ₁, tt),
+      (q₁, tt),
+      tt,
+      (t, (p, (length ys, (m, (l, (x₁, (w, tt))))))),
+      (machB t ∷ [], (machP p ∷ [], (vint w64 (length ys) ∷ [], (vint w32 m ∷ [], (vint w32 l ∷ [], (s₁ ∷ [], (vint w64 w ∷ [], tt))))))),
+    ),
+    tt,
+  )
 
   goes-core : (p : Pool) → Is P.the-row p (machP p ∷ []) → length ys < 2 ^ 64 → ent 𝓤 (sep 𝓤 (A .lft κ₁ q₁) (sem 𝓤 H A Ids)) (Core 𝓤 H A mem run .pre (to-core p))
   goes-core p ip fits =
@@ -198,8 +215,22 @@ module _ {M : Type 1} (𝓤 : URA M) (H : Heap 𝓤) (A : Atoms 𝓤) (W : Given
   walks =
       walked 𝓤 H A f.ended stayed (f.clauses 𝓤 H A mem run) (WpFn 𝓤 H (𝓣 .C) (𝓣 .Λ) code.function)
       (λ κs. (LL.vals B.the-type B′.the-laws, (slice-vals, (uint-vals w64, (uint-vals w32, (uint-vals w32, (slice-vals, (uint-vals w64, tt))))))))
-      (λ κs. (LL.tells B.the-type B′.the-laws, (mut-slice-tells (named 0) (κs .0) T.the-row, (uint-tells w64, (uint-tells w32, (uint-tells w32,
-      (shr-slice-tells (named 1) (κs .1 .0) u32, (uint-tells w64, tt))))))))
+      (λ κs. (
+        LL.tells B.the-type B′.the-laws,
+        (
+          mut-slice-tells (named 0) (κs .0) T.the-row,
+          (
+            uint-tells w64,
+            (
+              uint-tells w32,
+              (
+                uint-tells w32,
+                (shr-slice-tells (named 1) (κs .1 .0) u32, (uint-tells w64, tt)),
+              ),
+            ),
+          ),
+        ),
+      ))
       (λ κs qs bounds a g are. via 𝓤 _ (fst∗ 𝓤 _ (emp 𝓤))
       (let rest = a .1 .1 .1 in
       let ids = rest .1 .1 .0 in
@@ -211,11 +242,25 @@ module _ {M : Type 1} (𝓤 : URA M) (H : Heap 𝓤) (A : Atoms 𝓤) (W : Given
 
   meets : Meets 𝓤 H A f.signature (WpFn 𝓤 H (𝓣 .C) (𝓣 .Λ) code.function) (f.spec 𝓤 H A mem run)
   meets =
-      walk-meets 𝓤 H A f.ended stayed W
-      (goes-none 𝓤 H A W 2 (λ _. B.the-row) yes (λ κs x f. refl), (goes-slice 𝓤 H A W 2 0 tt (plain (λ _. T.the-row)),
-      (goes-none 𝓤 H A W 2 (λ _. usize) yes (λ κs x f. refl), (goes-none 𝓤 H A W 2 (λ _. u32) yes (λ κs x f. refl),
-      (goes-none 𝓤 H A W 2 (λ _. u32) yes (λ κs x f. refl), (goes-none-slice 𝓤 H A W 2 (1 ∷ []) tt (plain (λ _. u32)) yes,
-      (goes-none 𝓤 H A W 2 (λ _. u64) yes (λ κs x f. refl), tt)))))))
+      walk-meets 𝓤 H A f.ended stayed W (
+        goes-none 𝓤 H A W 2 (λ _. B.the-row) yes (λ κs x f. refl),
+        (
+          goes-slice 𝓤 H A W 2 0 tt (plain (λ _. T.the-row)),
+          (
+            goes-none 𝓤 H A W 2 (λ _. usize) yes (λ κs x f. refl),
+            (
+              goes-none 𝓤 H A W 2 (λ _. u32) yes (λ κs x f. refl),
+              (
+                goes-none 𝓤 H A W 2 (λ _. u32) yes (λ κs x f. refl),
+                (
+                  goes-none-slice 𝓤 H A W 2 (1 ∷ []) tt (plain (λ _. u32)) yes,
+                  (goes-none 𝓤 H A W 2 (λ _. u64) yes (λ κs x f. refl), tt),
+                ),
+              ),
+            ),
+          ),
+        ),
+      )
       (f.clauses 𝓤 H A mem run) (WpFn 𝓤 H (𝓣 .C) (𝓣 .Λ) code.function) (WpFn-mono 𝓤 H (W .laws) 𝓣 code.function) walks
 
 pub start-spec : {M : Type 1} → stated.statement M

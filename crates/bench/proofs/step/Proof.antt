@@ -185,9 +185,13 @@ module _ {M : Type 1} (𝓤 : URA M) (H : Heap 𝓤) (A : Atoms 𝓤) (W : Given
 
   meets : Meets 𝓤 H A f.signature (WpFn 𝓤 H (𝓣 .C) (𝓣 .Λ) code.function) (f.spec 𝓤 H A mem run)
   meets =
-      walk-meets 𝓤 H A f.ended stayed W
-      (goes-none 𝓤 H A W 1 (λ _. B.the-row) yes (λ κs x f. refl), (goes-slice 𝓤 H A W 1 0 tt (plain (λ _. T.the-row)),
-      (goes-none 𝓤 H A W 1 (λ _. usize) yes (λ κs x f. refl), (goes-none 𝓤 H A W 1 (λ _. N.the-row) yes (λ κs x f. refl), tt))))
+      walk-meets 𝓤 H A f.ended stayed W (
+        goes-none 𝓤 H A W 1 (λ _. B.the-row) yes (λ κs x f. refl),
+        (
+          goes-slice 𝓤 H A W 1 0 tt (plain (λ _. T.the-row)),
+          (goes-none 𝓤 H A W 1 (λ _. usize) yes (λ κs x f. refl), (goes-none 𝓤 H A W 1 (λ _. N.the-row) yes (λ κs x f. refl), tt)),
+        ),
+      )
       (f.clauses 𝓤 H A mem run) (WpFn 𝓤 H (𝓣 .C) (𝓣 .Λ) code.function) (WpFn-mono 𝓤 H (W .laws) 𝓣 code.function) walks
 
 pub step-spec : {M : Type 1} → stated.statement M
