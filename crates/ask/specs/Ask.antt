@@ -37,3 +37,13 @@ askNearer m k a b = cond (allInside m (k ∷ a ∷ b ∷ [])) (toldOf (nearer (2
 -- node i with left neighbour l and right neighbour r covers k
 abbrev pub askCovers : ℕ → ℕ → ℕ → ℕ → ℕ → Told
 askCovers m i l r k = cond (allInside m (i ∷ l ∷ r ∷ k ∷ [])) (toldOf (coversKey (2 ^ m) i l r k)) Untold
+
+-- 01's number of each answer: 0, or 1 for what is out of range
+abbrev pub measuredNumber : Measured → ℕ
+measuredNumber OutOfRange = 1
+measuredNumber (Is x) = 0
+
+abbrev pub toldNumber : Told → ℕ
+toldNumber Untold = 1
+toldNumber Yes = 0
+toldNumber No = 0

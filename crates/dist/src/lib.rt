@@ -7,7 +7,7 @@ ghost use Rattle.ring.specs.Order.{rank as rankOf};
 ghost use Rattle.rules.specs.Asks.{Width, Inside};
 
 // The number of ids.
-pub fn size(m: u32) -> u64
+fn size(m: u32) -> u64
     requires { ⌜ Width m ⌝ }
     ensures { λ r. ⌜ r ≡ 2 ^ m ⌝ }
 {
@@ -67,14 +67,14 @@ pub fn nearer(m: u32, k: u32, a: u32, b: u32) -> bool
     rank(m, k, a) < rank(m, k, b)
 }
 
-pub fn left_cover(m: u32, i: u32, l: u32) -> u32
+fn left_cover(m: u32, i: u32, l: u32) -> u32
     requires { ⌜ Inside m i l ⌝ }
     ensures { λ r. ⌜ r ≡ leftCoverOf (2 ^ m) i l ⌝ }
 {
     (((i as u64) + fall(m, l, i) / 2) % size(m)) as u32
 }
 
-pub fn right_cover(m: u32, i: u32, r: u32) -> u32
+fn right_cover(m: u32, i: u32, r: u32) -> u32
     requires { ⌜ Inside m i r ⌝ }
     ensures { λ c. ⌜ c ≡ rightCoverOf (2 ^ m) i r ⌝ }
 {

@@ -20,11 +20,11 @@ unfoldable pub tally : ℕ → (ℕ → Bool) → ℕ
 tally zero f = 0
 tally (suc n) f = tally n f + cond (f n) 1 0
 
--- the least slot below n that passes a test
 abbrev pub orElse : Found → Found → Found
 orElse (At s) other = At s
 orElse Nothing other = other
 
+-- the least slot below n that passes a test
 unfoldable pub firstTo : ℕ → (ℕ → Bool) → Found
 firstTo zero f = Nothing
 firstTo (suc n) f = orElse (firstTo n f) (cond (f n) (At n) Nothing)

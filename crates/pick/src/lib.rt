@@ -7,7 +7,7 @@ use marks::Found;
 use rules::Way;
 
 // Does slot s come before slot b?
-pub fn ahead(w: Way, m: u32, k: u32, ids: &[u32; 64], s: usize, b: usize) -> bool
+fn ahead(w: Way, m: u32, k: u32, ids: &[u32; 64], s: usize, b: usize) -> bool
     requires { ⌜ Keyed m k (now ids) × (s < 64) × (b < 64) ⌝ }
     ensures { λ r. ⌜ r ≡ aheadOf w (2 ^ m) k (now (ids .entry)) s b ⌝ }
 {
@@ -23,7 +23,7 @@ pub fn ahead(w: Way, m: u32, k: u32, ids: &[u32; 64], s: usize, b: usize) -> boo
 }
 
 // Slot s in the place of what was found before, where it comes before it.
-pub fn better(w: Way, m: u32, k: u32, ids: &[u32; 64], found: Found, s: usize) -> Found
+fn better(w: Way, m: u32, k: u32, ids: &[u32; 64], found: Found, s: usize) -> Found
     requires { ⌜ Keyed m k (now ids) × (s < 64) × Below found 64 ⌝ }
     ensures { λ r. ⌜ r ≡ betterOf (aheadOf w (2 ^ m) k (now (ids .entry))) found s ⌝ }
 {

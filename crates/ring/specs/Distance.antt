@@ -6,7 +6,7 @@ use lib.Dec.{leb, ltb, eqb}
 use lib.IntN.{ℤ, pos, negℤ, natAbs, subℕ, _+ℤ_, _-ℤ_}
 use lib.Signed.{ltZ}
 
--- Fall(x, y) = (x - y) mod N
+-- Fall(x, y) = (x - y) mod N, for ids below N
 unfoldable pub fallOf : ℕ → ℕ → ℕ → ℕ
 fallOf N x y = (x + (N - y)) % N
 

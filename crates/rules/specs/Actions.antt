@@ -1,5 +1,5 @@
--- The six actions, in 01's order. Each is refused with the lowest number that applies, or makes a plan for node i. Argument ranges (1) and the pool's size (6)
--- are judged in Step and Plans. Definitions only. Assumes nothing.
+-- The actions, in 01's order; Take is in Take. Each is refused with the lowest number that applies, or makes a plan for node i.
+-- Argument ranges (1) are judged in table's Step, the pool's size (6) in its Settle. Definitions only. Assumes nothing.
 use mathlib.Core.Bool.{Bool, true, false, cond, _&&_, _||_, not}
 use mathlib.Core.List.{List, [], _∷_}
 use Prim.Native.Nat.{ℕ}
@@ -8,6 +8,7 @@ use Rattle.marks.specs.Marks.{has, removeOf, single, without}
 use Rattle.marks.specs.declared.Found.{Found}
 use Rattle.marks.specs.declared.Found.the-variants.{At, Nothing}
 use Rattle.rules.specs.declared.Ring.{Ring}
+use Rattle.rules.specs.declared.Sides.{Sides}
 use Rattle.rules.specs.Leaf.{isEmpty, leftNeighbour, rightNeighbour}
 use Rattle.rules.specs.declared.Status.{Status}
 use Rattle.rules.specs.declared.Status.the-variants as status
@@ -70,9 +71,13 @@ planRequestLease g ids i v =
     (cond (isEmpty (sidesOf v)) (No no.LeafSet)
     (Go (leasePlan g ids i v)))
 
+-- j is the left or the right neighbour of i in the leaf set s
+abbrev pub isBeside : Ring → List ℕ → ℕ → Sides → ℕ → Bool
+isBeside g ids i s j = eqb (leftNeighbour g ids i s) j || eqb (rightNeighbour g ids i s) j
+
 -- j is the left or the right neighbour of i
 unfoldable pub isNeighbour : Ring → List ℕ → ℕ → Node → ℕ → Bool
-isNeighbour g ids i v j = eqb (leftNeighbour g ids i (sidesOf v)) j || eqb (rightNeighbour g ids i (sidesOf v)) j
+isNeighbour g ids i v j = isBeside g ids i (sidesOf v) j
 
 -- LeaseExpired(i, j). 2 unless ok or ready; 5 if i = j or j is not in lease. Removes j; a ready i with j as left or right neighbour becomes ok.
 unfoldable pub planLeaseExpired : Ring → List ℕ → ℕ → Node → ℕ → Planned

@@ -6,7 +6,7 @@ use Rattle.marks.specs.declared.Found.the-variants.{At, Nothing}
 use Rattle.rules.specs.declared.Ring.{Ring}
 use Rattle.rules.specs.Pick.{idAt}
 
--- M from 1 to 32
+-- M from 1 to 32: wider than 01 asks, since the arithmetic holds there too
 pub record Width (m : ℕ) : Type 0 where
   pub low : 1 ≤ m
   pub high : m ≤ 32

@@ -8,6 +8,7 @@ use Rattle.marks.specs.Marks.{gather, tally}
 abbrev pub nearerThan : (ℕ → ℕ) → ℕ → (ℕ → Bool) → ℕ → ℕ
 nearerThan f n ok s = tally n (λ t. ok t && ltb (f t) (f s))
 
--- the at most l nearest of the slots below n that pass: those than which fewer than l are nearer
+-- the at most l nearest of the slots below n that pass: those than which fewer than l are nearer (at most l where the distances differ, as Falls of
+-- distinct ids do)
 unfoldable pub closest : (ℕ → ℕ) → ℕ → ℕ → (ℕ → Bool) → ℕ
 closest f n l ok = gather n (λ s. ok s && ltb (nearerThan f n ok s) l)

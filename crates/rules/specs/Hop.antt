@@ -57,5 +57,6 @@ unfoldable pub routeHop : Ring → List ℕ → ℕ → ℕ → Node → ℕ →
 routeHop g ids dead i v k =
     toFound (best (aheadOf Near (2 ^ g .m) k ids) (λ s. has (routeCandidates dead i v) s && nearerThanOwner g ids i k s) 64)
 
+-- if the sides overlap, or Fall(leftmost, i) ≤ Fall(leftmost, rightmost): by the leaf set; otherwise by content and routing set
 unfoldable pub nextHop : Ring → List ℕ → ℕ → ℕ → Node → ℕ → Hop
 nextHop g ids dead i v k = cond (byLeaf g ids i v) (leafHop g ids dead i v k) (routeHop g ids dead i v k)

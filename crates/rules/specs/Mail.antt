@@ -13,7 +13,7 @@ use Rattle.rules.specs.declared.Pool.{Pool}
 use Rattle.rules.specs.Nodes.{placed}
 use Rattle.rules.specs.Pool.{blank, waiting}
 
--- a message's fields in a row. The hops are no part of it: they are 0 in every valid pool, and equality is to ignore them once they are not.
+-- a message's fields in a row, but for the sixth word: it is 0 in every valid pool, so leaving it out changes nothing
 abbrev pub fieldsOf : Message → List ℕ
 fieldsOf m =
     m .dest ∷ m .kind ∷ m .word ∷ m .flag ∷ m .owner ∷ m .routing ∷ m .left ∷ m .right ∷ m .failed ∷ []

@@ -16,9 +16,10 @@ messageAt p place = getD (p .places) place blank
 abbrev pub waiting : Pool → List Message
 waiting p = take (p .count) (p .places)
 
--- the pool in which exactly these wait: places past the count are blank
+-- 256 places that begin with these; places past the count are blank
 abbrev pub lay : List Message → List Message
 lay xs = xs ++ replicate (256 - length xs) blank
 
+-- the pool in which exactly these wait
 abbrev pub laid : List Message → Pool
 laid xs = record { count = length xs; places = lay xs }

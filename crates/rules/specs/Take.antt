@@ -25,7 +25,7 @@ use Rattle.rules.specs.declared.Planned.{Planned}
 use Rattle.rules.specs.declared.Planned.the-variants.{No, Go}
 use Rattle.rules.specs.Letters.{lookup, joinRequest, joinReply, lsProbe, lsProbeReply, noLegalRoute, broadcastLSet, noSides}
 use Rattle.rules.specs.Plans.{isDead, isWait, isReady, isUp, withLeases, quietPlan, sendPlan}
-use Rattle.rules.specs.Actions.{isNeighbour}
+use Rattle.rules.specs.Actions.{isBeside, isNeighbour}
 
 -- ---- 1 Lookup
 
@@ -117,7 +117,7 @@ learntNode v j s f probing st =
       grant = v .grant;
     }
 
--- 2 if dead; 4 if wait with empty leaf set; 5 if j = i
+-- wait with empty leaf set
 abbrev pub waitsEmpty : Node → Bool
 waitsEmpty v = isWait (v .status) && isEmpty (sidesOf v)
 
@@ -133,6 +133,7 @@ probePlanOf g ids i v m =
     let s = leafWithOne g ids i (sidesOf v) j in
     probePlan i v j s f (probesOf g ids i v s f m)
 
+-- 2 if dead; 4 if wait with empty leaf set; 5 if j = i
 unfoldable pub planTakeProbe : Ring → List ℕ → ℕ → Node → Message → Planned
 planTakeProbe g ids i v m =
     cond (isDead (v .status)) (No no.Status)
@@ -185,20 +186,18 @@ planTakeLeaseRequest g ids i v j =
 
 -- ---- 8 BroadcastLSet
 
--- the new neighbours, left and right, and the old ones
+-- the new neighbours equal the old neighbours, left to left and right to right
 abbrev pub sameNeighbours : Ring → List ℕ → ℕ → Sides → Sides → Bool
 sameNeighbours g ids i s old =
     eqb (leftNeighbour g ids i s) (leftNeighbour g ids i old) && eqb (rightNeighbour g ids i s) (rightNeighbour g ids i old)
 
+-- both new neighbours are in lease
 abbrev pub bothLeased : Ring → List ℕ → ℕ → Sides → ℕ → Bool
 bothLeased g ids i s lease = has lease (leftNeighbour g ids i s) && has lease (rightNeighbour g ids i s)
 
-abbrev pub newNeighbour : Ring → List ℕ → ℕ → Sides → ℕ → Bool
-newNeighbour g ids i s j = eqb (leftNeighbour g ids i s) j || eqb (rightNeighbour g ids i s) j
-
--- if the flag is set and j is a new neighbour, lease gains j
+-- if the flag is set and j is a new neighbour (a neighbour in the new leaf set s), lease gains j
 abbrev pub leaseAfter : Ring → List ℕ → ℕ → Node → Sides → ℕ → ℕ → ℕ
-leaseAfter g ids i v s j flag = cond (eqb flag 1 && newNeighbour g ids i s j) (addOf (v .lease) j) (v .lease)
+leaseAfter g ids i v s j flag = cond (eqb flag 1 && isBeside g ids i s j) (addOf (v .lease) j) (v .lease)
 
 -- if both new neighbours are in lease and equal the old neighbours, i becomes ready
 abbrev pub statusAfterLease : Ring → List ℕ → ℕ → Node → Sides → ℕ → Status
@@ -233,7 +232,7 @@ planTakeBroadcast g ids i v m =
     (cond (eqb (m .owner) i) (No no.Partner)
     (Go (broadcastPlan g ids i v m))))
 
--- ---- by kind; 6 NoLegalRoute: 5 always
+-- ---- by kind; 6 NoLegalRoute: 5 always. A valid pool holds no other kind.
 
 unfoldable pub planTake : ℕ → Ring → List ℕ → ℕ → ℕ → Node → Message → Planned
 planTake kind g ids dead i v m =
@@ -242,6 +241,7 @@ planTake kind g ids dead i v m =
     (cond (eqb kind 3) (planTakeJoinReply g ids i v m)
     (cond (eqb kind 4) (planTakeProbe g ids i v m)
     (cond (eqb kind 5) (planTakeProbeReply g ids i v m)
+    (cond (eqb kind 6) (No no.Partner)
     (cond (eqb kind 7) (planTakeLeaseRequest g ids i v (m .word))
     (cond (eqb kind 8) (planTakeBroadcast g ids i v m)
-    (No no.Partner)))))))
+    (No no.Partner))))))))

@@ -49,7 +49,7 @@ pub struct Node {
     pub grant: u64,
 }
 
-// A message. `word` is the key or the node; `hops` is the sixth word, 0 so far.
+// A message. `word` is the key or the node; `hops` is the sixth word, which is 0.
 pub struct Message {
     pub kind: u32,
     pub dest: u32,

@@ -1,0 +1,38 @@
+-- A count of written bytes is small, so that it and the answer's number fit one word. Assumes nothing.
+use mathlib.Core.Path.{_≡_, refl}
+use mathlib.Core.Bool.{Bool, true, false}
+use mathlib.Core.List.{List}
+use Prim.Native.Nat.{ℕ, _≤_}
+use native.Mathlib.Omega.{arith}
+use lib.Dec.{ltb, eqb}
+use lib.ListN.{length}
+use Rattle.marks.specs.Bools.{and-right}
+use Rattle.rules.specs.declared.Answer.{Answer}
+use Rattle.rules.specs.declared.Answer.the-variants.{Done, Refused}
+use Rattle.rules.specs.declared.Pool.{Pool}
+use Rattle.table.specs.declared.Table.{Table}
+use Rattle.table.specs.declared.Stepped.{Stepped}
+use Rattle.table.specs.Step.{isSound}
+use Rattle.table.specs.Valid.{validOf}
+use Rattle.sound.specs.Sound.{sound}
+use Rattle.format.specs.Format.{totalOf}
+use Rattle.format.specs.Write.{wroteOf}
+use Rattle.wire.specs.Wire.{wroteBy}
+
+-- the longest file has 64 nodes and 256 messages
+pub wrote-small : (t : Table) (p : Pool) (out : List ℕ) → wroteOf t p 256 out .count ≤ 18464
+unfolding wroteOf isSound
+wrote-small t p out = go (validOf t p) refl (ltb (length out) (totalOf (t .n) (p .count))) refl
+  where
+    go : (v : Bool) → validOf t p ≡ v → (b : Bool) → ltb (length out) (totalOf (t .n) (p .count)) ≡ b → wroteOf t p 256 out .count ≤ 18464
+    go false e b h = rw e (omega arith)
+    go true e true h = rw (e, h) (omega arith)
+    go true e false h = let s = sound t p e in rw (e, h) (omega (arith, s .numbers .n-high, s .counted))
+
+pub wrote-by-small : (s : Stepped) (out : List ℕ) → wroteBy s out .count ≤ 18464
+unfolding wroteBy
+wrote-by-small s out = go (s .answer) refl
+  where
+    go : (a : Answer) → s .answer ≡ a → wroteBy s out .count ≤ 18464
+    go Done e = rw e (wrote-small (s .table) (s .pool) out)
+    go (Refused why) e = rw e (omega arith)

@@ -1,0 +1,2 @@
+pub mod Abi
+pub mod Counts

@@ -1,0 +1,58 @@
+// The calls for other languages: numbers and bytes alone cross. The answer's number stands in the low 32 bits of the result, the count of
+// bytes written to the start of `out` in the high 32 bits; where the number is not 0, `out` is left as it was.
+ghost use mathlib.Core.Path.{_≡_};
+ghost use Prim.Native.Nat.{_≤_};
+ghost use Rattle.wire.specs.Wire.{loadedOf, wroteBy, leftBy};
+ghost use Rattle.abi.specs.Abi.{packOf, askedOf, stepWord, stepLeft};
+use format::Wrote;
+use rules::Action;
+
+// What a number says of an action.
+pub enum Asked {
+    Is(Action),
+    None,
+}
+
+fn action_of(k: u64, x: u64, y: u64) -> Asked
+    ensures { λ r. ⌜ r ≡ askedOf k x y ⌝ }
+{
+    match k {
+        1 => Asked::Is(Action::Lookup(x as usize, y)),
+        2 => Asked::Is(Action::Join(x as usize, y as usize)),
+        3 => Asked::Is(Action::RequestLease(x as usize)),
+        4 => Asked::Is(Action::LeaseExpired(x as usize, y as usize)),
+        5 => Asked::Is(Action::GrantExpired(x as usize, y as usize)),
+        6 => Asked::Is(Action::Take(x as usize)),
+        _ => Asked::None,
+    }
+}
+
+// An answer and a count as one word.
+pub fn packed(w: Wrote) -> u64
+    requires { ⌜ w .count ≤ 18464 ⌝ }
+    ensures { λ r. ⌜ r ≡ packOf w ⌝ }
+{
+    let answer = w.answer;
+    (w.count as u64) * 4294967296 + parts::answer_number(answer) as u64
+}
+
+// Reads a table file and writes it back.
+#[no_mangle]
+pub extern "C" fn tarpudhriv_load(file: &[u8], out: &mut [u8]) -> u64
+    ensures r { λ r. ⌜ r ≡ packOf (wroteBy (loadedOf (now (file .entry))) (now (out .entry))) ⌝ }
+    ensures left { λ _. ⌜ now (out .exit) ≡ leftBy (loadedOf (now (file .entry))) (now (out .entry)) ⌝ }
+{
+    packed(wire::reload(file, out))
+}
+
+// Reads a table file, makes a step, and writes the table file after it. 4294967295 for a number that is no action's.
+#[no_mangle]
+pub extern "C" fn tarpudhriv_step(file: &[u8], action: u64, x: u64, y: u64, out: &mut [u8]) -> u64
+    ensures r { λ r. ⌜ r ≡ stepWord (askedOf action x y) (now (file .entry)) (now (out .entry)) ⌝ }
+    ensures left { λ _. ⌜ now (out .exit) ≡ stepLeft (askedOf action x y) (now (file .entry)) (now (out .entry)) ⌝ }
+{
+    match action_of(action, x, y) {
+        Asked::Is(a) => packed(wire::step_file(file, a, out)),
+        Asked::None => 4294967295,
+    }
+}

@@ -1,0 +1,4 @@
+pub mod Made
+pub mod Legal
+pub mod Begin
+pub mod Cases

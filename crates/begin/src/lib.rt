@@ -1,0 +1,1 @@
+// A start is valid and settled: theorems alone, in specs/.

@@ -1,0 +1,34 @@
+-- Each public function has one reply for every input, and leaves one content of the list or buffer lent to it: any two that its contract allows are
+-- equal. Assumes nothing.
+use mathlib.Core.Path.{_≡_, sym, _∙_}
+use mathlib.Core.List.{List}
+use Prim.Native.Nat.{ℕ}
+use Rattle.rules.specs.declared.Action.{Action}
+use Rattle.rules.specs.declared.Message.{Message}
+use Rattle.table.specs.declared.Table.{Table}
+use Rattle.format.specs.declared.Wrote.{Wrote}
+use Rattle.entry.specs.declared.Rest.{Rest}
+use Rattle.bench.specs.declared.Reply.{Reply}
+use Rattle.bench.specs.Lent.{lentStep, lentStart, lentLoad, lentRest, Handed, Filed}
+
+-- two pairs, each equal to a third
+both-same : {A B : Type 0} {a a′ c : A} {b b′ d : B} → (a ≡ c) × (b ≡ d) → (a′ ≡ c) × (b′ ≡ d) → (a ≡ a′) × (b ≡ b′)
+both-same h h′ = (h .0 ∙ sym (h′ .0), h .1 ∙ sym (h′ .1))
+
+module _ (t : Table) (ys : List Message) (n : ℕ) where
+  module _ (zs zs′ : List Message) (r r′ : Reply) where
+    pub step-unique : (a : Action) → Handed (lentStep t ys n a) ys zs r → Handed (lentStep t ys n a) ys zs′ r′ → (r ≡ r′) × (zs ≡ zs′)
+    step-unique a h h′ = both-same h h′
+
+    pub start-unique : (m l : ℕ) (ids : List ℕ) (a : ℕ) → Handed (lentStart t ys n m l ids a) ys zs r → Handed (lentStart t ys n m l ids a) ys zs′ r′
+        → (r ≡ r′) × (zs ≡ zs′)
+    start-unique m l ids a h h′ = both-same h h′
+
+    pub load-unique : (bs : List ℕ) → Handed (lentLoad bs t ys n) ys zs r → Handed (lentLoad bs t ys n) ys zs′ r′ → (r ≡ r′) × (zs ≡ zs′)
+    load-unique bs h h′ = both-same h h′
+
+  pub settled-unique : (r r′ : Rest) → r ≡ lentRest t ys n → r′ ≡ lentRest t ys n → r ≡ r′
+  settled-unique r r′ h h′ = h ∙ sym h′
+
+  pub write-unique : (bs cs cs′ : List ℕ) (r r′ : Wrote) → Filed t ys n bs cs r → Filed t ys n bs cs′ r′ → (r ≡ r′) × (cs ≡ cs′)
+  write-unique bs cs cs′ r r′ h h′ = both-same h h′

@@ -1,0 +1,205 @@
+-- Who holds a key in a settled table. The idea: each ready node's neighbours are the next ready ids (Next of crate ring), so a ready node
+-- covers a key exactly if it is the ready node nearest it, and a key that it does not cover is nearer to a neighbour. And of two nodes at
+-- equal distance, the one below the key is the nearer. Assumes nothing.
+use mathlib.Core.Path.{_≡_, refl, sym, _∙_, ap}
+use mathlib.Core.Logic.{_⊎_, ⊎-elim}
+use mathlib.Core.Bool.{true, false, _||_, not}
+use Prim.Native.Nat.{ℕ, _^_, _<_, _≤_}
+use native.Mathlib.Omega.{arith}
+use lib.Dec.{eqb}
+use borrow.Author.Tests.{eq-eqb, ne-eqb, eqb-true, eqb-false, not-true}
+use Rattle.ring.specs.Distance.{fallOf, nearer, coversKey}
+use Rattle.ring.specs.Falls as falls
+use Rattle.ring.specs.Order.{nearer-transitive, nearer-irreflexive, tie-below}
+use Rattle.ring.specs.Nearest.{Next, covers-nearest, nearest-covers, uncovered}
+use Rattle.marks.specs.Bools.{eq-or-ne}
+use Rattle.marks.specs.Marks.{has, allTo, meet, removeOf}
+use Rattle.marks.specs.Laws.{has-remove, each, listed-has, listed-gather}
+use Rattle.rules.specs.declared.Way.{Way}
+use Rattle.rules.specs.declared.Way.the-variants.{Up, Down}
+use Rattle.rules.specs.declared.Pool.{Pool}
+use Rattle.rules.specs.declared.Ring.{Ring}
+use Rattle.rules.specs.Leaf.{coversOf, seenFrom, leftNeighbour, rightNeighbour, wayUp, wayDown}
+use Rattle.rules.specs.Nodes.{sidesOf}
+use Rattle.rules.specs.Pick.{idAt}
+use Rattle.rules.specs.Plans.{isDead, isReady}
+use Rattle.laws.specs.Leaf.{seen-in, seen-leads, seen-up, seen-down}
+use Rattle.laws.specs.Steps.{ids-inj}
+use Rattle.table.specs.declared.Table.{Table}
+use Rattle.table.specs.Table.{nodeAt, idsOf, ringOf}
+use Rattle.table.specs.Settled.{readySet, settledAt, isSettled}
+use Rattle.sound.specs.Nodes.{both}
+use Rattle.sound.specs.Sound.{Sound, sound}
+use Rattle.demand.specs.Demand.{Nearer, Ready, NearestReady, TieBelow, CoversNearest}
+use Rattle.demand.specs.Fates.{coversAt}
+use Rattle.demand.specs.Tracks.{ready-is}
+
+-- ---- what settled says of a ready node
+
+-- its neighbours are the best of the other ready nodes each way, and no ready node is in its failed
+pub record SettledAt (t : Table) (i : ℕ) : Type 0 where
+  pub left : leftNeighbour (ringOf t) (idsOf t) i (sidesOf (nodeAt t i)) ≡ seenFrom Up (ringOf t) (idsOf t) i (removeOf (readySet t) i)
+  pub right : rightNeighbour (ringOf t) (idsOf t) i (sidesOf (nodeAt t i)) ≡ seenFrom Down (ringOf t) (idsOf t) i (removeOf (readySet t) i)
+  pub trusts : meet (nodeAt t i .failed) (readySet t) ≡ 0
+
+settled-test : (t : Table) (i : ℕ) → settledAt (ringOf t) (idsOf t) (readySet t) i (nodeAt t i) ≡ true → SettledAt t i
+unfolding settledAt
+settled-test t i e =
+    let a = both (eqb (leftNeighbour (ringOf t) (idsOf t) i (sidesOf (nodeAt t i))) _) _ e in
+    let b = both _ (eqb (meet (nodeAt t i .failed) (readySet t)) 0) (a .1) in
+    record { left = eqb-true _ _ (a .0); right = eqb-true _ _ (b .0); trusts = eqb-true _ 0 (b .1) }
+
+module _ (t : Table) (s : isSettled t ≡ true) where
+  pub dead-or-ready : (i : ℕ) → i < t .n → (isDead (nodeAt t i .status) || isReady (nodeAt t i .status)) ≡ true
+  unfolding isSettled
+  dead-or-ready i h =
+      let a = both (not (eqb (readySet t) 0)) _ s in
+      each (t .n) (λ j. isDead (nodeAt t j .status) || isReady (nodeAt t j .status)) i (both (allTo (t .n) _) _ (a .1) .0) h
+
+  pub settled-at : (i : ℕ) → Ready t i → SettledAt t i
+  unfolding isSettled
+  settled-at i r =
+      let a = both (not (eqb (readySet t) 0)) _ s in
+      let test : (not (isReady (nodeAt t i .status)) || settledAt (ringOf t) (idsOf t) (readySet t) i (nodeAt t i)) ≡ true =
+      each (t .n) (λ j. not (isReady (nodeAt t j .status)) || settledAt (ringOf t) (idsOf t) (readySet t) j (nodeAt t j)) i
+      (both (allTo (t .n) _) (allTo (t .n) _) (a .1) .1) (r .0) in
+      settled-test t i (rw (sym (ready-is t i (r .0)) ∙ r .1) at test)
+
+-- ---- the other ready nodes, as seen from one
+
+abbrev pub restOf : Table → ℕ → ℕ
+restOf t i = removeOf (readySet t) i
+
+-- the best of them one way, or i if there are none
+abbrev pub nextOf : Way → Table → ℕ → ℕ
+nextOf w t i = seenFrom w (ringOf t) (idsOf t) i (restOf t i)
+
+-- the ids of ready nodes
+abbrev pub ReadyId : Table → ℕ → Type 0
+ReadyId t x = (s : ℕ) × Ready t s × (idAt (idsOf t) s ≡ x)
+
+ready-listed : (t : Table) (s : ℕ) → s < 64 → has (readySet t) s ≡ true → s < t .n
+unfolding readySet
+ready-listed t s l p = listed-has (t .n) (readySet t) s (listed-gather (t .n) _) l p
+
+module _ {t : Table} {p : Pool} (v : Sound t p) where
+  pub ready-low : (i : ℕ) → Ready t i → i < 64
+  ready-low i r = omega (arith, v .numbers .n-high)
+
+  ready-below : (x : ℕ) → ReadyId t x → x < 2 ^ t .m
+  ready-below x (s, r, e) = rw (← e) (v .listed .ids-in s (ready-low s r))
+
+  ids-apart : (i j : ℕ) → Ready t i → Ready t j → (i ≡ j → ⊥) → idAt (idsOf t) i ≡ idAt (idsOf t) j → ⊥
+  ids-apart i j r k apart e = apart (ids-inj (v .listed) i j (r .0) (k .0) e)
+
+  module _ (i : ℕ) (r : Ready t i) where
+    rest-has : (j : ℕ) → Ready t j → (j ≡ i → ⊥) → has (restOf t i) j ≡ true
+    rest-has j k apart = rw (has-remove (readySet t) i j (ready-low j k), k .1, ne-eqb j i apart)
+
+    rest-ready : (j : ℕ) → j < 64 → has (restOf t i) j ≡ true → Ready t j × (j ≡ i → ⊥)
+    rest-ready j l e =
+        let b = both (has (readySet t) j) (not (eqb j i)) (sym (has-remove (readySet t) i j l) ∙ e) in
+        ((ready-listed t j l (b .0), b .0), eqb-false j i (not-true (eqb j i) (b .1)))
+
+    pub next-ready : (w : Way) → Ready t (nextOf w t i)
+    next-ready w =
+        ⊎-elim (λ e. rw (e .1) r) (λ e. rest-ready (nextOf w t i) (e .below) (e .holds) .0)
+        (seen-in (v .listed) i (ready-low i r) (restOf t i) w)
+
+    -- where there is another, it is another
+    module _ (j : ℕ) (k : Ready t j) (apart : j ≡ i → ⊥) where
+      next-apart : (w : Way) → idAt (idsOf t) (nextOf w t i) ≡ idAt (idsOf t) i → ⊥
+      next-apart w =
+          let lead = seen-leads (v .listed) i (ready-low i r) (restOf t i) j (ready-low j k) (rest-has j k apart) w in
+          let other = rest-ready (nextOf w t i) (lead .below) (lead .holds) in
+          ids-apart (nextOf w t i) i (other .0) r (other .1)
+
+      next-up : wayUp (ringOf t) (idsOf t) i (nextOf Up t i) ≤ wayUp (ringOf t) (idsOf t) i j
+      next-up = seen-up (v .listed) i (ready-low i r) (restOf t i) j (ready-low j k) (rest-has j k apart)
+
+      next-down : wayDown (ringOf t) (idsOf t) i (nextOf Down t i) ≤ wayDown (ringOf t) (idsOf t) i j
+      next-down = seen-down (v .listed) i (ready-low i r) (restOf t i) j (ready-low j k) (rest-has j k apart)
+
+    pub next-is : Next (2 ^ t .m) (ReadyId t) (idAt (idsOf t) i) (idAt (idsOf t) (nextOf Up t i)) (idAt (idsOf t) (nextOf Down t i))
+    next-is =
+        record {
+          flanks = record {
+            l-in = v .listed .ids-in _ (ready-low _ (next-ready Up));
+            r-in = v .listed .ids-in _ (ready-low _ (next-ready Down));
+            up = up;
+            down = down;
+          };
+          l-ready = (nextOf Up t i, next-ready Up, refl);
+          r-ready = (nextOf Down t i, next-ready Down, refl);
+        }
+      where
+        up : (x : ℕ) → ReadyId t x → (x ≡ idAt (idsOf t) i → ⊥)
+            → (idAt (idsOf t) (nextOf Up t i) ≡ idAt (idsOf t) i → ⊥)
+            × (fallOf (2 ^ t .m) (idAt (idsOf t) (nextOf Up t i)) (idAt (idsOf t) i) ≤ fallOf (2 ^ t .m) x (idAt (idsOf t) i))
+        up x (j, k, e) d =
+            let apart : j ≡ i → ⊥ = λ f. d (sym e ∙ ap (idAt (idsOf t)) f) in
+            (next-apart j k apart Up, rw (← e) (next-up j k apart))
+
+        down : (x : ℕ) → ReadyId t x → (x ≡ idAt (idsOf t) i → ⊥)
+            → (idAt (idsOf t) (nextOf Down t i) ≡ idAt (idsOf t) i → ⊥)
+            × (fallOf (2 ^ t .m) (idAt (idsOf t) i) (idAt (idsOf t) (nextOf Down t i)) ≤ fallOf (2 ^ t .m) (idAt (idsOf t) i) x)
+        down x (j, k, e) d =
+            let apart : j ≡ i → ⊥ = λ f. d (sym e ∙ ap (idAt (idsOf t)) f) in
+            (next-apart j k apart Down, rw (← e) (next-down j k apart))
+
+  -- ---- covering is being nearest
+
+  -- the nearest is one
+  nearest-one : (k e : ℕ) → Ready t e → ((j : ℕ) → Ready t j → (j ≡ e → ⊥) → Nearer t k e j) → NearestReady t k e
+  nearest-one k e r first =
+      record {
+        ready = r;
+        nearest = first;
+        one = λ j u other. ⊎-elim (λ d. d) (λ d. absurd (meets j u other d)) (eq-or-ne j e);
+      }
+    where
+      meets : (j : ℕ) → Ready t j → ((i : ℕ) → Ready t i → (i ≡ j → ⊥) → Nearer t k j i) → (j ≡ e → ⊥) → ⊥
+      meets j u other d =
+          let a = idAt (idsOf t) e in
+          let b = idAt (idsOf t) j in
+          nearer-irreflexive (2 ^ t .m) k a (nearer-transitive (2 ^ t .m) k a b a (first j u d) (other e r (λ f. d (sym f))))
+
+  module _ (s : isSettled t ≡ true) (k : ℕ) (hk : k < 2 ^ t .m) (i : ℕ) (r : Ready t i) where
+    around : falls.Ring (2 ^ t .m)
+    around = falls.ring-at (t .m) (omega (arith, v .numbers .m-low))
+
+    own : idAt (idsOf t) i < 2 ^ t .m
+    own = v .listed .ids-in i (ready-low i r)
+
+    covers-is : coversAt t i k
+        ≡ coversKey (2 ^ t .m) (idAt (idsOf t) i) (idAt (idsOf t) (nextOf Up t i)) (idAt (idsOf t) (nextOf Down t i)) k
+    unfolding coversOf
+    covers-is = rw (settled-at t s i r .left, settled-at t s i r .right)
+
+    pub cover-nearest : coversAt t i k ≡ true → NearestReady t k i
+    cover-nearest c =
+        nearest-one k i r (λ j u d.
+        covers-nearest (2 ^ t .m) around (ReadyId t) ready-below k hk _ _ _ own (next-is i r .flanks) (sym covers-is ∙ c) (idAt (idsOf t) j)
+        (j, u, refl) (ids-apart j i u r d))
+
+    pub nearest-cover : NearestReady t k i → coversAt t i k ≡ true
+    nearest-cover n = covers-is ∙ nearest-covers (2 ^ t .m) around (ReadyId t) ready-below k hk _ _ _ own (next-is i r) first
+      where
+        first : (x : ℕ) → ReadyId t x → (x ≡ idAt (idsOf t) i → ⊥) → nearer (2 ^ t .m) k (idAt (idsOf t) i) x ≡ true
+        first x (j, u, e) d = rw (← e) (n .nearest j u (λ f. d (sym e ∙ ap (idAt (idsOf t)) f)))
+
+    pub not-covered : coversAt t i k ≡ false → Nearer t k (nextOf Up t i) i ⊎ Nearer t k (nextOf Down t i) i
+    not-covered c = uncovered (2 ^ t .m) around (ReadyId t) ready-below k hk _ _ _ own (next-is i r) (sym covers-is ∙ c)
+
+pub covers-nearest-ready : CoversNearest
+covers-nearest-ready t p k i e s hk r = (cover-nearest (sound t p e) s k hk i r, nearest-cover (sound t p e) s k hk i r)
+
+-- ---- the tie
+
+pub tie-below-key : TieBelow
+tie-below-key t p k a b e hk ha hb apart tie =
+    let v = sound t p e in
+    let low : (s : ℕ) → s < t .n → idAt (idsOf t) s < 2 ^ t .m = λ s h. v .listed .ids-in s (omega (arith, v .numbers .n-high)) in
+    let below = tie-below (2 ^ t .m) (falls.ring-at (t .m) (omega (arith, v .numbers .m-low))) k (idAt (idsOf t) a) (idAt (idsOf t) b) hk
+    (low a ha) (low b hb) (λ f. apart (ids-inj (v .listed) a b ha hb f)) tie in
+    (λ n. eqb-true _ k (sym below ∙ n), λ d. below ∙ eq-eqb _ k d)

@@ -1,0 +1,12 @@
+pub mod Journey
+pub mod Fates
+pub mod Demand
+pub mod Stands
+pub mod Tracks
+pub mod Routings
+pub mod Holder
+pub mod Taking
+pub mod Hops
+pub mod Arrives
+pub mod Proved
+pub mod Limits

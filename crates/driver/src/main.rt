@@ -1,0 +1,274 @@
+// Answers requests on standard input until it ends. All numbers are little-endian. A request: a word of 32 bits, its length, then a byte, its
+// kind, then its arguments as words of 64 bits, then a table file (for a start the ids, words of 32 bits). The answer: a word of 32 bits, its
+// length, a word of 32 bits, its number, then, where the number is 0, the result. model/README.md has the kinds.
+ghost use mathlib.Core.Path.{_≡_};
+ghost use lib.ListN.{length};
+use entry::Rest;
+use format::Wrote;
+use libc::STDIN_FILENO;
+use libc::STDOUT_FILENO;
+use rules::Answer;
+
+// A number, and how many bytes of the buffer are the result.
+struct Reply {
+    number: u32,
+    count: usize,
+}
+
+fn wide(x: u8) -> u64 {
+    x as u64
+}
+
+// The word of 32 bits at a place, or 0 where there is none.
+fn word32(b: &[u8], at: usize) -> u64 {
+    if at >= 65536 {
+        return 0;
+    }
+    if b.len() < at + 4 {
+        return 0;
+    }
+    wide(b[at]) % 256
+        + wide(b[at + 1]) % 256 * 256
+        + wide(b[at + 2]) % 256 * 65536
+        + wide(b[at + 3]) % 256 * 16777216
+}
+
+// The word of 64 bits at a place.
+fn word64(b: &[u8], at: usize) -> u64 {
+    if at >= 65536 {
+        return 0;
+    }
+    word32(b, at) % 4294967296 + word32(b, at + 4) % 4294967296 * 4294967296
+}
+
+// The lesser of two numbers.
+fn at_most(x: usize, most: usize) -> usize {
+    if x < most { x } else { most }
+}
+
+// A number alone.
+fn refused(number: u32) -> Reply {
+    Reply { number, count: 0 }
+}
+
+// What a request that is none is answered.
+fn malformed() -> Reply {
+    refused(4294967295)
+}
+
+// A word of the exported calls as a reply.
+fn unpacked(r: u64) -> Reply {
+    Reply {
+        number: (r % 4294967296) as u32,
+        count: (r / 4294967296) as usize,
+    }
+}
+
+fn reply_of(w: Wrote) -> Reply {
+    let answer = w.answer;
+    Reply {
+        number: parts::answer_number(answer),
+        count: w.count,
+    }
+}
+
+fn load(rest: &[u8], out: &mut [u8]) -> Reply {
+    unpacked(abi::tarpudhriv_load(rest, out))
+}
+
+fn make_step(rest: &[u8], out: &mut [u8]) -> Reply {
+    if rest.len() < 24 {
+        return malformed();
+    }
+    let action = word64(rest, 0);
+    let x = word64(rest, 8);
+    let y = word64(rest, 16);
+    unpacked(abi::tarpudhriv_step(&rest[24..], action, x, y, out))
+}
+
+// The ids of a start, the first 65 of them: more than 64 are out of range anyhow.
+fn ids_of(rest: &[u8]) -> [u32; 65]
+    ensures { λ r. ⌜ 65 ≡ length r ⌝ }
+{
+    let mut ids = [0u32; 65];
+    let mut i: usize = 0;
+    while i < 65 {
+        ids[i] = (word32(rest, 24 + 4 * i) % 4294967296) as u32;
+        i += 1;
+    }
+    ids
+}
+
+// A start of the first n ids.
+fn start_of(rest: &[u8], ids: &[u32], n: usize, out: &mut [u8]) -> Reply {
+    if n > ids.len() {
+        return malformed();
+    }
+    let m = word64(rest, 0);
+    let l = word64(rest, 8);
+    let a = word64(rest, 16);
+    reply_of(wire::start_file(m, l, a, &ids[..n], out))
+}
+
+fn make_start(rest: &[u8], out: &mut [u8]) -> Reply {
+    if rest.len() < 24 {
+        return malformed();
+    }
+    if rest.len() % 4 != 0 {
+        return malformed();
+    }
+    let n = at_most((rest.len() - 24) / 4, 65);
+    let ids = ids_of(rest);
+    start_of(rest, &ids, n, out)
+}
+
+fn ask_settled(rest: &[u8], out: &mut [u8]) -> Reply {
+    let said = wire::settled_file(rest);
+    if out.len() == 0 {
+        return refused(11);
+    }
+    match said {
+        Rest::Settled => {
+            out[0] = 1;
+            Reply {
+                number: 0,
+                count: 1,
+            }
+        }
+        Rest::Unsettled => {
+            out[0] = 0;
+            Reply {
+                number: 0,
+                count: 1,
+            }
+        }
+        Rest::NotAsked(why) => refused(parts::answer_number(Answer::Refused(why))),
+    }
+}
+
+fn print_list(rest: &[u8], out: &mut [u8]) -> Reply {
+    reply_of(listing::list(rest, out))
+}
+
+// The reply to a request.
+fn reply_to(request: &[u8], out: &mut [u8]) -> Reply {
+    if request.len() == 0 {
+        return malformed();
+    }
+    let kind = wide(request[0]);
+    match kind {
+        0 => load(&request[1..], out),
+        1 => make_step(&request[1..], out),
+        2 => make_start(&request[1..], out),
+        3 => ask_settled(&request[1..], out),
+        4 => print_list(&request[1..], out),
+        _ => malformed(),
+    }
+}
+
+// The length of a reply and its number, as bytes.
+fn head_of(n: u32, number: u32) -> [u8; 8]
+    ensures { λ r. ⌜ 8 ≡ length r ⌝ }
+{
+    [
+        (n % 256) as u8,
+        (n / 256 % 256) as u8,
+        (n / 65536 % 256) as u8,
+        (n / 16777216 % 256) as u8,
+        (number % 256) as u8,
+        (number / 256 % 256) as u8,
+        (number / 65536 % 256) as u8,
+        (number / 16777216 % 256) as u8,
+    ]
+}
+
+// Sends the length of a reply and its number: whether it could.
+fn send_head(number: u32, count: usize) -> bool {
+    let head = head_of((count % 1048576 + 4) as u32, number);
+    io::write_all(STDOUT_FILENO, &head)
+}
+
+// Sends the first bytes: whether it could.
+fn send_bytes(out: &[u8], n: usize) -> bool {
+    if n > out.len() {
+        return false;
+    }
+    io::write_all(STDOUT_FILENO, &out[..n])
+}
+
+// Sends a reply: whether it could.
+fn send(r: Reply, out: &[u8]) -> bool {
+    if r.number != 0 {
+        return send_head(r.number, 0);
+    }
+    if !send_head(0, r.count) {
+        return false;
+    }
+    send_bytes(out, r.count)
+}
+
+// Reads the next bytes: whether there were so many.
+fn fill(body: &mut [u8], n: usize) -> bool {
+    if n > body.len() {
+        return false;
+    }
+    let got = io::read_full(STDIN_FILENO, &mut body[..n]);
+    got == n
+}
+
+// Reads past the next bytes: whether there were so many.
+fn skip(body: &mut [u8], n: usize) -> bool {
+    let most = body.len();
+    if most == 0 {
+        return false;
+    }
+    let mut left = n;
+    while left > most {
+        if !fill(body, most) {
+            return false;
+        }
+        left -= most;
+    }
+    fill(body, left)
+}
+
+fn answer(body: &[u8], n: usize, out: &mut [u8]) -> bool {
+    if n > body.len() {
+        return false;
+    }
+    let r = reply_to(&body[..n], out);
+    send(r, out)
+}
+
+// One request: whether there was one, and its reply was sent.
+fn serve(body: &mut [u8], out: &mut [u8]) -> bool {
+    let mut head = [0u8; 4];
+    let got = io::read_full(STDIN_FILENO, &mut head);
+    if got < 4 {
+        return false;
+    }
+    let n = word32(&head, 0) as usize;
+    if n > body.len() {
+        if !skip(body, n) {
+            return false;
+        }
+        return send(malformed(), out);
+    }
+    if !fill(body, n) {
+        return false;
+    }
+    answer(body, n, out)
+}
+
+fn serve_all(body: &mut [u8], out: &mut [u8]) {
+    let mut turns = u64::MAX;
+    while turns > 0 && serve(body, out) {
+        turns -= 1;
+    }
+}
+
+fn main() {
+    let mut body = io::large_buffer();
+    let mut out = io::large_buffer();
+    serve_all(&mut body, &mut out);
+}

@@ -1,0 +1,11 @@
+pub mod Bytes
+pub mod Codec
+pub mod Format
+pub mod Rows
+pub mod Told
+pub mod Load
+pub mod Write
+pub mod File
+pub mod Back
+pub mod Exactly
+pub mod Theorems

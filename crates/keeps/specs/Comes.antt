@@ -1,0 +1,179 @@
+-- What each action and kind plans comes to: one of its refusals, or one of its plans. A property of refusals and one of plans are followed
+-- along the chain of tests, once for each action and kind; what a step keeps (Plans, Takes), and with which numbers it is refused
+-- (Numbers), are both read off these. Assumes nothing.
+use mathlib.Core.Path.{_≡_, refl}
+use mathlib.Core.Bool.{Bool, true, false, cond, _&&_, _||_, not}
+use mathlib.Core.List.{List}
+use Prim.Native.Nat.{ℕ, _+_, _≤_}
+use native.Mathlib.Omega.{arith}
+use lib.Dec.{eqb}
+use borrow.Author.Tests.{eqb-true, eqb-false}
+use Rattle.marks.specs.Marks.{has, removeOf, union}
+use Rattle.rules.specs.declared.Ring.{Ring}
+use Rattle.rules.specs.declared.Status.the-variants as status
+use Rattle.rules.specs.declared.Node.{Node}
+use Rattle.rules.specs.declared.Message.{Message}
+use Rattle.rules.specs.declared.Hop.{Hop}
+use Rattle.rules.specs.declared.Hop.the-variants.{To, NoRoute}
+use Rattle.rules.specs.declared.Refusal.{Refusal}
+use Rattle.rules.specs.declared.Refusal.the-variants as no
+use Rattle.rules.specs.declared.Plan.{Plan}
+use Rattle.rules.specs.declared.Planned.{Planned}
+use Rattle.rules.specs.declared.Planned.the-variants.{No, Go}
+use Rattle.rules.specs.Actions.{isNeighbour, leasePlan, planLookup, planJoin, planRequestLease, planLeaseExpired, planGrantExpired}
+use Rattle.rules.specs.Hop.{nextHop}
+use Rattle.rules.specs.Leaf.{contentOf, leafWith, isComplete, isEmpty, coversOf}
+use Rattle.rules.specs.Letters.{lookup, joinRequest, joinReply, noLegalRoute}
+use Rattle.rules.specs.Nodes.{sidesOf, carriedOf}
+use Rattle.rules.specs.Pick.{idAt}
+use Rattle.rules.specs.Plans.{isDead, isReady, isOk, isUp, withStatus, withLeases, quietPlan, sendPlan}
+use Rattle.rules.specs.Take.{forwardPlan, joinReplyPlan, waitsEmpty, probePlanOf, replyPlanOf, grantPlan, broadcastPlan}
+use Rattle.rules.specs.Take.{planTakeLookup, planTakeJoinRequest, planTakeJoinReply, planTakeProbe, planTakeProbeReply}
+use Rattle.rules.specs.Take.{planTakeLeaseRequest, planTakeBroadcast, planTake}
+
+-- a refusal has the one property, a plan the other
+pub data Comes (Q : Refusal → Type 0) (P : Plan → Type 0) : Planned → Type 0 where
+  says-no : {why : Refusal} → Q why → Comes Q P (No why)
+  goes : {x : Plan} → P x → Comes Q P (Go x)
+
+past : (kind c : ℕ) → c ≤ kind → eqb kind c ≡ false → c + 1 ≤ kind
+past kind c l e = omega (arith, eqb-false kind c e)
+
+module _ {Q : Refusal → Type 0} {P : Plan → Type 0} where
+  pub no-comes : {what : Planned} → Comes Q P what → (why : Refusal) → what ≡ No why → Q why
+  no-comes (says-no {why = y} q) why e = let d : y ≡ why = cc in rw (← d) q
+  no-comes (goes p) why e = absurd (let z : _≡_ {A = ℕ} 0 1 = cc in omega arith)
+
+  pub go-comes : {what : Planned} → Comes Q P what → (x : Plan) → what ≡ Go x → P x
+  go-comes (says-no q) x e = absurd (let z : _≡_ {A = ℕ} 0 1 = cc in omega arith)
+  go-comes (goes {x = y} p) x e = let d : y ≡ x = cc in rw (← d) p
+
+  -- refused if a test holds
+  unless : (b : Bool) {why : Refusal} {rest : Planned} → Comes Q P (No why) → Comes Q P rest → Comes Q P (cond b (No why) rest)
+  unless true q f = q
+  unless false q f = f
+
+  either : (b : Bool) {one other : Planned} → (b ≡ true → Comes Q P one) → (b ≡ false → Comes Q P other) → Comes Q P (cond b one other)
+  either true f g = f refl
+  either false f g = g refl
+
+  -- ---- the actions
+
+  pub by-lookup : (waiting : Bool) (i k : ℕ) (v : Node) → Q no.Waits → P (sendPlan v (lookup k) i) → Comes Q P (planLookup waiting i k v)
+  unfolding planLookup
+  by-lookup waiting i k v three x = unless waiting (says-no three) (goes x)
+
+  pub by-join : (waiting : Bool) (i : ℕ) (v : Node) (seed : ℕ) (u : Node) → Q no.Status → Q no.Waits → Q no.LeafSet
+      → P (sendPlan (withStatus v status.Wait) (joinRequest i 0) seed) → Comes Q P (planJoin waiting i v seed u)
+  unfolding planJoin
+  by-join waiting i v seed u two three four x =
+      unless (not (isDead (v .status) && isReady (u .status))) (says-no two)
+      (unless waiting (says-no three) (unless (not (isEmpty (sidesOf v))) (says-no four) (goes x)))
+
+  pub by-request-lease : (g : Ring) (ids : List ℕ) (i : ℕ) (v : Node) → Q no.Status → Q no.LeafSet → P (leasePlan g ids i v)
+      → Comes Q P (planRequestLease g ids i v)
+  unfolding planRequestLease
+  by-request-lease g ids i v two four x =
+      unless (not (isOk (v .status))) (says-no two) (unless (isEmpty (sidesOf v)) (says-no four) (goes x))
+
+  pub by-lease-expired : (g : Ring) (ids : List ℕ) (i : ℕ) (v : Node) (j : ℕ) → Q no.Status → Q no.Partner
+      → P (quietPlan (withLeases v (removeOf (v .lease) j) (v .grant)
+      (cond (isReady (v .status) && isNeighbour g ids i v j) status.Ok (v .status))))
+      → Comes Q P (planLeaseExpired g ids i v j)
+  unfolding planLeaseExpired
+  by-lease-expired g ids i v j two five x =
+      unless (not (isUp (v .status))) (says-no two) (unless (eqb i j || not (has (v .lease) j)) (says-no five) (goes x))
+
+  pub by-grant-expired : (i : ℕ) (v : Node) (j : ℕ) (u : Node) → Q no.Status → Q no.Partner
+      → P (quietPlan (withLeases v (v .lease) (removeOf (v .grant) j) (v .status))) → Comes Q P (planGrantExpired i v j u)
+  unfolding planGrantExpired
+  by-grant-expired i v j u two five x =
+      unless (not (isUp (v .status))) (says-no two)
+      (unless (eqb i j || (not (has (v .grant) j) || has (u .lease) i)) (says-no five) (goes x))
+
+  -- ---- Take, by kind
+
+  forward : (hop : Hop) (v : Node) (m : Message) (k i : ℕ) → ((h : ℕ) → hop ≡ To h → P (sendPlan v m h))
+      → (hop ≡ NoRoute → P (sendPlan v (noLegalRoute k) i)) → Comes Q P (Go (forwardPlan hop v m k i))
+  forward (To h) v m k i to none = goes (to h refl)
+  forward NoRoute v m k i to none = goes (none refl)
+
+  pub by-take-lookup : (g : Ring) (ids : List ℕ) (dead i : ℕ) (v : Node) (k : ℕ) → Q no.Status → P (quietPlan v)
+      → ((h : ℕ) → nextHop g ids dead i v k ≡ To h → P (sendPlan v (lookup k) h))
+      → (nextHop g ids dead i v k ≡ NoRoute → P (sendPlan v (noLegalRoute k) i))
+      → Comes Q P (planTakeLookup g ids dead i v k)
+  unfolding planTakeLookup
+  by-take-lookup g ids dead i v k two delivered to none =
+      unless (not (isReady (v .status))) (says-no two)
+      (either (coversOf g ids i (sidesOf v) k) (λ _. goes delivered) (λ _. forward (nextHop g ids dead i v k) v (lookup k) k i to none))
+
+  pub by-take-join-request : (g : Ring) (ids : List ℕ) (dead i : ℕ) (v : Node) (j routing : ℕ) → Q no.Status → Q no.Partner
+      → P (sendPlan v (joinReply routing i (sidesOf v)) j)
+      → ((h : ℕ) → nextHop g ids dead i v (idAt ids j) ≡ To h → P (sendPlan v (joinRequest j (union routing (v .routing))) h))
+      → (nextHop g ids dead i v (idAt ids j) ≡ NoRoute → P (sendPlan v (noLegalRoute (idAt ids j)) i))
+      → Comes Q P (planTakeJoinRequest g ids dead i v j routing)
+  unfolding planTakeJoinRequest
+  by-take-join-request g ids dead i v j routing two five replied to none =
+      let k = idAt ids j in
+      unless (not (isReady (v .status))) (says-no two)
+      (unless (has (contentOf (sidesOf v) i) j) (says-no five)
+      (either (coversOf g ids i (sidesOf v) k) (λ _. goes replied)
+      (λ _. forward (nextHop g ids dead i v k) v (joinRequest j (union routing (v .routing))) k i to none)))
+
+  pub by-take-join-reply : (g : Ring) (ids : List ℕ) (i : ℕ) (v : Node) (m : Message) → Q no.Status → Q no.LeafSet → Q no.Partner
+      → P (joinReplyPlan i v (m .routing) (contentOf (carriedOf m) (m .owner))
+      (leafWith g ids i (sidesOf v) (contentOf (carriedOf m) (m .owner))))
+      → Comes Q P (planTakeJoinReply g ids i v m)
+  unfolding planTakeJoinReply
+  by-take-join-reply g ids i v m two four five x =
+      unless (isDead (v .status)) (says-no two)
+      (unless (not (isEmpty (sidesOf v))) (says-no four) (unless (not (eqb (v .probing) 0)) (says-no five) (goes x)))
+
+  pub by-take-probe : (g : Ring) (ids : List ℕ) (i : ℕ) (v : Node) (m : Message) → Q no.Status → Q no.LeafSet → Q no.Partner
+      → P (probePlanOf g ids i v m) → Comes Q P (planTakeProbe g ids i v m)
+  unfolding planTakeProbe
+  by-take-probe g ids i v m two four five x =
+      unless (isDead (v .status)) (says-no two) (unless (waitsEmpty v) (says-no four) (unless (eqb (m .word) i) (says-no five) (goes x)))
+
+  pub by-take-probe-reply : (g : Ring) (ids : List ℕ) (i : ℕ) (v : Node) (m : Message) → Q no.Status → Q no.LeafSet → Q no.Partner
+      → P (replyPlanOf g ids i v m) → Comes Q P (planTakeProbeReply g ids i v m)
+  unfolding planTakeProbeReply
+  by-take-probe-reply g ids i v m two four five x =
+      unless (isDead (v .status)) (says-no two)
+      (unless (waitsEmpty v) (says-no four) (unless (eqb (m .word) i || not (has (v .probing) (m .word))) (says-no five) (goes x)))
+
+  pub by-take-lease-request : (g : Ring) (ids : List ℕ) (i : ℕ) (v : Node) (j : ℕ) → Q no.Status → Q no.LeafSet
+      → ((near : Bool) → P (grantPlan i v j near)) → Comes Q P (planTakeLeaseRequest g ids i v j)
+  unfolding planTakeLeaseRequest
+  by-take-lease-request g ids i v j two four x =
+      unless (not (isUp (v .status))) (says-no two) (unless (isEmpty (sidesOf v)) (says-no four) (goes (x (isNeighbour g ids i v j))))
+
+  pub by-take-broadcast : (g : Ring) (ids : List ℕ) (i : ℕ) (v : Node) (m : Message) → Q no.Status → Q no.LeafSet → Q no.Partner
+      → P (broadcastPlan g ids i v m) → Comes Q P (planTakeBroadcast g ids i v m)
+  unfolding planTakeBroadcast
+  by-take-broadcast g ids i v m two four five x =
+      unless (not (isUp (v .status))) (says-no two)
+      (unless (not (isComplete g (sidesOf v))) (says-no four) (unless (eqb (m .owner) i) (says-no five) (goes x)))
+
+  module _ (kind : ℕ) (g : Ring) (ids : List ℕ) (dead i : ℕ) (v : Node) (m : Message) where
+    pub by-take : (1 ≤ kind) → (kind ≤ 8) → (kind ≡ 1 → Comes Q P (planTakeLookup g ids dead i v (m .word)))
+        → (kind ≡ 2 → Comes Q P (planTakeJoinRequest g ids dead i v (m .word) (m .routing)))
+        → (kind ≡ 3 → Comes Q P (planTakeJoinReply g ids i v m))
+        → (kind ≡ 4 → Comes Q P (planTakeProbe g ids i v m))
+        → (kind ≡ 5 → Comes Q P (planTakeProbeReply g ids i v m))
+        → (kind ≡ 6 → Q no.Partner)
+        → (kind ≡ 7 → Comes Q P (planTakeLeaseRequest g ids i v (m .word)))
+        → (kind ≡ 8 → Comes Q P (planTakeBroadcast g ids i v m))
+        → Comes Q P (planTake kind g ids dead i v m)
+    unfolding planTake
+    by-take low high one two three four five six seven eight =
+        either (eqb kind 1) (λ e. one (eqb-true kind 1 e)) (λ n1.
+        either (eqb kind 2) (λ e. two (eqb-true kind 2 e)) (λ n2.
+        either (eqb kind 3) (λ e. three (eqb-true kind 3 e)) (λ n3.
+        either (eqb kind 4) (λ e. four (eqb-true kind 4 e)) (λ n4.
+        either (eqb kind 5) (λ e. five (eqb-true kind 5 e)) (λ n5.
+        either (eqb kind 6) (λ e. says-no (six (eqb-true kind 6 e))) (λ n6.
+        either (eqb kind 7) (λ e. seven (eqb-true kind 7 e)) (λ n7.
+        either (eqb kind 8) (λ e. eight (eqb-true kind 8 e)) (λ n8.
+        let past4 = past kind 4 (past kind 3 (past kind 2 (past kind 1 low n1) n2) n3) n4 in
+        absurd (omega (arith, past kind 8 (past kind 7 (past kind 6 (past kind 5 past4 n5) n6) n7) n8))))))))))

@@ -1,0 +1,91 @@
+-- The listing of any file, in a buffer of the caller's. How long it can be, that a loaded table is valid, and that a file longer than any table file has the
+-- listing of its first bytes: a reader that keeps only so many of them tells the same. Assumes nothing.
+use mathlib.Core.Path.{_≡_, refl, sym, _∙_, ap}
+use mathlib.Core.Bool.{Bool, true, false, cond, _&&_, not}
+use mathlib.Core.List.{List, [], _∷_, _++_}
+use Prim.Native.Nat.{ℕ, _+_, _*_, _<_, _≤_}
+use native.Mathlib.Omega.{arith}
+use lib.Dec.{eqb, ltb}
+use borrow.Author.Tests.{le-ltb}
+use lib.ListN.{length, take, drop, length-append}
+use lib.Seq.{take-append-seam}
+use Rattle.marks.specs.Bools.{and-right}
+use Rattle.rules.specs.declared.Pool.{Pool}
+use Rattle.rules.specs.declared.Answer.{Answer}
+use Rattle.rules.specs.declared.Answer.the-variants.{Done, Refused}
+use Rattle.rules.specs.declared.Refusal.the-variants as no
+use Rattle.rules.specs.Numbers.{refusalNumber, answerNumber}
+use Rattle.rules.specs.Pool.{laid, waiting}
+use Rattle.mail.specs.Laws.{waiting-short}
+use Rattle.table.specs.declared.Table.{Table}
+use Rattle.table.specs.declared.Stepped.{Stepped}
+use Rattle.table.specs.Start.{noTable}
+use Rattle.table.specs.Valid.{validOf}
+use Rattle.sound.specs.Sound.{sound}
+use Rattle.format.specs.declared.Wrote.{Wrote}
+use Rattle.format.specs.Load.{headerFits, offsetsFit, statusesFit, fileTable, filePool, loadOf}
+use Rattle.format.specs.Write.{notWritten}
+use Rattle.format.specs.Exactly.{tooShort, recordsFit, load-exactly, load-makes}
+use Rattle.listing.specs.Print.{printed, printOf, listingOf}
+use Rattle.listing.specs.Text.{digits-most, lines-short}
+
+-- ---- what list leaves
+
+-- 11 for a buffer of fewer bytes than this, which is more than any listing has
+abbrev pub room : ℕ
+room = 16384
+
+unfoldable pub listOf : List ℕ → List ℕ → Wrote
+listOf file out = cond (ltb (length out) room) (notWritten no.NoRoom) (record { answer = Done; count = length (listingOf file) })
+
+-- the listing stands in the first bytes; the rest is as before
+unfoldable pub listedOf : List ℕ → List ℕ → List ℕ
+listedOf file out = cond (ltb (length out) room) out (listingOf file ++ drop (length (listingOf file)) out)
+
+-- ---- a loaded table is valid
+
+pub record Loaded (s : Stepped) : Type 0 where
+  pub valid : s .answer ≡ Done → validOf (s .table) (s .pool) ≡ true
+
+pub loaded : (bs : List ℕ) (t : Table) (p : Pool) (len : ℕ) → Loaded (loadOf bs t p len)
+loaded bs t p len = record { valid = valid }
+  where
+    valid : loadOf bs t p len .answer ≡ Done → validOf (loadOf bs t p len .table) (loadOf bs t p len .pool) ≡ true
+    valid e =
+        let none : answerNumber (loadOf bs t p len .answer) ≡ 0 = ap answerNumber e in
+        let fits = load-exactly bs t p len .done .0 none in
+        let records = and-right (offsetsFit bs) _ (and-right (headerFits bs) _ (and-right (not (tooShort bs)) _ fits)) in
+        rw (load-makes bs t p len none) (and-right (statusesFit bs) _ (and-right (eqb len 256) _ records))
+
+-- ---- how long a listing is
+
+pub print-short : (s : Stepped) → Loaded s → length (printOf s) ≤ 17 + 256 * 36
+print-short s v = go (s .answer) refl
+  where
+    go : (a : Answer) → s .answer ≡ a → length (printed a s) ≤ 17 + 256 * 36
+    go Done e =
+        let few = sound (s .table) (s .pool) (v .valid e) .counted in
+        omega (arith, lines-short (s .table) (waiting (s .pool)), waiting-short (s .pool))
+    go (Refused why) e = simp length-append (omega (arith, digits-most 10 (refusalNumber why)))
+
+pub listing-short : (bs : List ℕ) → length (listingOf bs) ≤ 17 + 256 * 36
+unfolding listingOf
+listing-short bs = print-short (loadOf bs noTable (laid []) 256) (loaded bs noTable (laid []) 256)
+
+-- ---- what a caller prints
+
+module _ (file out : List ℕ) where
+  -- the count lies within the buffer
+  pub list-inside : listOf file out .count ≤ length (listedOf file out)
+  unfolding listOf listedOf
+  list-inside = go (ltb (length out) room)
+    where
+      go : (b : Bool) → cond b (notWritten no.NoRoom) (record { answer = Done; count = length (listingOf file) }) .count
+          ≤ length (cond b out (listingOf file ++ drop (length (listingOf file)) out))
+      go true = omega arith
+      go false = rw length-append (omega arith)
+
+  -- where there is room, so many of its first bytes are the listing
+  pub list-tells : room ≤ length out → take (listOf file out .count) (listedOf file out) ≡ listingOf file
+  unfolding listOf listedOf
+  list-tells h = rw (le-ltb (length out) room h) (take-append-seam (listingOf file) _)

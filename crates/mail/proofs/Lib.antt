@@ -1,0 +1,4 @@
+pub mod Places
+pub mod Gaps
+pub mod Filling
+pub mod Chain

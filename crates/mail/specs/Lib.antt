@@ -1,0 +1,7 @@
+pub mod Sending
+pub mod Mix
+pub mod Equal
+pub mod Laid
+pub mod Sends
+pub mod Holds
+pub mod Laws

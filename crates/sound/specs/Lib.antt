@@ -1,0 +1,4 @@
+pub mod Nodes
+pub mod Obeys
+pub mod Made
+pub mod Sound

@@ -1,0 +1,36 @@
+-- What every action shares: it is refused and changes nothing, or it leaves a node and adds messages. Assumes nothing.
+use mathlib.Core.Bool.{cond}
+use mathlib.Core.List.{List}
+use Prim.Native.Nat.{ℕ}
+use lib.Dec.{leb}
+use lib.ListN.{length}
+use Rattle.rules.specs.declared.Message.{Message}
+use Rattle.rules.specs.declared.Pool.{Pool}
+use Rattle.rules.specs.declared.Refusal.{Refusal}
+use Rattle.rules.specs.declared.Refusal.the-variants as no
+use Rattle.rules.specs.declared.Answer.the-variants.{Done, Refused}
+use Rattle.rules.specs.declared.Plan.{Plan}
+use Rattle.rules.specs.declared.Planned.{Planned}
+use Rattle.rules.specs.declared.Planned.the-variants.{No, Go}
+use Rattle.rules.specs.Limits.{messagesHigh}
+use Rattle.rules.specs.Pool.{laid}
+use Rattle.rules.specs.Plans.{mailed}
+use Rattle.table.specs.declared.Table.{Table}
+use Rattle.table.specs.declared.Stepped.{Stepped}
+use Rattle.table.specs.Table.{withNode}
+
+abbrev pub refusedOf : Table → Pool → Refusal → Stepped
+refusedOf t p why = record { answer = Refused why; table = t; pool = p }
+
+abbrev pub doneOf : Table → Pool → Stepped
+doneOf t p = record { answer = Done; table = t; pool = p }
+
+-- 6 if the pool after the step would exceed 256; else node i and the pool are those of the plan
+unfoldable pub carriedOut : Table → Pool → List Message → ℕ → Plan → Stepped
+carriedOut t p ys i x =
+    cond (leb (length (mailed x ys)) messagesHigh) (doneOf (withNode t i (x .node)) (laid (mailed x ys))) (refusedOf t p no.Full)
+
+-- the table t, the pool p that a refusal leaves, the messages ys that wait when additions begin, the node's slot, and what is planned
+unfoldable pub settle : Table → Pool → List Message → ℕ → Planned → Stepped
+settle t p ys i (No why) = refusedOf t p why
+settle t p ys i (Go x) = carriedOut t p ys i x

@@ -1,0 +1,34 @@
+-- Settled. Definitions only. Assumes nothing.
+use mathlib.Core.Bool.{Bool, true, false, _&&_, _||_, not}
+use mathlib.Core.List.{List}
+use Prim.Native.Nat.{ℕ}
+use lib.Dec.{eqb}
+use Rattle.marks.specs.Marks.{has, gather, allTo, meet, removeOf}
+use Rattle.rules.specs.declared.Way.the-variants.{Up, Down}
+use Rattle.rules.specs.declared.Ring.{Ring}
+use Rattle.rules.specs.Leaf.{seenFrom, leftNeighbour, rightNeighbour}
+use Rattle.rules.specs.declared.Node.{Node}
+use Rattle.table.specs.declared.Table.{Table}
+use Rattle.table.specs.Table.{nodeAt, idsOf, ringOf}
+use Rattle.rules.specs.Nodes.{sidesOf}
+use Rattle.rules.specs.Plans.{isDead, isReady}
+
+-- the ready nodes, and the dead ones
+unfoldable pub readySet : Table → ℕ
+readySet t = gather (t .n) (λ s. isReady (nodeAt t s .status))
+
+unfoldable pub deadSet : Table → ℕ
+deadSet t = gather (t .n) (λ s. isDead (nodeAt t s .status))
+
+-- both neighbours are the next ready ids up and down the ring (itself if alone); no ready node is in a ready node's failed
+unfoldable pub settledAt : Ring → List ℕ → ℕ → ℕ → Node → Bool
+settledAt g ids ready i v =
+    eqb (leftNeighbour g ids i (sidesOf v)) (seenFrom Up g ids i (removeOf ready i))
+    && (eqb (rightNeighbour g ids i (sidesOf v)) (seenFrom Down g ids i (removeOf ready i)) && eqb (meet (v .failed) ready) 0)
+
+-- at least one ready node, none wait or ok; for each ready node the above
+unfoldable pub isSettled : Table → Bool
+isSettled t =
+    not (eqb (readySet t) 0)
+    && (allTo (t .n) (λ i. isDead (nodeAt t i .status) || isReady (nodeAt t i .status))
+    && allTo (t .n) (λ i. not (isReady (nodeAt t i .status)) || settledAt (ringOf t) (idsOf t) (readySet t) i (nodeAt t i)))

@@ -1,0 +1,25 @@
+-- A table is valid: all numbers are in range, every slot and every message obeys its rule (Fits of crate rules), and no two messages are equal. Assumes nothing.
+use mathlib.Core.Bool.{Bool, _&&_}
+use lib.Dec.{leb}
+use Rattle.marks.specs.Marks.{allTo}
+use Rattle.rules.specs.declared.Ring.{Ring}
+use Rattle.rules.specs.declared.Pool.{Pool}
+use Rattle.rules.specs.Limits.{messagesHigh}
+use Rattle.rules.specs.Fits.{numbersFit, slotFits, messageFits}
+use Rattle.rules.specs.Mail.{allDifferent}
+use Rattle.rules.specs.Pool.{messageAt, waiting}
+use Rattle.table.specs.declared.Table.{Table}
+use Rattle.table.specs.Table.{nodeAt, idsOf, ringOf}
+
+unfoldable pub nodesFit : Table → Bool
+nodesFit t = allTo 64 (λ s. slotFits (ringOf t) (idsOf t) s (nodeAt t s))
+
+unfoldable pub messagesFit : Ring → Pool → Bool
+messagesFit g p = allTo (p .count) (λ q. messageFits g (messageAt p q))
+
+-- at most 256 messages
+unfoldable pub poolFits : Ring → Pool → Bool
+poolFits g p = leb (p .count) messagesHigh && (messagesFit g p && allDifferent (waiting p))
+
+unfoldable pub validOf : Table → Pool → Bool
+validOf t p = numbersFit (ringOf t) && (nodesFit t && poolFits (ringOf t) p)

@@ -1,0 +1,1 @@
+// A join, computed by the checker from the definitions: in specs/, no code.

@@ -1,0 +1,71 @@
+-- `valid::is_valid` meets its contract: the definition's three tests, in its order. The first bounds M for the others. Assumes nothing.
+use borrow.Author.Needs.{needs}
+use borrow.Author.Tests.{not-true, not-false}
+use Prim.Native.Nat.{_≤_}
+use Rattle.sound.specs.Sound.{numbers-told}
+use Rattle.table.specs.Valid.{validOf}
+use Rattle.valid.proofs.is_valid.Statement.{statement}
+use Rattle.valid.proofs.is_valid.Tie as tie
+
+ring-of-requires : tie.Need-ring-of-requires
+ring-of-requires c κs = search needs
+
+numbers-fit-requires : tie.Need-numbers-fit-requires
+numbers-fit-requires c κs = search needs
+
+returns : tie.Need-returns
+unfolding validOf
+returns c =
+    let n = c .before in
+    rw (← n .before .ring-of .ensures, ← n .numbers-fit .ensures, not-true (n .numbers-fit .result) (c .if1 .taken))
+
+-- M is at most 32 where the numbers are in range
+narrow : (c : tie.Else1) → c .before .before .ring-of .result .m ≤ 32
+narrow c =
+    let n = c .before in
+    numbers-told (n .before .ring-of .result) (rw (← n .numbers-fit .ensures) (not-false (n .numbers-fit .result) (c .if1 .left))) .m-high
+
+nodes-fit-requires : tie.Need-nodes-fit-requires
+nodes-fit-requires c κs = rw (c .before .before .ring-of .ensures) at (narrow c)
+
+returns-2 : tie.Need-returns-2
+unfolding validOf
+returns-2 c =
+    let s = c .before in
+    let n = s .before .before in
+    rw (
+      ← n .before .ring-of .ensures,
+      ← n .numbers-fit .ensures,
+      not-false (n .numbers-fit .result) (s .before .if1 .left),
+      ← s .nodes-fit .ensures,
+      not-true (s .nodes-fit .result) (c .if2 .taken),
+    )
+
+pool-fits-requires : tie.Need-pool-fits-requires
+pool-fits-requires c κs = narrow (c .before .before)
+
+returns-3 : tie.Need-returns-3
+unfolding validOf
+returns-3 c =
+    let s = c .before .before in
+    let n = s .before .before in
+    rw (
+      ← n .before .ring-of .ensures,
+      ← n .numbers-fit .ensures,
+      not-false (n .numbers-fit .result) (s .before .if1 .left),
+      ← s .nodes-fit .ensures,
+      not-false (s .nodes-fit .result) (c .before .if2 .left),
+      c .pool-fits .ensures,
+    )
+
+pub is-valid-spec : {M : Type 1} → statement M
+is-valid-spec =
+    tie.close
+    (tie.spec
+    ring-of-requires
+    numbers-fit-requires
+    returns
+    nodes-fit-requires
+    returns-2
+    pool-fits-requires
+    returns-3)

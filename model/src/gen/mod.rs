@@ -1,0 +1,14 @@
+//! Seeded requests: tables, walks, damaged files and malformed requests.
+
+mod case;
+mod damage;
+mod messages;
+mod prime;
+mod requests;
+mod rng;
+mod starts;
+mod tables;
+mod walk;
+
+pub use requests::Requests;
+pub use rng::Rng;

@@ -1,0 +1,164 @@
+//! The mix of requests.
+
+use super::case::Case;
+use super::damage::damaged;
+use super::messages::{fill, key};
+use super::prime::primed;
+use super::rng::Rng;
+use super::starts::start;
+use super::tables;
+use super::walk::Walk;
+use crate::message::Message;
+use crate::wire::{Request, LONGEST};
+
+/// An endless source of requests, the same for the same seed.
+pub struct Requests {
+    rng: Rng,
+    walks: Vec<Walk>,
+}
+
+impl Requests {
+    pub fn new(seed: u64) -> Requests {
+        let mut rng = Rng::new(seed);
+        let walks = (0..4).map(|_| Walk::new(&mut rng)).collect();
+        Requests { rng, walks }
+    }
+
+    /// Puts the bytes of the next request after `out`, without a length word.
+    pub fn put(&mut self, out: &mut Vec<u8>) {
+        let rng = &mut self.rng;
+        match rng.below(100) {
+            0..=44 => {
+                let (case, action) = primed(rng);
+                Request::Step { action, file: &case.file() }.put(out);
+            }
+            45..=64 => {
+                let walk = rng.below(self.walks.len());
+                let (case, action) = self.walks[walk].advance(rng);
+                Request::Step { action, file: &case.file() }.put(out);
+            }
+            65..=76 => self.put_damaged(out),
+            77..=82 => start(rng).put(out),
+            83..=87 => Request::Settled { file: &self.calm().file() }.put(out),
+            88..=95 => {
+                let case = self.with_lookups();
+                Request::List { file: &case.file() }.put(out);
+            }
+            96 | 97 => Request::Load { file: &self.any().file() }.put(out),
+            _ => self.put_malformed(out),
+        }
+    }
+
+    /// Any valid table.
+    fn any(&mut self) -> Case {
+        let rng = &mut self.rng;
+        match rng.below(4) {
+            0 => {
+                let walk = rng.below(self.walks.len());
+                self.walks[walk].case().clone()
+            }
+            1 => tables::settled(rng),
+            2 => primed(rng).0,
+            _ => {
+                let mut case = tables::table(rng);
+                let count = rng.pick(&[0, 1, 3, 10, 255, 256]);
+                fill(rng, &mut case, count);
+                case
+            }
+        }
+    }
+
+    /// A table that is mostly settled.
+    fn calm(&mut self) -> Case {
+        match self.rng.below(8) {
+            0 => self.any(),
+            1 => {
+                let walk = self.rng.below(self.walks.len());
+                self.walks[walk].case().clone()
+            }
+            _ => tables::settled(&mut self.rng),
+        }
+    }
+
+    /// A table with lookups to follow.
+    fn with_lookups(&mut self) -> Case {
+        let mut case = match self.rng.below(3) {
+            0 => self.any(),
+            1 => tables::settled(&mut self.rng),
+            _ => tables::table(&mut self.rng),
+        };
+        let rng = &mut self.rng;
+        let count = rng.pick(&[0, 1, 2, 5, 20, 20, 60, 256]);
+        let mut last = key(rng, &case.table);
+        for _ in 0..count {
+            if !rng.one_in(3) {
+                last = key(rng, &case.table);
+            }
+            let to = rng.below(case.table.n) as u8;
+            case.push(Message::Lookup { to, key: last });
+        }
+        if rng.one_in(3) {
+            let waiting = case.table.count;
+            rng.shuffle(&mut case.pool[..waiting]);
+        }
+        case
+    }
+
+    fn put_damaged(&mut self, out: &mut Vec<u8>) {
+        let mut case = self.any();
+        let rng = &mut self.rng;
+        let count = rng.pick(&[0, 1, 8, 12]);
+        fill(rng, &mut case, count);
+        let file = damaged(rng, case.file());
+        match rng.below(8) {
+            0 => Request::List { file: &file },
+            1 => Request::Settled { file: &file },
+            2 => {
+                let (_, action) = primed(rng);
+                Request::Step { action, file: &file }
+            }
+            _ => Request::Load { file: &file },
+        }
+        .put(out);
+    }
+
+    fn put_malformed(&mut self, out: &mut Vec<u8>) {
+        let from = out.len();
+        let rng = &mut self.rng;
+        match rng.below(8) {
+            0 => {}
+            1 => out.push(rng.pick(&[5, 6, 255, 128, 0, 1, 2, 3, 4])),
+            2 => {
+                let (case, action) = primed(rng);
+                Request::Step { action, file: &case.file() }.put(out);
+                let number = rng.pick(&[0, 7, 8, u64::MAX, (1 << 32) + 1, 1 << 8, 6]);
+                out[from + 1..from + 9].copy_from_slice(&number.to_le_bytes());
+            }
+            3 | 4 => {
+                let request = if rng.one_in(2) { start(rng) } else { Request::Load { file: &[] } };
+                request.put(out);
+                let kept = rng.below(40);
+                out.truncate(from + kept);
+                out[from..].iter_mut().take(1).for_each(|kind| *kind = rng.pick(&[1, 2]));
+            }
+            5 => {
+                start(rng).put(out);
+                let odd = 1 + rng.below(3);
+                out.resize(out.len() + odd, 0);
+            }
+            6 if rng.one_in(10) => {
+                out.push(rng.pick(&[0, 1, 2, 3, 4, 5]));
+                let length = rng.pick(&[LONGEST, LONGEST + 1, LONGEST - 3, LONGEST + 5000, LONGEST - 1]);
+                let fill = rng.pick(&[0, 1, 8]);
+                out.resize(from + length, fill);
+            }
+            _ => {
+                let length = rng.below(60);
+                for _ in 0..length {
+                    out.push(rng.any() as u8);
+                }
+                out[from..].iter_mut().take(1).for_each(|kind| *kind %= 7);
+            }
+        }
+    }
+}

@@ -1,0 +1,88 @@
+//! The next hop for a key.
+
+use crate::marks::{bit, first_down, first_up, slots};
+use crate::reading::{Reading, Slip};
+use crate::slips;
+use crate::table::{Node, Status};
+use crate::view::View;
+
+impl<R: Reading> View<'_, R> {
+    /// A node other than `i` and nearer to `key`, or none where no candidate of the branch taken is nearer.
+    #[inline]
+    pub fn next_hop(&self, i: usize, key: u32) -> Option<usize> {
+        let node = &self.table.nodes[i];
+        let leaves = node.sides.content(i);
+        let usable = self.usable(node);
+        if self.leaf_branch(i, key) {
+            if self.r.takes(Slip::LeafNotNearer) {
+                return self.nearest(leaves & usable & !bit(i), key);
+            }
+            let hop = self.nearest_nearer(leaves & usable, i, key);
+            if hop.is_some() || !self.r.takes(Slip::LeafFallsThrough) {
+                return hop;
+            }
+        }
+        let known = self.r.pick(Slip::RoutingWithoutLeaves, 0, leaves) | node.routing;
+        if let Some(slipped) = slips::routing_hop(self, known & usable, i, key) {
+            return slipped;
+        }
+        self.nearest_nearer(known & usable, i, key)
+    }
+
+    /// The test between the branches. It does not name the key.
+    #[inline]
+    fn leaf_branch(&self, i: usize, key: u32) -> bool {
+        let (table, ring, sides) = (self.table, self.ring, self.table.nodes[i].sides);
+        if self.r.takes(Slip::RoutingAlways) {
+            return false;
+        }
+        if self.overlap(sides) && !self.r.takes(Slip::LeafTestWithoutOverlap) {
+            return true;
+        }
+        let leftmost = table.id(self.leftmost(i, sides));
+        let rightmost = table.id(self.rightmost(i, sides));
+        let inner = self.r.pick(Slip::LeafTestNamesKey, key, table.id(i));
+        ring.fall(leftmost, inner) <= ring.fall(leftmost, rightmost)
+    }
+
+    /// The nodes that may be hopped to: neither failed nor dead.
+    #[inline]
+    fn usable(&self, node: &Node) -> u64 {
+        let r = self.r;
+        let live = self.table.marks(|other| match other.status {
+            Status::Dead => r.takes(Slip::HopToDead),
+            Status::Wait => !(r.takes(Slip::HopNotToWait) || r.takes(Slip::HopOnlyToReady)),
+            Status::Ok => !r.takes(Slip::HopOnlyToReady),
+            Status::Ready => true,
+        });
+        live & !r.pick(Slip::HopToFailed, 0, node.failed)
+    }
+
+    /// The nearest of `set`, if it is nearer than `i`.
+    #[inline]
+    fn nearest_nearer(&self, set: u64, i: usize, key: u32) -> Option<usize> {
+        let rank = |slot| self.ring.rank(key, self.table.id(slot));
+        self.nearest(set, key).filter(|&slot| rank(slot) < rank(i))
+    }
+
+    /// The nearest to `key` of a set: the first met going up from the key or the first going down.
+    #[inline]
+    pub fn nearest(&self, set: u64, key: u32) -> Option<usize> {
+        let rank = |slot: &usize| self.ring.rank(key, self.table.id(*slot));
+        if self.r.takes(Slip::HalfRingTurn) {
+            return slots(set).min_by_key(rank);
+        }
+        if set == 0 {
+            return None;
+        }
+        let from = self.table.listed().partition_point(|node| node.id < key);
+        let (up, down) = (first_up(set, from & 63), first_down(set, from & 63));
+        Some(if rank(&up) < rank(&down) { up } else { down })
+    }
+
+    /// The members of `set` nearer to `key` than `i`.
+    pub fn nearer_than(&self, set: u64, i: usize, key: u32) -> u64 {
+        let rank = |slot| self.ring.rank(key, self.table.id(slot));
+        slots(set).filter(|&slot| rank(slot) < rank(i)).fold(0, |found, slot| found | bit(slot))
+    }
+}

@@ -1,0 +1,38 @@
+//! An independent model of the ring bench of document 01.
+//!
+//! The right reading is the crate's plain functions. Each `*_as` function takes a [`Reading`],
+//! so that misreadings of 01 run through the same source.
+
+mod actions;
+mod change;
+mod file;
+pub mod gen;
+mod hop;
+mod index;
+mod listing;
+pub mod marks;
+mod message;
+mod reading;
+mod refusal;
+mod ring;
+mod settled;
+mod slips;
+mod start;
+mod step;
+mod table;
+mod take;
+mod valid;
+mod view;
+pub mod wire;
+
+pub use file::{load, load_as, total, write, write_as, HEADER, LARGEST, MESSAGE, NODE};
+pub use listing::{listing, listing_as};
+pub use message::{Fields, Message, Pool, EMPTY_POOL};
+pub use reading::{Reading, Right, Slip, Slipped};
+pub use refusal::Refusal;
+pub use ring::Ring;
+pub use settled::{settled, settled_as};
+pub use start::{start, start_as};
+pub use step::{step, step_as, Action};
+pub use table::{Node, Sides, Status, Table};
+pub use valid::is_valid;

@@ -1,0 +1,92 @@
+//! A step: one of six actions on a valid table.
+
+use crate::change::{Change, Scene};
+use crate::index::Index;
+use crate::message::Message;
+use crate::reading::{Reading, Right, Slip};
+use crate::refusal::{refuse_if, Refusal};
+use crate::table::Table;
+use crate::valid::{check, lent_mut};
+use crate::view::View;
+
+/// One of the six actions with its arguments, which may be out of range.
+#[derive(Clone, Copy, Debug, PartialEq, Eq)]
+pub enum Action {
+    Lookup { at: usize, key: u64 },
+    Join { node: usize, seed: usize },
+    RequestLease { node: usize },
+    LeaseExpired { node: usize, partner: usize },
+    GrantExpired { node: usize, partner: usize },
+    Take { place: usize },
+}
+
+/// Makes the action on a valid table, or refuses and changes nothing.
+pub fn step(table: &mut Table, pool: &mut [Message], action: Action) -> Result<(), Refusal> {
+    step_as(Right, table, pool, action)
+}
+
+#[inline]
+pub fn step_as<R: Reading>(
+    r: R,
+    table: &mut Table,
+    pool: &mut [Message],
+    action: Action,
+) -> Result<(), Refusal> {
+    let pool = lent_mut(pool)?;
+    let mut index = Index::new();
+    check(r, table, pool, &mut index)?;
+    let mut change = Change::none();
+    Scene { view: View::new(r, table), pool, index: &index }.plan(action, &mut change)?;
+    refuse_if(!change.fits(r, table.count), Refusal::PoolFull)?;
+    change.carry_out(r, table, pool);
+    Ok(())
+}
+
+impl<R: Reading> Scene<'_, R> {
+    #[inline]
+    fn plan(&self, action: Action, change: &mut Change) -> Result<(), Refusal> {
+        match action {
+            Action::Lookup { at, key } => {
+                change.at(self, self.slot(at)?);
+                self.lookup(change, self.key(key)?)
+            }
+            Action::Join { node, seed } => {
+                change.at(self, self.slot(node)?);
+                self.join(change, self.slot(seed)?)
+            }
+            Action::RequestLease { node } => {
+                change.at(self, self.slot(node)?);
+                self.request_lease(change)
+            }
+            Action::LeaseExpired { node, partner } => {
+                change.at(self, self.slot(node)?);
+                self.lease_expired(change, self.slot(partner)?)
+            }
+            Action::GrantExpired { node, partner } => {
+                change.at(self, self.slot(node)?);
+                self.grant_expired(change, self.slot(partner)?)
+            }
+            Action::Take { place } => self.take(change, self.place(place)?),
+        }
+    }
+
+    #[inline]
+    fn slot(&self, slot: usize) -> Result<usize, Refusal> {
+        refuse_if(slot >= self.view.table.n, Refusal::OutOfRange)?;
+        Ok(slot)
+    }
+
+    #[inline]
+    fn key(&self, key: u64) -> Result<u32, Refusal> {
+        let out = key > u64::from(self.view.ring.top()) && !self.view.r.takes(Slip::KeyWraps);
+        refuse_if(out, Refusal::OutOfRange)?;
+        Ok(self.view.ring.wrap(key))
+    }
+
+    #[inline]
+    fn place(&self, place: usize) -> Result<usize, Refusal> {
+        let place = place.wrapping_sub(self.view.r.pick(Slip::PlacesFromOne, 1, 0));
+        refuse_if(place >= self.view.table.count, Refusal::OutOfRange)?;
+        Ok(place)
+    }
+}

@@ -1,0 +1,159 @@
+//! Validity of a table and its messages.
+
+use crate::index::Index;
+use crate::marks::{below, has};
+use crate::message::{Message, Pool};
+use crate::reading::{Reading, Right, Slip};
+use crate::refusal::{refuse_if, Refusal};
+use crate::table::{Node, Sides, Table};
+
+/// Whether the table is valid with this list of messages.
+pub fn is_valid(table: &Table, pool: &[Message]) -> bool {
+    lent(pool).is_ok_and(|pool| check(Right, table, pool, &mut Index::new()).is_ok())
+}
+
+/// The list as one of exactly 256 places.
+pub(crate) fn lent(pool: &[Message]) -> Result<&Pool, Refusal> {
+    pool.try_into().map_err(|_| Refusal::Invalid)
+}
+
+pub(crate) fn lent_mut(pool: &mut [Message]) -> Result<&mut Pool, Refusal> {
+    pool.try_into().map_err(|_| Refusal::Invalid)
+}
+
+/// Whether M, L and the number of nodes are in range.
+#[inline]
+pub(crate) fn in_limits<R: Reading>(r: R, m: u32, l: u32, n: usize) -> bool {
+    let tops = m == 32 || l == 8 || n == 64;
+    let ranges = Table::M.contains(&m) && Table::L.contains(&l) && (1..=Table::NODES).contains(&n);
+    ranges && !(r.takes(Slip::TopsRefused) && tops)
+}
+
+/// Refuses an invalid table; of a valid one notes every message in the index.
+#[inline]
+pub(crate) fn check<R: Reading>(r: R, table: &Table, pool: &Pool, index: &mut Index) -> Result<(), Refusal> {
+    let limits = Limits::of(r, table)?;
+    refuse_if(!limits.nodes_obey(table), Refusal::Invalid)?;
+    for place in 0..table.count {
+        refuse_if(!limits.message_obeys(&pool[place]), Refusal::Invalid)?;
+        let alone = index.note(pool, place);
+        refuse_if(!alone && !r.takes(Slip::EqualAccepted), Refusal::Invalid)?;
+    }
+    Ok(())
+}
+
+/// What the numbers of a table allow.
+struct Limits<R> {
+    l: u32,
+    n: usize,
+    top: u64,
+    listed: u64,
+    r: R,
+}
+
+impl<R: Reading> Limits<R> {
+    /// M, L, n and the count are in range.
+    #[inline]
+    fn of(r: R, table: &Table) -> Result<Limits<R>, Refusal> {
+        let Table { m, l, n, count, .. } = *table;
+        let ranges = in_limits(Right, m, l, n) && count <= Table::MESSAGES;
+        refuse_if(!ranges, Refusal::Invalid)?;
+        let top = r.pick(Slip::IdAtN, 1 << m, (1 << m) - 1);
+        let listed = r.pick(Slip::MarkPastN, !0, below(n));
+        Ok(Limits { l, n, top, listed, r })
+    }
+
+    #[inline]
+    fn nodes_obey(&self, table: &Table) -> bool {
+        let (listed, unlisted) = table.nodes.split_at(table.n);
+        let marks = listed.iter().enumerate().all(|(slot, node)| self.node_obeys(slot, node));
+        let apart = self.r.pick(Slip::IdsMayRepeat, 0, 1);
+        let rising = listed.windows(2).all(|pair| u64::from(pair[0].id) + apart <= u64::from(pair[1].id));
+        let top = listed.last().is_some_and(|node| u64::from(node.id) <= self.top);
+        marks && rising && top && unlisted.iter().all(|node| *node == Node::BLANK)
+    }
+
+    #[inline]
+    fn node_obeys(&self, slot: usize, node: &Node) -> bool {
+        let Node { sides, probing, failed, routing, lease, grant, .. } = *node;
+        let mut not_self = sides.left | sides.right | probing | failed;
+        if self.r.takes(Slip::SelfInProbing) {
+            not_self = sides.left | sides.right;
+        }
+        if self.r.takes(Slip::SelfInNoSet) {
+            not_self |= routing | lease | grant;
+        }
+        let all = sides.left | sides.right | probing | failed | routing | lease | grant;
+        self.listed(all) && !has(not_self, slot) && self.sides_fit(sides)
+    }
+
+    #[inline]
+    fn sides_fit(&self, sides: Sides) -> bool {
+        let most = self.l + self.r.pick(Slip::SidePastL, 1, 0);
+        if self.r.takes(Slip::SidesTogether) {
+            return (sides.left | sides.right).count_ones() <= 2 * most;
+        }
+        sides.left.count_ones() <= most && sides.right.count_ones() <= most
+    }
+
+    #[inline]
+    fn message_obeys(&self, message: &Message) -> bool {
+        match *message {
+            Message::Blank => false,
+            Message::Lookup { to, key } | Message::NoLegalRoute { to, key } => self.slot(to) && self.key(key),
+            Message::JoinRequest { to, node, routing } => {
+                self.slots(to, node) && self.listed(routing) && self.sent(to, node)
+            }
+            Message::JoinReply { to, owner, routing, sides } => {
+                self.slots(to, owner) && self.listed(routing) && self.leaves(owner, sides)
+            }
+            Message::LsProbe { to, node, sides, failed }
+            | Message::LsProbeReply { to, node, sides, failed } => {
+                self.slots(to, node)
+                    && self.listed(failed)
+                    && self.leaves(node, sides)
+                    && self.sent(to, node)
+                    && !(self.r.takes(Slip::SenderInFailed) && has(failed, node.into()))
+            }
+            Message::LeaseRequest { to, node } => self.slots(to, node) && self.sent(to, node),
+            Message::BroadcastLSet { to, owner, sides, .. } => {
+                self.slots(to, owner) && self.leaves(owner, sides)
+            }
+        }
+    }
+
+    #[inline]
+    fn slot(&self, slot: u8) -> bool {
+        usize::from(slot) < self.n
+    }
+
+    #[inline]
+    fn slots(&self, to: u8, other: u8) -> bool {
+        self.slot(to.max(other))
+    }
+
+    #[inline]
+    fn key(&self, key: u32) -> bool {
+        u64::from(key) <= self.top || self.r.takes(Slip::CarriedKeyFree)
+    }
+
+    #[inline]
+    fn listed(&self, set: u64) -> bool {
+        set & !self.listed == 0
+    }
+
+    /// A carried leaf set obeys the node rules for its owner, which is listed.
+    #[inline]
+    fn leaves(&self, owner: u8, sides: Sides) -> bool {
+        let both = sides.left | sides.right;
+        self.listed(both)
+            && (!has(both, owner.into()) || self.r.takes(Slip::CarriedOwnerInSide))
+            && (self.sides_fit(sides) || self.r.takes(Slip::CarriedSidesFree))
+    }
+
+    /// A rule that 01 does not have.
+    #[inline]
+    fn sent(&self, to: u8, node: u8) -> bool {
+        !(self.r.takes(Slip::SentToItself) && to == node)
+    }
+}

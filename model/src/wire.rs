@@ -1,0 +1,155 @@
+//! Requests and replies of the driver, without their length words.
+//!
+//! A request is a kind byte, its arguments as 64-bit words, and a table file (for a start the ids).
+//! A reply is a 32-bit number and, where it is 0, the result.
+
+use crate::file::{load_as, write_as, LARGEST};
+use crate::listing::listing_as;
+use crate::message::EMPTY_POOL;
+use crate::reading::{Reading, Right};
+use crate::refusal::Refusal;
+use crate::settled::settled_as;
+use crate::start::start_as;
+use crate::step::{step_as, Action};
+use crate::table::Table;
+
+/// The longest request: the driver's buffer.
+pub const LONGEST: usize = 65_536;
+
+/// The number for a request that is none.
+pub const MALFORMED: u32 = u32::MAX;
+
+/// A well-formed request.
+#[derive(Clone, Debug, PartialEq, Eq)]
+pub enum Request<'a> {
+    Load { file: &'a [u8] },
+    Step { action: Action, file: &'a [u8] },
+    Start { m: u64, l: u64, ready: u64, ids: Vec<u32> },
+    Settled { file: &'a [u8] },
+    List { file: &'a [u8] },
+}
+
+impl<'a> Request<'a> {
+    pub fn parse(bytes: &'a [u8]) -> Option<Request<'a>> {
+        if bytes.len() > LONGEST {
+            return None;
+        }
+        let (&kind, file) = bytes.split_first()?;
+        match kind {
+            0 => Some(Request::Load { file }),
+            1 => {
+                let ([number, first, second], file) = three_words(file)?;
+                Some(Request::Step { action: action(number, first, second)?, file })
+            }
+            2 => {
+                let ([m, l, ready], ids) = three_words(file)?;
+                let (ids, []) = ids.as_chunks() else {
+                    return None;
+                };
+                Some(Request::Start {
+                    m,
+                    l,
+                    ready,
+                    ids: ids.iter().map(|id| u32::from_le_bytes(*id)).collect(),
+                })
+            }
+            3 => Some(Request::Settled { file }),
+            4 => Some(Request::List { file }),
+            _ => None,
+        }
+    }
+
+    /// The request's bytes, after `out`.
+    pub fn put(&self, out: &mut Vec<u8>) {
+        match self {
+            Request::Load { file } => put_parts(out, 0, [], file),
+            Request::Step { action, file } => put_parts(out, 1, action_words(*action), file),
+            Request::Start { m, l, ready, ids } => {
+                let ids: Vec<u8> = ids.iter().flat_map(|id| id.to_le_bytes()).collect();
+                put_parts(out, 2, [*m, *l, *ready], &ids);
+            }
+            Request::Settled { file } => put_parts(out, 3, [], file),
+            Request::List { file } => put_parts(out, 4, [], file),
+        }
+    }
+}
+
+fn put_parts<const N: usize>(out: &mut Vec<u8>, kind: u8, words: [u64; N], rest: &[u8]) {
+    out.push(kind);
+    words.iter().for_each(|word| out.extend_from_slice(&word.to_le_bytes()));
+    out.extend_from_slice(rest);
+}
+
+fn three_words(bytes: &[u8]) -> Option<([u64; 3], &[u8])> {
+    let (words, rest) = bytes.split_first_chunk::<24>()?;
+    let word = |i: usize| u64::from_le_bytes(std::array::from_fn(|byte| words[8 * i + byte]));
+    Some(([word(0), word(1), word(2)], rest))
+}
+
+fn action(number: u64, first: u64, second: u64) -> Option<Action> {
+    let slot = |word: u64| usize::try_from(word).unwrap_or(usize::MAX);
+    let (node, partner) = (slot(first), slot(second));
+    match number {
+        1 => Some(Action::Lookup { at: node, key: second }),
+        2 => Some(Action::Join { node, seed: partner }),
+        3 => Some(Action::RequestLease { node }),
+        4 => Some(Action::LeaseExpired { node, partner }),
+        5 => Some(Action::GrantExpired { node, partner }),
+        6 => Some(Action::Take { place: node }),
+        _ => None,
+    }
+}
+
+fn action_words(action: Action) -> [u64; 3] {
+    match action {
+        Action::Lookup { at, key } => [1, at as u64, key],
+        Action::Join { node, seed } => [2, node as u64, seed as u64],
+        Action::RequestLease { node } => [3, node as u64, 0],
+        Action::LeaseExpired { node, partner } => [4, node as u64, partner as u64],
+        Action::GrantExpired { node, partner } => [5, node as u64, partner as u64],
+        Action::Take { place } => [6, place as u64, 0],
+    }
+}
+
+/// Puts the reply to a request after `out`.
+pub fn answer(request: &[u8], out: &mut Vec<u8>) {
+    answer_as(Right, request, out);
+}
+
+pub fn answer_as<R: Reading>(r: R, request: &[u8], out: &mut Vec<u8>) {
+    let start = out.len();
+    out.extend_from_slice(&0u32.to_le_bytes());
+    let number = match Request::parse(request) {
+        None => MALFORMED,
+        Some(request) => match result(r, &request, out) {
+            Ok(()) => 0,
+            Err(refusal) => refusal.number(),
+        },
+    };
+    out[start..start + 4].copy_from_slice(&number.to_le_bytes());
+}
+
+fn result<R: Reading>(r: R, request: &Request, out: &mut Vec<u8>) -> Result<(), Refusal> {
+    let (mut table, mut pool) = (Table::BLANK, EMPTY_POOL);
+    match request {
+        Request::Load { file } => load_as(r, file, &mut table, &mut pool)?,
+        Request::Step { action, file } => {
+            load_as(r, file, &mut table, &mut pool)?;
+            step_as(r, &mut table, &mut pool, *action)?;
+        }
+        Request::Start { m, l, ready, ids } => start_as(r, *m, *l, ids, *ready, &mut table, &mut pool)?,
+        Request::Settled { file } => {
+            load_as(r, file, &mut table, &mut pool)?;
+            out.push(settled_as(r, &table, &pool)?.into());
+            return Ok(());
+        }
+        Request::List { file } => {
+            out.extend_from_slice(&listing_as(r, file));
+            return Ok(());
+        }
+    }
+    let mut buffer = [0; LARGEST];
+    let length = write_as(r, &table, &pool, &mut buffer)?;
+    out.extend_from_slice(&buffer[..length]);
+    Ok(())
+}

@@ -1,0 +1,115 @@
+//! The bench once more, slowly, with sets of slots and straight from 01's sentences. It shares no code
+//! with the model and takes the same requests.
+
+#![allow(dead_code)]
+
+pub mod file;
+pub mod leaf;
+pub mod others;
+pub mod ring;
+pub mod step;
+
+use std::collections::BTreeSet;
+
+pub type Set = BTreeSet<usize>;
+
+pub const DEAD: u32 = 0;
+pub const WAIT: u32 = 1;
+pub const OK: u32 = 2;
+pub const READY: u32 = 3;
+
+#[derive(Clone, Debug, PartialEq)]
+pub struct Node {
+    pub id: i64,
+    pub status: u32,
+    pub left: Set,
+    pub right: Set,
+    pub probing: Set,
+    pub failed: Set,
+    pub routing: Set,
+    pub lease: Set,
+    pub grant: Set,
+}
+
+/// A message as its record: fields that the kind lacks are 0 or empty.
+#[derive(Clone, Debug, Default, PartialEq)]
+pub struct Message {
+    pub kind: u32,
+    pub to: usize,
+    pub node_or_key: i64,
+    pub flag: u32,
+    pub owner: usize,
+    pub routing: Set,
+    pub left: Set,
+    pub right: Set,
+    pub failed: Set,
+}
+
+#[derive(Clone, Debug, PartialEq)]
+pub struct Table {
+    pub m: u32,
+    pub l: usize,
+    pub nodes: Vec<Node>,
+    pub pool: Vec<Message>,
+}
+
+/// What a request deserves: every number that applies, and the result where none does.
+#[derive(Debug)]
+pub struct Verdict {
+    pub numbers: BTreeSet<u32>,
+    pub result: Vec<u8>,
+}
+
+impl Verdict {
+    fn done(result: Vec<u8>) -> Verdict {
+        Verdict { numbers: BTreeSet::new(), result }
+    }
+
+    fn refused(numbers: BTreeSet<u32>) -> Verdict {
+        Verdict { numbers, result: Vec::new() }
+    }
+
+    /// The reply: the lowest number and no result, or 0 and the result.
+    pub fn reply(&self) -> Vec<u8> {
+        let number = self.numbers.first().copied().unwrap_or(0);
+        let mut reply = number.to_le_bytes().to_vec();
+        if number == 0 {
+            reply.extend_from_slice(&self.result);
+        }
+        reply
+    }
+}
+
+pub fn judge(request: &[u8]) -> Verdict {
+    let malformed = || Verdict::refused(BTreeSet::from([u32::MAX]));
+    if request.is_empty() || request.len() > 65_536 {
+        return malformed();
+    }
+    let arguments = if matches!(request[0], 1 | 2) { 24 } else { 0 };
+    if request[0] > 4 || request.len() < 1 + arguments {
+        return malformed();
+    }
+    let words: Vec<u64> = request[1..1 + arguments]
+        .chunks(8)
+        .map(|bytes| bytes.iter().rev().fold(0, |word, byte| word << 8 | u64::from(*byte)))
+        .collect();
+    let rest = &request[1 + arguments..];
+    match request[0] {
+        1 if !(1..=6).contains(&words[0]) => malformed(),
+        2 if !rest.len().is_multiple_of(4) => malformed(),
+        2 => others::start(words[0], words[1], words[2], rest),
+        4 => Verdict::done(others::listing(rest)),
+        kind => {
+            let numbers = file::refusals(rest);
+            if !numbers.is_empty() {
+                return Verdict::refused(numbers);
+            }
+            let table = file::read(rest);
+            match kind {
+                0 => Verdict::done(file::bytes(&table)),
+                1 => step::judge(&table, words[0], words[1], words[2]),
+                _ => Verdict::done(vec![u8::from(others::settled(&table))]),
+            }
+        }
+    }
+}

@@ -1,0 +1,115 @@
+//! Requests and replies, and the misreadings.
+
+mod common;
+
+use common::Bench;
+use model::gen::Requests;
+use model::wire::{answer, answer_as, Request, LONGEST};
+use model::{Action, Slip, Slipped};
+
+fn reply(request: &[u8]) -> (u32, Vec<u8>) {
+    let mut out = Vec::new();
+    answer(request, &mut out);
+    let (number, result) = out.split_first_chunk().expect("a reply has a number");
+    (u32::from_le_bytes(*number), result.to_vec())
+}
+
+fn ask(request: Request) -> (u32, Vec<u8>) {
+    let mut bytes = Vec::new();
+    request.put(&mut bytes);
+    assert_eq!(Request::parse(&bytes), Some(request));
+    reply(&bytes)
+}
+
+#[test]
+fn requests_get_their_results() {
+    let ids = vec![17, 18, 65, 95];
+    let (number, file) = ask(Request::Start { m: 8, l: 1, ready: 15, ids });
+    assert_eq!(number, 0);
+    assert_eq!(ask(Request::Load { file: &file }), (0, file.clone()));
+    assert_eq!(ask(Request::Settled { file: &file }), (0, vec![1]));
+    let action = Action::Lookup { at: 0, key: 80 };
+    let (number, after) = ask(Request::Step { action, file: &file });
+    assert_eq!(number, 0);
+    assert_eq!(ask(Request::Step { action, file: &after }), (3, vec![]));
+    assert_eq!(ask(Request::List { file: &after }), (0, b"key from to hops\n80 17 65 2\n".to_vec()));
+    let action = Action::Take { place: 0 };
+    let (number, routed) = ask(Request::Step { action, file: &after });
+    assert_eq!((number, routed.len()), (0, after.len()));
+}
+
+#[test]
+fn files_that_do_not_load_answer_their_number() {
+    let file = Bench::start(8, 1, &[17, 18], &[0]).file();
+    let action = Action::Lookup { at: 99, key: 0 };
+    for (bytes, wanted) in [(&file[..31], 7), (&[0; 32][..], 8), (&file[..40], 9)] {
+        assert_eq!(ask(Request::Load { file: bytes }), (wanted, vec![]));
+        assert_eq!(ask(Request::Step { action, file: bytes }), (wanted, vec![]));
+        assert_eq!(ask(Request::Settled { file: bytes }), (wanted, vec![]));
+        assert_eq!(ask(Request::List { file: bytes }), (0, format!("refused {wanted}\n").into_bytes()));
+    }
+}
+
+#[test]
+fn malformed_requests_have_their_own_number() {
+    let malformed = (u32::MAX, vec![]);
+    assert_eq!(reply(&[]), malformed);
+    assert_eq!(reply(&[5]), malformed);
+    assert_eq!(reply(&[255]), malformed);
+    assert_eq!(reply(&[1; 24]), malformed, "too short for its arguments");
+    assert_eq!(reply(&[2; 24]), malformed, "too short for its arguments");
+    assert_eq!(reply(&[0; LONGEST + 1]), malformed, "too long");
+    assert_eq!(reply(&[0; LONGEST]), (8, vec![]));
+    for number in [0u64, 7, 1 << 32 | 1, u64::MAX] {
+        let mut step = vec![1];
+        step.extend_from_slice(&number.to_le_bytes());
+        step.resize(25, 0);
+        assert_eq!(reply(&step), malformed, "action {number}");
+        step[1..9].copy_from_slice(&6u64.to_le_bytes());
+        assert_eq!(reply(&step), (7, vec![]));
+    }
+    for odd in [1, 2, 3] {
+        let mut start = vec![2];
+        start.resize(25 + 8 + odd, 0);
+        assert_eq!(reply(&start), malformed, "ids of {odd} bytes too many");
+    }
+    assert_eq!(reply(&[0]), (7, vec![]));
+    assert_eq!(reply(&[4]), (0, b"refused 7\n".to_vec()));
+}
+
+#[test]
+fn the_same_seed_gives_the_same_requests() {
+    let (mut one, mut two) = (Requests::new(5), Requests::new(5));
+    for _ in 0..500 {
+        let (mut a, mut b) = (Vec::new(), Vec::new());
+        one.put(&mut a);
+        two.put(&mut b);
+        assert_eq!(a, b);
+    }
+}
+
+#[test]
+fn every_misreading_is_told_apart_or_equivalent() {
+    let mut open: Vec<Slip> = Slip::ALL.to_vec();
+    assert!(open.len() >= 40);
+    let mut requests = Requests::new(1);
+    let (mut request, mut right, mut other) = (Vec::new(), Vec::new(), Vec::new());
+    for nth in 0..60_000 {
+        request.clear();
+        requests.put(&mut request);
+        right.clear();
+        answer(&request, &mut right);
+        let mut same = |reading: Slipped| {
+            other.clear();
+            answer_as(reading, &request, &mut other);
+            other == right
+        };
+        assert!(same(Slipped(None)), "request {nth}: no slip is the right reading");
+        open.retain(|&slip| same(Slipped(Some(slip))));
+        if nth > 2_000 && open.iter().all(|slip| slip.equivalent().is_some()) {
+            break;
+        }
+    }
+    let wanted: Vec<Slip> = Slip::ALL.iter().copied().filter(|slip| slip.equivalent().is_some()).collect();
+    assert_eq!(open, wanted);
+}
