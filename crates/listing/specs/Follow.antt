@@ -1,7 +1,8 @@
--- Following a lookup by the rules alone, with no pool and no validity test at each hop (`followTo`), is following it by the real step (`trip-is`). The idea: a
--- valid table with the one lookup is valid, its Take is one of four (`take-stopped`, `take-delivered`, `take-stranded`, `take-routed`), and each leaves the table as
--- it was. What a listing says is then tied to the steps made: `Travels` is a journey of done Takes, `follow-travels` says that the listing's numbers are those of
--- one, and `travels-follow` that they are no other's. The measure: how many listed nodes are nearer to the key (crate demand). Assumes nothing.
+-- Following a lookup by the rules alone, with no pool and no validity test at each hop (`followTo`), is following it by the real step
+-- (`trip-is`). The idea: a valid table with the one lookup is valid, its Take is one of four (`does`), and each leaves the table as it was.
+-- What a listing says is then tied to the steps made: `Travels` is a journey of real Takes, `follow-travels` says that the listing's numbers
+-- are those of one, and `travels-follow` that no other numbers are. The measure: how many listed nodes are nearer to the key than the holder
+-- (crate demand). Assumes nothing.
 use mathlib.Core.Path.{_≡_, refl, sym, _∙_, ap}
 use mathlib.Core.Bool.{Bool, true, false, cond, not}
 use mathlib.Core.List.{List, [], _∷_}
@@ -232,7 +233,8 @@ follow-is l = trip-is 64 l 0
 
 -- ---- the listing's numbers, by the steps made
 
--- the lookup m, taken again and again as the only message of the table t, ends so: at the slot whose Take delivered it, or nowhere, after so many Takes that routed it
+-- the lookup m, taken again and again as the only message of the table t, ends so: at the slot whose Take delivered it, or at none, after so
+-- many Takes that routed it
 pub data Travels (t : Table) : Message → Found → ℕ → Type 0 where
   -- refused by a node that is not ready
   stopped : {m : Message} → taken t m ≡ refusedOf t (only m) no.Status → Travels t m Nothing 0
@@ -308,7 +310,8 @@ module _ {t : Table} {m : Message} (l : Lone t m) where
   pub travels-follow : (end : Found) (hops : ℕ) → Travels t m end hops → followOf t m ≡ ended end hops
   travels-follow end hops w =
       let n = suc (hops + journey .hops) in
-      let told : tripOf n t (only m) 0 ≡ ended (journey .end) (journey .hops) = travels-trip (journey .travels) n 0 (omega arith) ∙ rw zero-add in
+      let told : tripOf n t (only m) 0 ≡ ended (journey .end) (journey .hops) =
+      travels-trip (journey .travels) n 0 (omega arith) ∙ rw zero-add in
       journey-told ∙ sym told ∙ travels-trip w n 0 (omega arith) ∙ rw zero-add
 
   -- it is routed at most n - 1 times

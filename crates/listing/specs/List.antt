@@ -1,5 +1,5 @@
--- The listing of any file, in a buffer of the caller's. How long it can be, that a loaded table is valid, and that a file longer than any table file has the
--- listing of its first bytes: a reader that keeps only so many of them tells the same. Assumes nothing.
+-- The listing of any file, in a buffer of the caller's: what `list` leaves, for every file and buffer. Then that a loaded table is valid, how
+-- long a listing can be, and that the bytes so counted are the listing. Assumes nothing.
 use mathlib.Core.Path.{_≡_, refl, sym, _∙_, ap}
 use mathlib.Core.Bool.{Bool, true, false, cond, _&&_, not}
 use mathlib.Core.List.{List, [], _∷_, _++_}
