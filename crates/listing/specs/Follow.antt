@@ -3,7 +3,7 @@
 -- What a listing says is then tied to the steps made: `Travels` is a journey of real Takes, `follow-travels` says that the listing's numbers
 -- are those of one, and `travels-follow` that no other numbers are. The measure: how many listed nodes are nearer to the key than the holder
 -- (crate demand). Assumes nothing.
-use mathlib.Core.Path.{_≡_, refl, sym, _∙_, ap}
+use mathlib.Core.Path.{_≡_, refl, sym, _∙_}
 use mathlib.Core.Bool.{Bool, true, false, cond, not}
 use mathlib.Core.List.{List, [], _∷_}
 use Prim.Native.Nat.{ℕ, zero, suc, _+_, _-_, _^_, _<_, _≤_}
@@ -27,14 +27,14 @@ use Rattle.rules.specs.Hop.{nextHop}
 use Rattle.rules.specs.Leaf.{coversOf}
 use Rattle.rules.specs.Letters.{lookup, noLegalRoute}
 use Rattle.rules.specs.Mail.{firstFrom, firstEqual, added, removedAt, allDifferent}
-use Rattle.rules.specs.Nodes.{noNode, sidesOf, placed}
-use Rattle.rules.specs.Plans.{isReady, mailed}
+use Rattle.rules.specs.Nodes.{sidesOf, placed}
+use Rattle.rules.specs.Plans.{isReady}
 use Rattle.rules.specs.Pool.{laid, messageAt}
 use Rattle.rules.specs.Take.{planTakeLookup, planTake}
 use Rattle.mail.specs.Laws.{mailed-quiet, mailed-send}
 use Rattle.table.specs.declared.Table.{Table}
 use Rattle.table.specs.declared.Stepped.{Stepped}
-use Rattle.table.specs.Table.{nodeAt, withNode, ringOf, idsOf}
+use Rattle.table.specs.Table.{nodeAt, ringOf, idsOf}
 use Rattle.table.specs.Settle.{refusedOf, doneOf, carriedOut, settle}
 use Rattle.table.specs.Settled.{deadSet}
 use Rattle.table.specs.Step.{isSound, stepOf}
@@ -48,7 +48,7 @@ use Rattle.demand.specs.Routings.{left, hop-nearer, nearer-falls, nearer-few}
 use Rattle.listing.specs.declared.Trip.{Trip}
 use Rattle.listing.specs.declared.Turn.{Turn}
 use Rattle.listing.specs.declared.Turn.the-variants.{Delivers, Stops, Goes}
-use Rattle.listing.specs.Trip.{ended, tripBy, tripOf, followOf}
+use Rattle.listing.specs.Trip.{ended, tripOf, followOf}
 
 -- ---- a lookup that waits alone
 

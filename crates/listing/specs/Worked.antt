@@ -6,20 +6,26 @@ use mathlib.Core.List.{List, [], _∷_, _++_}
 use Prim.Native.Nat.{ℕ}
 use lib.ListN.{take, set}
 use Rattle.ring.specs.Distance.{fallOf, signedOf, absDistOf, risesTo, nearer, leftCoverOf, rightCoverOf, coversKey}
-use Rattle.marks.specs.Marks.{has, gather, tally, allTo, single, union, meet, without, addOf, removeOf, sizeOf, listed}
+use Rattle.marks.specs.Marks.{has, gather, tally, allTo, union, meet, without, addOf, removeOf, sizeOf, listed}
 use Rattle.rules.specs.Fits.{numbersFit, idFits, sideFits, leafFits, othersFit, nodeFits, isBlank, slotFits}
 use Rattle.rules.specs.Fits.{wordFits, flagFits, carriedFits, ownerFits, routingFits, failedFits, fieldsFit, messageFits}
+use Rattle.rules.specs.Closest.{closest}
 use Rattle.rules.specs.Hop.{leafCandidates, routeCandidates, byLeaf, leafHop, routeHop, nextHop}
-use Rattle.rules.specs.Leaf.{contentOf, seenFrom, leftNeighbour, rightNeighbour, overlaps, coversOf}
+use Rattle.rules.specs.Leaf.{contentOf, seenFrom, leafWith, overlaps, coversOf}
+use Rattle.rules.specs.Letters.{lookup}
 use Rattle.rules.specs.Mail.{alike, allDifferent, firstFrom, firstEqual, added, removedAt, sentTo}
+use Rattle.rules.specs.Nodes.{placed}
 use Rattle.rules.specs.Pick.{best}
 use Rattle.rules.specs.Plans.{mailed}
+use Rattle.rules.specs.Pool.{laid}
 use Rattle.rules.specs.Take.{planTakeLookup, planTake}
 use Rattle.table.specs.Settle.{carriedOut, settle}
 use Rattle.table.specs.Settled.{deadSet}
+use Rattle.table.specs.Start.{startNode, startNodes, startTable, slotsTo}
 use Rattle.table.specs.Step.{isSound, stepOf}
 use Rattle.table.specs.Valid.{nodesFit, messagesFit, poolFits, validOf}
-use Rattle.format.specs.Bytes.{numberOf, decode, decodeAll}
+use Rattle.format.specs.Bytes.{bytesOf, numberOf, encode, encodeAll, decode, decodeAll}
+use Rattle.format.specs.Format.{fileOf}
 use Rattle.format.specs.Load.{headerFits, offsetsFit, statusesFit, fileTable, partPool, filePool, loadOf}
 use Rattle.listing.specs.Trip.{tripOf, followOf}
 use Rattle.listing.specs.Print.{decimalTo, headline, refusedWord, lineOf, linesOf, listingOf}
@@ -52,6 +58,12 @@ workedFile =
     0 ∷ 0 ∷ 0 ∷ 0 ∷ 0 ∷ 0 ∷ 0 ∷ 0 ∷ 0 ∷ 0 ∷ 0 ∷ 0 ∷ 0 ∷ 0 ∷ 0 ∷ 0 ∷ 0 ∷ 0 ∷ 0 ∷ 1 ∷ 0 ∷ 0 ∷ 0 ∷ 2 ∷ 0 ∷
     0 ∷ 0 ∷ 200 ∷ 0 ∷ 0 ∷ 0 ∷ 0 ∷ 0 ∷ 0 ∷ 0 ∷ 0 ∷ 0 ∷ 0 ∷ 0 ∷ 0 ∷ 0 ∷ 0 ∷ 0 ∷ 0 ∷ 0 ∷ 0 ∷ 0 ∷ 0 ∷ 0 ∷ 0 ∷
     0 ∷ 0 ∷ 0 ∷ 0 ∷ 0 ∷ 0 ∷ 0 ∷ 0 ∷ 0 ∷ 0 ∷ 0 ∷ 0 ∷ 0 ∷ 0 ∷ 0 ∷ 0 ∷ 0 ∷ 0 ∷ 0 ∷ 0 ∷ 0 ∷ 0 ∷ 0 ∷ 0 ∷ 0 ∷ []
+
+-- it is the file that a writer makes of that start and those lookups
+pub worked-written : fileOf (startTable 8 1 4 (17 ∷ 18 ∷ 65 ∷ 95 ∷ []) 15) (laid (placed (lookup 80) 0 ∷ placed (lookup 200) 2 ∷ []))
+    ≡ workedFile
+unfolding workedFile opened fileOf encode encodeAll bytesOf startNodes startNode slotsTo leafWith closest
+worked-written = refl
 
 -- `80 17 65 2` and `200 65 17 2`
 pub worked : listingOf workedFile
