@@ -8,8 +8,8 @@ fn skip_some() -> bool {
     libc::read(STDIN_FILENO, &mut buf) > 0
 }
 
-// Reads on to the end of the input. A proved loop has to end, and nothing says that the input does: so it counts its turns down, from a number
-// that no run uses up.
+// Reads on to the end of the input. A proved loop has to end, and nothing says that the input does: so it counts its turns down, from a
+// number that no run uses up.
 fn skip_rest() {
     let mut turns = u64::MAX;
     while turns > 0 && skip_some() {

@@ -1,5 +1,6 @@
--- How listing a file ends: with no room, or with the listing of what a load left, which is a loaded table's or a refusal's. Assumes nothing.
-use mathlib.Core.Path.{_≡_, refl, sym, _∙_}
+-- How listing a file ends: with no room, or with the listing of what a load left, which is a loaded table's or a refusal's. Assumes
+-- nothing.
+use mathlib.Core.Path.{_≡_}
 use mathlib.Core.List.{List, [], _∷_, _++_}
 use Prim.Native.Nat.{ℕ, _<_, _≤_}
 use native.Mathlib.Nat.{zero-add}

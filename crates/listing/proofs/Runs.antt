@@ -1,8 +1,8 @@
--- Texts that follow one another are one text (then); a byte stored is a text of one byte, and a copy into what is behind a place is a text from
--- there on. Digits, fields and lines are put together of these. Assumes nothing.
-use mathlib.Core.Path.{_≡_, refl, sym, _∙_, ap}
+-- Texts that follow one another are one text (then); a byte stored is a text of one byte, and a copy into what is behind a place is a text
+-- from there on. Digits, fields and lines are put together of these. Assumes nothing.
+use mathlib.Core.Path.{_≡_, refl, _∙_}
 use mathlib.Core.List.{List, [], _∷_, _++_, append-assoc, append-nil}
-use Prim.Native.Nat.{ℕ, suc, _+_, _-_, _*_, _/_, _%_, _<_, _≤_}
+use Prim.Native.Nat.{ℕ, _+_, _-_, _*_, _/_, _%_, _<_, _≤_}
 use native.Mathlib.Numerals.{add-one}
 use native.Mathlib.Omega.{arith}
 use borrow.Author.Tests.{ne-eqb}

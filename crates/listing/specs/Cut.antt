@@ -1,11 +1,11 @@
--- A file longer than any table file gets its number from its header alone, 8 or 9 (`listing-long`). So a program that keeps only the first bytes of its
--- input, more than a table file has, prints the listing of the whole (`listing-cut`). The idea: the header is read of the first 32 bytes, and no counts give such a
--- length. Assumes nothing.
+-- A file longer than any table file gets its number from its header alone, 8 or 9 (`listing-long`). So a program that keeps only the first
+-- bytes of its input, more than a table file has, prints the listing of the whole (`listing-cut`). The idea: the header is read of the first
+-- 32 bytes, and no counts give such a length. Assumes nothing.
 use mathlib.Core.Path.{_≡_, refl, sym, _∙_, ap}
 use mathlib.Core.Logic.{_⊎_, inl, inr}
 use mathlib.Core.Bool.{Bool, true, false, cond, _&&_}
 use mathlib.Core.List.{List, [], _∷_}
-use Prim.Native.Nat.{ℕ, zero, suc, _+_, _-_, _*_, _<_, _≤_}
+use Prim.Native.Nat.{ℕ, zero, suc, _-_, _<_, _≤_}
 use native.Mathlib.Omega.{arith}
 use borrow.Author.Tests.{leb-true, le-ltb}
 use lib.Dec.{eqb, leb, ltb}

@@ -1,8 +1,9 @@
--- Following a lookup by the rules alone, with no pool and no validity test at each hop (`followTo`), is following it by the real step (`trip-is`). The idea: a
--- valid table with the one lookup is valid, its Take is one of four (`take-stopped`, `take-delivered`, `take-stranded`, `take-routed`), and each leaves the table as
--- it was. What a listing says is then tied to the steps made: `Travels` is a journey of done Takes, `follow-travels` says that the listing's numbers are those of
--- one, and `travels-follow` that they are no other's. The measure: how many listed nodes are nearer to the key (crate demand). Assumes nothing.
-use mathlib.Core.Path.{_≡_, refl, sym, _∙_, ap}
+-- Following a lookup by the rules alone, with no pool and no validity test at each hop (`followTo`), is following it by the real step
+-- (`trip-is`). The idea: a valid table with the one lookup is valid, its Take is one of four (`does`), and each leaves the table as it was.
+-- What a listing says is then tied to the steps made: `Travels` is a journey of real Takes, `follow-travels` says that the listing's numbers
+-- are those of one, and `travels-follow` that no other numbers are. The measure: how many listed nodes are nearer to the key than the holder
+-- (crate demand). Assumes nothing.
+use mathlib.Core.Path.{_≡_, refl, sym, _∙_}
 use mathlib.Core.Bool.{Bool, true, false, cond, not}
 use mathlib.Core.List.{List, [], _∷_}
 use Prim.Native.Nat.{ℕ, zero, suc, _+_, _-_, _^_, _<_, _≤_}
@@ -26,14 +27,14 @@ use Rattle.rules.specs.Hop.{nextHop}
 use Rattle.rules.specs.Leaf.{coversOf}
 use Rattle.rules.specs.Letters.{lookup, noLegalRoute}
 use Rattle.rules.specs.Mail.{firstFrom, firstEqual, added, removedAt, allDifferent}
-use Rattle.rules.specs.Nodes.{noNode, sidesOf, placed}
-use Rattle.rules.specs.Plans.{isReady, mailed}
+use Rattle.rules.specs.Nodes.{sidesOf, placed}
+use Rattle.rules.specs.Plans.{isReady}
 use Rattle.rules.specs.Pool.{laid, messageAt}
 use Rattle.rules.specs.Take.{planTakeLookup, planTake}
 use Rattle.mail.specs.Laws.{mailed-quiet, mailed-send}
 use Rattle.table.specs.declared.Table.{Table}
 use Rattle.table.specs.declared.Stepped.{Stepped}
-use Rattle.table.specs.Table.{nodeAt, withNode, ringOf, idsOf}
+use Rattle.table.specs.Table.{nodeAt, ringOf, idsOf}
 use Rattle.table.specs.Settle.{refusedOf, doneOf, carriedOut, settle}
 use Rattle.table.specs.Settled.{deadSet}
 use Rattle.table.specs.Step.{isSound, stepOf}
@@ -48,7 +49,7 @@ use Rattle.demand.specs.Routings.{nearerListed, hop-nearer, nearer-falls, neare
 use Rattle.listing.specs.declared.Trip.{Trip}
 use Rattle.listing.specs.declared.Turn.{Turn}
 use Rattle.listing.specs.declared.Turn.the-variants.{Delivers, Stops, Goes}
-use Rattle.listing.specs.Trip.{ended, tripBy, tripOf, followOf}
+use Rattle.listing.specs.Trip.{ended, tripOf, followOf}
 
 -- ---- a lookup that waits alone
 
@@ -233,7 +234,8 @@ follow-is l = trip-is 64 l 0
 
 -- ---- the listing's numbers, by the steps made
 
--- the lookup m, taken again and again as the only message of the table t, ends so: at the slot whose Take delivered it, or nowhere, after so many Takes that routed it
+-- the lookup m, taken again and again as the only message of the table t, ends so: at the slot whose Take delivered it, or at none, after so
+-- many Takes that routed it
 pub data Travels (t : Table) : Message → Found → ℕ → Type 0 where
   -- refused by a node that is not ready
   stopped : {m : Message} → taken t m ≡ refusedOf t (only m) no.Status → Travels t m Nothing 0
@@ -309,7 +311,8 @@ module _ {t : Table} {m : Message} (l : Lone t m) where
   pub travels-follow : (end : Found) (hops : ℕ) → Travels t m end hops → followOf t m ≡ ended end hops
   travels-follow end hops w =
       let n = suc (hops + journey .hops) in
-      let told : tripOf n t (only m) 0 ≡ ended (journey .end) (journey .hops) = travels-trip (journey .travels) n 0 (omega arith) ∙ rw zero-add in
+      let told : tripOf n t (only m) 0 ≡ ended (journey .end) (journey .hops) =
+      travels-trip (journey .travels) n 0 (omega arith) ∙ rw zero-add in
       journey-told ∙ sym told ∙ travels-trip w n 0 (omega arith) ∙ rw zero-add
 
   -- it is routed at most n - 1 times

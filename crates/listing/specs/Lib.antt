@@ -5,3 +5,4 @@ pub mod Follow
 pub mod Text
 pub mod List
 pub mod Cut
+pub mod Worked

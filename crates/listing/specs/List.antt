@@ -1,9 +1,9 @@
--- The listing of any file, in a buffer of the caller's. How long it can be, that a loaded table is valid, and that a file longer than any table file has the
--- listing of its first bytes: a reader that keeps only so many of them tells the same. Assumes nothing.
-use mathlib.Core.Path.{_≡_, refl, sym, _∙_, ap}
-use mathlib.Core.Bool.{Bool, true, false, cond, _&&_, not}
-use mathlib.Core.List.{List, [], _∷_, _++_}
-use Prim.Native.Nat.{ℕ, _+_, _*_, _<_, _≤_}
+-- The listing of any file, in a buffer of the caller's: what `list` leaves, for every file and buffer. Then that a loaded table is valid, how
+-- long a listing can be, and that the bytes so counted are the listing. Assumes nothing.
+use mathlib.Core.Path.{_≡_, refl, ap}
+use mathlib.Core.Bool.{Bool, true, false, cond, not}
+use mathlib.Core.List.{List, [], _++_}
+use Prim.Native.Nat.{ℕ, _+_, _*_, _≤_}
 use native.Mathlib.Omega.{arith}
 use lib.Dec.{eqb, ltb}
 use borrow.Author.Tests.{le-ltb}
@@ -23,9 +23,9 @@ use Rattle.table.specs.Start.{noTable}
 use Rattle.table.specs.Valid.{validOf}
 use Rattle.sound.specs.Sound.{sound}
 use Rattle.format.specs.declared.Wrote.{Wrote}
-use Rattle.format.specs.Load.{headerFits, offsetsFit, statusesFit, fileTable, filePool, loadOf}
+use Rattle.format.specs.Load.{headerFits, offsetsFit, statusesFit, loadOf}
 use Rattle.format.specs.Write.{notWritten}
-use Rattle.format.specs.Exactly.{tooShort, recordsFit, load-exactly, load-makes}
+use Rattle.format.specs.Exactly.{tooShort, load-exactly, load-makes}
 use Rattle.listing.specs.Print.{printed, printOf, listingOf}
 use Rattle.listing.specs.Text.{digits-most, lines-short}
 

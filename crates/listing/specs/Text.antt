@@ -1,5 +1,5 @@
--- How long the parts of a listing are, and how its digits follow from one another. A number below ten to the n has at most n digits; a line has at most 36
--- bytes, since a lookup is taken at most 64 times. By induction on the digits, the takes and the messages. Assumes nothing.
+-- How long the parts of a listing are, and how its digits follow from one another. A number below ten to the n has at most n digits; a line
+-- has at most 36 bytes, since a lookup is taken at most 64 times. By induction on the digits, the takes and the messages. Assumes nothing.
 use mathlib.Core.Path.{_≡_, refl, sym, _∙_}
 use mathlib.Core.Bool.{Bool, true, false, cond}
 use mathlib.Core.List.{List, [], _∷_, _++_, append-assoc, append-nil}
@@ -59,7 +59,8 @@ digits-few n zero x h = omega arith
 digits-few zero (suc k) x h = rw (digit k x (omega arith)) (omega arith)
 digits-few (suc n) (suc k) x h = go (ltb x 10) refl (digits-few n k (x / 10))
   where
-    go : (b : Bool) → ltb x 10 ≡ b → (x / 10 < 10 ^ suc n → length (decimalTo k (x / 10)) ≤ suc n) → length (decimalTo (suc k) x) ≤ suc (suc n)
+    go : (b : Bool) → ltb x 10 ≡ b → (x / 10 < 10 ^ suc n → length (decimalTo k (x / 10)) ≤ suc n)
+        → length (decimalTo (suc k) x) ≤ suc (suc n)
     go true e rest = rw (digit k x (ltb-true x 10 e)) (omega arith)
     go false e rest =
         let l : x < 10 ^ suc n * 10 = rw (pow-suc 10 (suc n)) at h in
@@ -71,13 +72,15 @@ unfolding decimalTo
 digits-most zero x = omega arith
 digits-most (suc k) x = go (ltb x 10) (digits-most k (x / 10))
   where
-    go : (b : Bool) → length (decimalTo k (x / 10)) ≤ k → length (cond b ((48 + x) ∷ []) (decimalTo k (x / 10) ++ ((48 + x % 10) ∷ []))) ≤ suc k
+    go : (b : Bool) → length (decimalTo k (x / 10)) ≤ k
+        → length (cond b ((48 + x) ∷ []) (decimalTo k (x / 10) ++ ((48 + x % 10) ∷ []))) ≤ suc k
     go true rest = omega arith
     go false rest = rw length-append (omega arith)
 
 -- ---- lines
 
-by-few : (a : Answer) (p : Pool) (m : Message) (hops : ℕ) (rest : Trip) (n : ℕ) → hops ≤ n → rest .hops ≤ n → tripBy a p m hops rest .hops ≤ n
+by-few : (a : Answer) (p : Pool) (m : Message) (hops : ℕ) (rest : Trip) (n : ℕ) → hops ≤ n → rest .hops ≤ n
+    → tripBy a p m hops rest .hops ≤ n
 by-few (Refused why) p m hops rest n h r = h
 by-few Done p m hops rest n h r = go (eqb (p .count) 0) (eqb (messageAt p 0 .kind) 1)
   where
@@ -92,7 +95,8 @@ unfolding tripOf
 trip-few zero t p hops = omega arith
 trip-few (suc n) t p hops =
     let s = stepOf t p 256 (Take 0) in
-    by-few (s .answer) (s .pool) (messageAt p 0) hops _ (hops + suc n) (omega arith) (omega (arith, trip-few n (s .table) (s .pool) (hops + 1)))
+    by-few (s .answer) (s .pool) (messageAt p 0) hops _ (hops + suc n) (omega arith)
+    (omega (arith, trip-few n (s .table) (s .pool) (hops + 1)))
 
 end-short : (t : Table) (e : Found) → length (endText t e) ≤ 10
 end-short t (At e) = digits-most 10 (nodeAt t e .id)

@@ -2,7 +2,7 @@
 ghost use mathlib.Core.Path.{_≡_};
 ghost use mathlib.Core.Bool.{true};
 ghost use mathlib.Core.List.{[], _∷_, _++_};
-ghost use Prim.Native.Nat.{ℕ, _+_, _^_, _<_, _≤_};
+ghost use Prim.Native.Nat.{_+_, _^_, _<_, _≤_};
 ghost use lib.ListN.{length};
 ghost use Rattle.rules.specs.Asks.{Listed, Below};
 ghost use Rattle.rules.specs.Numbers.{refusalNumber};
@@ -32,7 +32,8 @@ pub struct Trip {
     pub hops: usize,
 }
 
-// What a node does with a lookup that it takes: delivers it, stops it (it is not ready, or there is no legal route), or routes it to another slot.
+// What a node does with a lookup that it takes: delivers it, stops it (it is not ready, or there is no legal route), or routes it to
+// another slot.
 pub enum Turn {
     Delivers,
     Stops,
@@ -58,7 +59,8 @@ pub fn turn_at(g: Ring, ids: &[u32; 64], dead: u64, i: usize, v: Node, k: u32) -
     }
 }
 
-// Follows a lookup as the only message of the table, with no other step: by the rules alone, with no pool and no test of validity at each hop.
+// Follows a lookup as the only message of the table, with no other step: by the rules alone, with no pool and no test of validity at each
+// hop.
 pub fn follow(t: Table, m: Message) -> Trip
     requires { ⌜ Lone t m ⌝ }
     ensures { λ r. ⌜ r ≡ followOf t m ⌝ }
@@ -226,8 +228,8 @@ fn no_pool() -> Pool
     }
 }
 
-// Writes the listing of a file into the first bytes of a buffer, and tells how many: of a table file its header line and a line for each waiting lookup, of any
-// other file one line with the number of its refusal. 11 for a buffer of fewer than 16,384 bytes, which stays as it is.
+// Writes the listing of a file into the first bytes of a buffer, and tells how many: of a table file its header line and a line for each
+// waiting lookup, of any other file one line with the number of its refusal. 11 for a buffer of fewer than 16,384 bytes, which stays as it is.
 pub fn list(file: &[u8], out: &mut [u8]) -> Wrote
     ensures { λ r. ⌜ (r ≡ listOf (now (file .entry)) (now (out .entry))) × (now (out .exit) ≡ listedOf (now (file .entry)) (now (out .entry))) ⌝ }
 {

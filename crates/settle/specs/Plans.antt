@@ -27,7 +27,8 @@ use Rattle.rules.specs.Nodes.{sidesOf}
 use Rattle.rules.specs.Pick.{idAt}
 use Rattle.rules.specs.Plans.{isDead, isOk, isReady, isUp}
 use Rattle.rules.specs.Actions.{planLookup, planJoin, leasePlan, planRequestLease, planLeaseExpired, planGrantExpired, unlessIn}
-use Rattle.rules.specs.Take.{forwardPlan, planTakeLookup, planTakeJoinRequest, planTakeJoinReply, waitsEmpty, probePlanOf, planTakeProbe, replyPlanOf, planTakeProbeReply, planTakeLeaseRequest, broadcastPlan, planTakeBroadcast, planTake}
+use Rattle.rules.specs.Take.{forwardPlan, planTakeLookup, planTakeJoinRequest, planTakeJoinReply, waitsEmpty, probePlanOf, planTakeProbe}
+use Rattle.rules.specs.Take.{replyPlanOf, planTakeProbeReply, planTakeLeaseRequest, broadcastPlan, planTakeBroadcast, planTake}
 use Rattle.laws.specs.Hop.{Hops, hop-to}
 use Rattle.laws.specs.Leaf.{seen-low}
 use Rattle.mail.specs.Sending.{slotted}

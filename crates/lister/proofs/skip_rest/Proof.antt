@@ -1,4 +1,5 @@
--- `lister::skip_rest` is safe and ends. The measure is the number of turns that are left; nothing has to hold from turn to turn. Assumes nothing.
+-- `lister::skip_rest` is safe and ends. The measure is the number of turns that are left; nothing has to hold from turn to turn.
+-- Assumes nothing.
 use native.Mathlib.Omega.{arith}
 use Rattle.lister.proofs.skip_rest.Statement.{statement}
 use Rattle.lister.proofs.skip_rest.Tie as tie

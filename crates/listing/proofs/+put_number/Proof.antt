@@ -117,7 +117,8 @@ put-number-returns-2 : (t : ℕ) → put-number-lts.Need-returns-2 (
 put-number-returns-2 t c =
     let byte = c .before .before in
     let front = byte .before .before .before .before in
-    more-digits (front .before .before .before .before .args .x) (omega arith) (omega arith) (front .put-number .ensures) (byte .put-byte2 .ensures)
+    more-digits (front .before .before .before .before .args .x) (omega arith) (omega arith) (front .put-number .ensures)
+    (byte .put-byte2 .ensures)
 
 pub +put-number-spec : {M : Type 1} → statement M
 +put-number-spec = close μ-put-number λ t. put-number-lts.spec (

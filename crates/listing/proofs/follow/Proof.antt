@@ -1,5 +1,5 @@
--- `listing::follow` meets its contract. The invariant: what remains to be followed gives the trip of the whole. The measure: the takes left.
--- Assumes nothing.
+-- `listing::follow` meets its contract. The invariant: what remains to be followed gives the trip of the whole. The measure: the takes
+-- left. Assumes nothing.
 use borrow.Author.Needs.{needs}
 use mathlib.Core.Path.{_≡_, refl, sym, _∙_}
 use mathlib.Core.List.{List}

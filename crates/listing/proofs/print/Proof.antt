@@ -1,5 +1,5 @@
--- `listing::print` meets its contract. The invariant: the lines of the messages passed stand behind the header line. The measure: the messages
--- left. Assumes nothing.
+-- `listing::print` meets its contract. The invariant: the lines of the messages passed stand behind the header line. The measure: the
+-- messages left. Assumes nothing.
 use borrow.Author.Needs.{needs}
 use mathlib.Core.Path.{_≡_, refl, _∙_}
 use mathlib.Core.Logic.{⊎-elim}
@@ -41,7 +41,9 @@ put-text-requires c κs = omega (arith, c .before .before .before .pre .1)
 
 loop-holds : tie.Need-loop-holds Inv-loop μ-loop
 unfolding linesOf
-loop-holds c = (zero-le, stay _ _ (omega (arith, text-end (c .before .before .put-text .ensures), c .before .before .before .before .before .before .pre .1)))
+loop-holds c =
+    let text = c .before .before in
+    (zero-le, stay _ _ (omega (arith, text-end (text .put-text .ensures), text .before .before .before .before .pre .1)))
 
 mul-m : tie.Need-mul-m Inv-loop μ-loop
 mul-m c = omega (arith, counted (c .before))

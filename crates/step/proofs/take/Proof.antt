@@ -94,7 +94,8 @@ planned : (c : tie.After-plan-take)
 planned c =
     let m = c .before .before .before .before .before .before .before .message-at .ensures in
     c .plan-take .ensures
-    ∙ same (start c .args .t) _ _ _ _ _ _ _ _ _ (c .before .before .ring-of .ensures) (c .before .before .before .before .ids .ensures) (c .before .before .before .dead-set .ensures)
+    ∙ same (start c .args .t) _ _ _ _ _ _ _ _ _ (c .before .before .ring-of .ensures) (c .before .before .before .before .ids .ensures)
+    (c .before .before .before .dead-set .ensures)
     (c .before .before .before .before .before .node-at .ensures) m
 
 settled-by-requires : tie.Need-settled-by-requires
