@@ -1,35 +1,38 @@
--- A plan whose messages found room is done, and one whose messages did not is refused with 6. Assumes nothing.
+-- A plan whose new messages have room is done, and one whose new messages have none is refused with 6. Assumes nothing.
 use mathlib.Core.Path.{_≡_, refl, sym, _∙_, ap}
-use mathlib.Core.Bool.{Bool, true, false, _&&_}
-use mathlib.Core.List.{List}
+use mathlib.Core.Bool.{true, false}
 use Prim.Native.Nat.{ℕ}
 use lib.Dec.{leb}
 use lib.ListN.{length}
-use Rattle.rules.specs.declared.Message.{Message}
 use Rattle.rules.specs.declared.Pool.{Pool}
 use Rattle.rules.specs.declared.Plan.{Plan}
 use Rattle.rules.specs.declared.Planned.{Planned}
 use Rattle.rules.specs.declared.Planned.the-variants.{No, Go}
 use Rattle.rules.specs.declared.Refusal.the-variants as no
 use Rattle.rules.specs.Plans.{mailed}
-use Rattle.mail.specs.declared.Sent.{Sent}
-use Rattle.mail.specs.Sending.{MailedOut, slotted}
+use Rattle.rules.specs.Pool.{waiting, laid}
+use Rattle.mail.specs.declared.New.{New}
+use Rattle.mail.specs.News.{news-room}
+use Rattle.mail.specs.Sending.{leftOf, newsOf, roomOf, slotted}
 use Rattle.table.specs.declared.Table.{Table}
 use Rattle.table.specs.Table.{withNode}
 use Rattle.table.specs.Settle.{refusedOf, doneOf, carriedOut}
-use Rattle.settle.specs.Slots.{Slotted, slotsOf}
+use Rattle.settle.specs.Slots.{Slotted, slotsOf, goes}
 
-module _ (x : Plan) (ys : List Message) (r : Sent) (out : MailedOut x ys r) (s : slotted (x .to) ≡ true) (t : Table) (p : Pool) (i : ℕ) where
-  room : r .fits ≡ leb (length (mailed x ys)) 256
-  room = out .fits-is ∙ ap (λ (b : Bool). b && leb (length (mailed x ys)) 256) s
+module _ (t : Table) (p : Pool) (gone i : ℕ) (x : Plan) (w : New) (whole : length (waiting p) ≡ p .count) (told : w ≡ newsOf x (leftOf p gone)) where
+  room-is : roomOf (p .count) gone w ≡ leb (length (mailed x (leftOf p gone))) 256
+  room-is = ap (roomOf (p .count) gone) told ∙ news-room p gone x whole
 
-  pub fits : r .fits ≡ true → doneOf (withNode t i (x .node)) (r .pool) ≡ carriedOut t p ys i x
+  pub fits : roomOf (p .count) gone w ≡ true → doneOf (withNode t i (x .node)) (laid (mailed x (leftOf p gone))) ≡ carriedOut t p (leftOf p gone) i x
   unfolding carriedOut
-  fits e = rw (sym room ∙ e, out .pool-is e)
+  fits e = rw (sym room-is ∙ e)
 
-  pub full : r .fits ≡ false → refusedOf t p no.Full ≡ carriedOut t p ys i x
+  pub full : roomOf (p .count) gone w ≡ false → refusedOf t p no.Full ≡ carriedOut t p (leftOf p gone) i x
   unfolding carriedOut
-  full e = rw (sym room ∙ e)
+  full e = rw (sym room-is ∙ e)
 
 pub slotted-plan : (what : Planned) (x : Plan) → what ≡ Go x → Slotted what → slotted (x .to) ≡ true
 slotted-plan what x e s = ap slotsOf (sym e) ∙ s .is
+
+pub going : (what : Planned) (x : Plan) → what ≡ Go x → goes what ≡ true
+going what x e = ap goes e

@@ -1,22 +1,22 @@
-// The step: an action on a table and a pool by value. Each action makes a plan, and one function carries plans out.
+// The step: an action on a table and a pool by value. What the action asks of its node is planned first, reading only; then one function carries the plan out.
 ghost use mathlib.Core.Path.{_≡_};
 ghost use mathlib.Core.Bool.{true};
 ghost use Prim.Native.Nat.{ℕ, _^_, _<_, _≤_};
+ghost use Rattle.rules.specs.Actions.{planLookup, planJoin, planRequestLease, planLeaseExpired, planGrantExpired};
+ghost use Rattle.rules.specs.Actions.{waits, joinWaits};
 ghost use Rattle.rules.specs.Asks.{Listed};
 ghost use Rattle.rules.specs.Fits.{messageFits};
-ghost use Rattle.rules.specs.Pool.{waiting, messageAt};
+ghost use Rattle.rules.specs.Letters.{lookup};
+ghost use Rattle.rules.specs.Nodes.{placed};
+ghost use Rattle.rules.specs.Pool.{waiting};
 ghost use Rattle.rules.specs.Take.{planTake};
-ghost use Rattle.mail.specs.Sending.{Neat};
-ghost use Rattle.table.specs.Table.{ringOf};
-ghost use Rattle.table.specs.Settle.{refusedOf, doneOf, carriedOut};
-ghost use Rattle.table.specs.Settle.{settle as settleOf};
+ghost use Rattle.table.specs.Table.{idsOf, nodeAt, ringOf};
 ghost use Rattle.table.specs.Valid.{validOf};
-ghost use Rattle.table.specs.Step.{inRange, actOf, stepOf};
+ghost use Rattle.table.specs.Step.{inRange, stepOf};
+ghost use Rattle.step.specs.Asked.{goneOf, tookOf, slotOf, planTaken, planOf, askedOf};
 use rules::Action;
-use rules::Answer;
 use rules::Message;
 use rules::Node;
-use rules::Plan;
 use rules::Planned;
 use rules::Pool;
 use rules::Refusal;
@@ -42,71 +42,63 @@ fn plan_take(g: Ring, ids: &[u32; 64], dead: u64, i: usize, v: Node, m: Message)
     }
 }
 
-fn take(t: Table, p: Pool, place: usize) -> Stepped
-    requires { ⌜ (validOf t p ≡ true) × (place < p .count) ⌝ }
-    ensures { λ r. ⌜ r ≡ actOf t p (Action.Take place) ⌝ }
+fn plan_of_take(t: Table, m: Message) -> Planned
+    requires { ⌜ Listed (ringOf t) (idsOf t) × (m .dest < t .n) × (messageFits (ringOf t) m ≡ true) ⌝ }
+    ensures { λ r. ⌜ r ≡ planTaken t m ⌝ }
 {
-    let m = mail::message_at(p, place);
     let i = m.dest as usize;
     let v = table::node_at(t, i);
     let ids = table::ids(t);
     let dead = settled::dead_set(t);
-    let what = plan_take(table::ring_of(t), &ids, dead, i, v, m);
-    let from = mail::removed(p, place);
-    settle::settled_by(t, p, from, i, what)
+    plan_take(table::ring_of(t), &ids, dead, i, v, m)
 }
 
-fn lookup(t: Table, p: Pool, i: usize, k: u64) -> Stepped
-    requires { ⌜ (validOf t p ≡ true) × (i < t .n) × (k < 2 ^ t .m) ⌝ }
-    ensures { λ r. ⌜ r ≡ actOf t p (Action.Lookup i k) ⌝ }
+fn plan_of_lookup(t: Table, p: Pool, i: usize, k: u64) -> Planned
+    requires { ⌜ (p .count ≤ 256) × (i < 64) × (k < 2 ^ 32) ⌝ }
+    ensures { λ r. ⌜ r ≡ planLookup (waits (waiting p) (placed (lookup k) i)) i k (nodeAt t i) ⌝ }
 {
     let key = k as u32;
     let wanted = parts::to_slot(route::lookup_of(key), i as u32);
-    let waits = mail::waits(p, wanted);
+    let there = mail::waits(p, 256, wanted);
     let v = table::node_at(t, i);
-    let what = route::plan_lookup(waits, i, key, v);
-    settle::settled_by(t, p, mail::tidy(p), i, what)
+    route::plan_lookup(there, i, key, v)
 }
 
-fn join(t: Table, p: Pool, i: usize, seed: usize) -> Stepped
-    requires { ⌜ (validOf t p ≡ true) × (i < t .n) × (seed < t .n) ⌝ }
-    ensures { λ r. ⌜ r ≡ actOf t p (Action.Join i seed) ⌝ }
+fn plan_of_join(t: Table, p: Pool, i: usize, seed: usize) -> Planned
+    requires { ⌜ (p .count ≤ 256) × (i < 64) × (seed < 64) ⌝ }
+    ensures { λ r. ⌜ r ≡ planJoin (joinWaits (waiting p) i) i (nodeAt t i) seed (nodeAt t seed) ⌝ }
 {
-    let waits = mail::join_waits(p, i as u32);
+    let there = mail::join_waits(p, i as u32);
     let v = table::node_at(t, i);
     let u = table::node_at(t, seed);
-    let what = route::plan_join(waits, i as u32, v, seed, u);
-    settle::settled_by(t, p, mail::tidy(p), i, what)
+    route::plan_join(there, i as u32, v, seed, u)
 }
 
-fn request_lease(t: Table, p: Pool, i: usize) -> Stepped
-    requires { ⌜ (validOf t p ≡ true) × (i < t .n) ⌝ }
-    ensures { λ r. ⌜ r ≡ actOf t p (Action.RequestLease i) ⌝ }
+fn plan_of_request(t: Table, i: usize) -> Planned
+    requires { ⌜ Listed (ringOf t) (idsOf t) × (i < 64) ⌝ }
+    ensures { λ r. ⌜ r ≡ planRequestLease (ringOf t) (idsOf t) i (nodeAt t i) ⌝ }
 {
     let v = table::node_at(t, i);
     let ids = table::ids(t);
-    let what = lease::plan_request_lease(table::ring_of(t), &ids, i, v);
-    settle::settled_by(t, p, mail::tidy(p), i, what)
+    lease::plan_request_lease(table::ring_of(t), &ids, i, v)
 }
 
-fn lease_expired(t: Table, p: Pool, i: usize, j: usize) -> Stepped
-    requires { ⌜ (validOf t p ≡ true) × (i < t .n) ⌝ }
-    ensures { λ r. ⌜ r ≡ actOf t p (Action.LeaseExpired i j) ⌝ }
+fn plan_of_lease(t: Table, i: usize, j: usize) -> Planned
+    requires { ⌜ Listed (ringOf t) (idsOf t) × (i < 64) ⌝ }
+    ensures { λ r. ⌜ r ≡ planLeaseExpired (ringOf t) (idsOf t) i (nodeAt t i) j ⌝ }
 {
     let v = table::node_at(t, i);
     let ids = table::ids(t);
-    let what = lease::plan_lease_expired(table::ring_of(t), &ids, i, v, j);
-    settle::settled_by(t, p, mail::tidy(p), i, what)
+    lease::plan_lease_expired(table::ring_of(t), &ids, i, v, j)
 }
 
-fn grant_expired(t: Table, p: Pool, i: usize, j: usize) -> Stepped
-    requires { ⌜ (validOf t p ≡ true) × (i < t .n) × (j < t .n) ⌝ }
-    ensures { λ r. ⌜ r ≡ actOf t p (Action.GrantExpired i j) ⌝ }
+fn plan_of_grant(t: Table, i: usize, j: usize) -> Planned
+    requires { ⌜ (i < 64) × (j < 64) ⌝ }
+    ensures { λ r. ⌜ r ≡ planGrantExpired i (nodeAt t i) j (nodeAt t j) ⌝ }
 {
     let v = table::node_at(t, i);
     let u = table::node_at(t, j);
-    let what = lease::plan_grant_expired(i, v, j, u);
-    settle::settled_by(t, p, mail::tidy(p), i, what)
+    lease::plan_grant_expired(i, v, j, u)
 }
 
 // Are the action's slots, place and key in range?
@@ -124,18 +116,56 @@ fn in_range(t: Table, p: Pool, a: Action) -> bool
     }
 }
 
-// The action, on a valid table and in range.
-fn act(t: Table, p: Pool, a: Action) -> Stepped
-    requires { ⌜ (validOf t p ≡ true) × (inRange t p a ≡ true) ⌝ }
-    ensures { λ r. ⌜ r ≡ actOf t p a ⌝ }
+// What the action asks, on a valid table and in range; m is the message that it takes.
+fn plan_of(t: Table, p: Pool, m: Message, a: Action) -> Planned
+    requires { ⌜ (validOf t p ≡ true) × (inRange t p a ≡ true) × (m ≡ tookOf p a) ⌝ }
+    ensures { λ r. ⌜ r ≡ planOf t p m a ⌝ }
 {
     match a {
-        Action::Lookup(i, k) => lookup(t, p, i, k),
-        Action::Join(i, seed) => join(t, p, i, seed),
-        Action::RequestLease(i) => request_lease(t, p, i),
-        Action::LeaseExpired(i, j) => lease_expired(t, p, i, j),
-        Action::GrantExpired(i, j) => grant_expired(t, p, i, j),
-        Action::Take(place) => take(t, p, place),
+        Action::Lookup(i, k) => plan_of_lookup(t, p, i, k),
+        Action::Join(i, seed) => plan_of_join(t, p, i, seed),
+        Action::RequestLease(i) => plan_of_request(t, i),
+        Action::LeaseExpired(i, j) => plan_of_lease(t, i, j),
+        Action::GrantExpired(i, j) => plan_of_grant(t, i, j),
+        Action::Take(_) => plan_of_take(t, m),
+    }
+}
+
+// 10 for a table that is not sound, then 1 for arguments out of range, then what the action asks.
+fn asked(sound: bool, t: Table, p: Pool, m: Message, a: Action) -> Planned
+    requires { ⌜ (sound ≡ true → validOf t p ≡ true) × (m ≡ tookOf p a) ⌝ }
+    ensures { λ r. ⌜ r ≡ askedOf sound t p m a ⌝ }
+{
+    if !sound {
+        return Planned::No(Refusal::Invalid);
+    }
+    if !in_range(t, p, a) {
+        return Planned::No(Refusal::OutOfRange);
+    }
+    plan_of(t, p, m, a)
+}
+
+// The place whose message goes; past every count where none does.
+pub fn gone_of(a: Action) -> usize
+    ensures { λ r. ⌜ r ≡ goneOf a ⌝ }
+{
+    match a {
+        Action::Take(place) => place,
+        _ => 256,
+    }
+}
+
+// The node that acts, where m is the message taken.
+pub fn slot_of(a: Action, m: Message) -> usize
+    ensures { λ r. ⌜ r ≡ slotOf a m ⌝ }
+{
+    match a {
+        Action::Lookup(i, _) => i,
+        Action::Join(i, _) => i,
+        Action::RequestLease(i) => i,
+        Action::LeaseExpired(i, _) => i,
+        Action::GrantExpired(i, _) => i,
+        Action::Take(_) => m.dest as usize,
     }
 }
 
@@ -143,14 +173,11 @@ fn act(t: Table, p: Pool, a: Action) -> Stepped
 pub fn step(t: Table, p: Pool, len: usize, a: Action) -> Stepped
     ensures { λ r. ⌜ r ≡ stepOf t p len a ⌝ }
 {
-    if len != 256 {
-        return settle::refused(t, p, Refusal::Invalid);
-    }
-    if !valid::is_valid(t, p) {
-        return settle::refused(t, p, Refusal::Invalid);
-    }
-    if !in_range(t, p, a) {
-        return settle::refused(t, p, Refusal::OutOfRange);
-    }
-    act(t, p, a)
+    let gone = gone_of(a);
+    let at = gone % 256;
+    let m = p.places[at];
+    let valid = valid::is_valid(t, p);
+    let sound = (len == 256) & valid;
+    let what = asked(sound, t, p, m, a);
+    settle::settled_by(t, p, gone, slot_of(a, m), what)
 }

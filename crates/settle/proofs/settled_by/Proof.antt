@@ -1,7 +1,7 @@
 -- `settle::settled_by` meets its contract: what was planned decides the definition's case. Assumes nothing.
 use borrow.Author.Needs.{needs}
 use Rattle.table.specs.Settle.{settle}
-use Rattle.settle.proofs.Laws.{slotted-plan}
+use Rattle.settle.proofs.Laws.{slotted-plan, going}
 use Rattle.settle.proofs.settled_by.Statement.{statement}
 use Rattle.settle.proofs.settled_by.Tie as tie
 
@@ -16,8 +16,10 @@ enum-known-what-2 c = search needs
 
 carry-out-requires : tie.Need-carry-out-requires
 carry-out-requires c κs =
-    let s = c .before .before .before in
-    (s .pre .0, s .pre .1, slotted-plan _ _ (c .before .what2 .given .1) (s .pre .2))
+    let f = c .before .before .before .pre in
+    let e = c .before .what2 .given .1 in
+    let g = going _ _ e in
+    (f .low g, f .short g, slotted-plan _ _ e (f .slots))
 
 returns : tie.Need-returns
 unfolding settle
