@@ -1,5 +1,6 @@
 -- A list laid out as a pool: what waits in it, what is left of it once a place is away. Assumes nothing.
 use mathlib.Core.Path.{_≡_, sym, _∙_, ap}
+use mathlib.Core.Bool.{Bool, true, false, cond}
 use mathlib.Core.Logic.{_⊎_, inl, inr}
 use mathlib.Core.List.{List, _++_, append-nil}
 use Prim.Native.Nat.{ℕ, suc, _+_, _-_, _<_, _≤_}
@@ -62,9 +63,24 @@ removed-short xs i = rw (length-append, length-take, length-drop) (omega arith)
 -- where no message stands there, none is away
 pub removed-none : (xs : List Message) (i : ℕ) → length xs ≤ i → removedAt xs i ≡ xs
 unfolding removedAt
-removed-none xs i h = rw (take-all i xs h, drop-of-length-le xs {suc i} (omega arith)) (append-nil xs)
+removed-none xs i h = rw (take-all i xs h, drop-of-length-le xs {i = suc i} (omega arith)) (append-nil xs)
 
 -- ---- what is left of a pool
+
+pub left-low : (n gone : ℕ) → leftCount n gone ≤ n
+left-low n gone = go (ltb gone n)
+  where
+    go : (b : Bool) → cond b (n - 1) n ≤ n
+    go true = omega arith
+    go false = omega arith
+
+pub place-low : (n gone at : ℕ) → at < leftCount n gone → placeOf gone at < n
+place-low n gone at l = go (lt-or-le gone n) (lt-or-le at gone)
+  where
+    go : (gone < n) ⊎ (n ≤ gone) → (at < gone) ⊎ (gone ≤ at) → placeOf gone at < n
+    go h (inl k) = rw (lt-ltb at gone k) (omega (arith, left-low n gone))
+    go (inl h) (inr k) = let d : at < n - 1 = rw (lt-ltb gone n h) at l in rw (le-ltb at gone k) (omega arith)
+    go (inr h) (inr k) = let d : at < n = rw (le-ltb gone n h) at l in absurd (omega arith)
 
 module _ (p : Pool) (gone : ℕ) (e : length (waiting p) ≡ p .count) where
   pub left-length : length (leftOf p gone) ≡ leftCount (p .count) gone
