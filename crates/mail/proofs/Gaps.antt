@@ -1,17 +1,26 @@
--- The loops that write places. Tidying: of the places below `at`, those past the count are blank (Blanked). Removing: the places below
--- `at` are those of the list without the message, and those from it on are as they were (Closed). Assumes nothing.
+-- The loops that write places. Removing: the places below `at` are those of what is left, and those from it on are as they were (Closed).
+-- Filling: what is written, followed by the copies that are still to come, is what is to wait (Filling). Blanks: of the places below `at`,
+-- those past the count are blank (Blanked). Assumes nothing.
 use mathlib.Core.Path.{_≡_, refl, sym, _∙_, ap, ap₂}
 use mathlib.Core.List.{List, [], _∷_, _++_, append-nil, append-assoc}
 use Prim.Native.Nat.{ℕ, _+_, _-_, _<_, _≤_}
+use native.Mathlib.Decide.{decLt}
 use native.Mathlib.Numerals.{add-one}
 use native.Mathlib.Omega.{arith}
+use borrow.Author.Tests.{lt-ltb, le-ltb}
 use lib.ListN.{length, length-set, getD, take, set, replicate, replicate-append-replicate}
-use lib.Seq.{length-take-le, take-all, take-at, take-take, take-suc, take-suc-set, getD-take, getD-set-other}
+use lib.Seq.{length-take-le, take-all, take-suc-set, getD-take, getD-set-same, getD-set-other, append-snoc, ext-getD}
+use Rattle.marks.specs.declared.Found.{Found}
+use Rattle.marks.specs.declared.Found.the-variants.{At, Nothing}
+use Rattle.marks.specs.Marks.{removeOf, lowestOf, sizeOf}
+use Rattle.marks.specs.Laws.{lowest-found, size-remove}
 use Rattle.rules.specs.declared.Message.{Message}
 use Rattle.rules.specs.declared.Pool.{Pool}
-use Rattle.rules.specs.Pool.{blank, waiting, laid}
-use Rattle.rules.specs.Mail.{removedAt}
-use Rattle.mail.specs.Laid.{removed-length, removed-high}
+use Rattle.rules.specs.Nodes.{placed}
+use Rattle.rules.specs.Pool.{blank, messageAt, waiting, laid}
+use Rattle.mail.specs.Sending.{leftOf, leftCount, placeOf, copyTo, copies, oneOrNone, Left}
+use Rattle.mail.specs.Laid.{waiting-length, left-low, left-length, left-at}
+use Rattle.mail.specs.Sends.{copies-end, copies-more}
 
 abbrev pool : ℕ → List Message → Pool
 pool count places = record { count = count; places = places }
@@ -24,7 +33,118 @@ wrote q at m = record { count = q .count; places = set (q .places) at m }
 front : (l : List Message) (at : ℕ) (m : Message) → at < length l → take (at + 1) (set l at m) ≡ take at l ++ (m ∷ [])
 front l at m h = rw (add-one) (take-suc-set l at m h)
 
--- ---- tidying
+-- ---- removing
+
+pub record Closed (gone n : ℕ) (p q : Pool) (at : ℕ) : Type 0 where
+  pub from : gone ≤ at
+  pub long : length (q .places) ≡ 256
+  pub head : (i : ℕ) → i < at → i < n → messageAt q i ≡ getD (leftOf p gone) i blank
+  pub rest : (i : ℕ) → at ≤ i → messageAt q i ≡ messageAt p i
+
+module _ (gone n : ℕ) (p : Pool) (h : p .count ≤ 256) (l : length (p .places) ≡ 256) (d : n ≡ leftCount (p .count) gone) where
+  all-wait : length (waiting p) ≡ p .count
+  all-wait = waiting-length p h l
+
+  before : (i : ℕ) → i < gone → i < n → messageAt p i ≡ getD (leftOf p gone) i blank
+  before i a b =
+      let e : placeOf gone i ≡ i = rw (lt-ltb i gone a) in
+      sym (left-at p gone all-wait i (omega arith) ∙ ap (λ (k : ℕ). messageAt p k) e)
+
+  behind : (i : ℕ) → gone ≤ i → i < n → messageAt p (i + 1) ≡ getD (leftOf p gone) i blank
+  behind i a b =
+      let e : placeOf gone i ≡ i + 1 = rw (le-ltb i gone a) in
+      sym (left-at p gone all-wait i (omega arith) ∙ ap (λ (k : ℕ). messageAt p k) e)
+
+  pub closed-none : Closed gone n p p gone
+  closed-none = record { from = omega arith; long = l; head = before; rest = λ i a. refl }
+
+  pub closed-more : (q : Pool) (at : ℕ) → at < n → Closed gone n p q at → Closed gone n p (wrote q at (messageAt q (at + 1))) (at + 1)
+  closed-more q at b k =
+      record {
+        from = omega (arith, k .from);
+        long = length-set (q .places) at m ∙ k .long;
+        head = λ i a c. go i a c (decLt i at);
+        rest = λ i a. getD-set-other (q .places) at i m blank (λ z. omega arith) ∙ k .rest i (omega arith);
+      }
+    where
+      m : Message
+      m = messageAt q (at + 1)
+
+      go : (i : ℕ) → i < at + 1 → i < n → Dec (i < at) → getD (set (q .places) at m) i blank ≡ getD (leftOf p gone) i blank
+      go i a c (yes z) = getD-set-other (q .places) at i m blank (λ y. omega arith) ∙ k .head i z c
+      go i a c (no z) =
+          let e : i ≡ at = omega arith in
+          rw e
+          (getD-set-same (q .places) at m blank (omega (arith, k .long, left-low (p .count) gone)) ∙ k .rest (at + 1) (omega arith)
+          ∙ behind at (k .from) b)
+
+  pub closed-end : (q : Pool) (at : ℕ) → n ≤ at → Closed gone n p q at → Left p gone (pool n (q .places))
+  closed-end q at b k =
+      let many : length (take n (q .places)) ≡ n = length-take-le n (q .places) (omega (arith, k .long, left-low (p .count) gone)) in
+      let left : length (leftOf p gone) ≡ n = left-length p gone all-wait ∙ sym d in
+      record {
+        count-is = d;
+        waiting-is =
+            ext-getD blank (take n (q .places)) (leftOf p gone) (many ∙ sym left)
+            (λ i c. getD-take n (q .places) i blank (omega arith) ∙ k .head i (omega arith) (omega arith));
+      }
+
+-- ---- filling
+
+-- the first new message is put, if there is one
+pub record Put (p : Pool) (m : Message) (to : Found) (n : ℕ) (q : Pool) : Type 0 where
+  pub count-is : n ≡ p .count + oneOrNone to
+  pub long : length (q .places) ≡ 256
+  pub head : take n (q .places) ≡ waiting p ++ copyTo m to
+
+pub put-one : (p : Pool) (m : Message) (to : Found) (s : ℕ) → length (p .places) ≡ 256 → p .count < 256 → to ≡ At s
+    → Put p m to (p .count + 1) (wrote p (p .count) (placed m s))
+put-one p m to s l h e =
+    rw e
+    record {
+      count-is = refl;
+      long = length-set (p .places) (p .count) (placed m s) ∙ l;
+      head = front (p .places) (p .count) (placed m s) (omega arith);
+    }
+
+pub put-none : (p : Pool) (m : Message) (to : Found) → length (p .places) ≡ 256 → to ≡ Nothing → Put p m to (p .count) p
+put-none p m to l e = rw e record { count-is = omega arith; long = l; head = sym (append-nil (waiting p)) }
+
+pub record Filling (m : Message) (all : List Message) (rest n : ℕ) (q : Pool) : Type 0 where
+  pub room : n + sizeOf rest ≤ 256
+  pub long : length (q .places) ≡ 256
+  pub left : take n (q .places) ++ copies m rest ≡ all
+
+pub filling-none : (m : Message) (rest n : ℕ) (q : Pool) → n + sizeOf rest ≤ 256 → length (q .places) ≡ 256
+    → Filling m (take n (q .places) ++ copies m rest) rest n q
+filling-none m rest n q h l = record { room = h; long = l; left = refl }
+
+pub fewer : (rest s : ℕ) → lowestOf rest ≡ At s → sizeOf (removeOf rest s) + 1 ≡ sizeOf rest
+fewer rest s e = let i = lowest-found rest s e in size-remove rest s (i .below) (i .holds)
+
+-- a copy that is to come has its place
+pub filling-low : (m : Message) (all : List Message) (rest n : ℕ) (q : Pool) (s : ℕ) → lowestOf rest ≡ At s → Filling m all rest n q → n < 256
+filling-low m all rest n q s e k = omega (arith, k .room, fewer rest s e)
+
+pub filling-more : (m : Message) (all : List Message) (rest n : ℕ) (q : Pool) (s : ℕ) → lowestOf rest ≡ At s → Filling m all rest n q
+    → Filling m all (removeOf rest s) (n + 1) (wrote q n (placed m s))
+filling-more m all rest n q s e k =
+    let z = placed m s in
+    record {
+      room = omega (arith, k .room, fewer rest s e);
+      long = length-set (q .places) n z ∙ k .long;
+      left =
+          ap (λ (l : List Message). l ++ copies m (removeOf rest s)) (front (q .places) n z (omega (arith, k .room, k .long, fewer rest s e)))
+          ∙ append-snoc (take n (q .places)) z (copies m (removeOf rest s))
+          ∙ ap (λ (l : List Message). take n (q .places) ++ l) (sym (copies-more m rest s e)) ∙ k .left;
+    }
+
+pub filling-end : (m : Message) (all : List Message) (rest n : ℕ) (q : Pool) → lowestOf rest ≡ Nothing → Filling m all rest n q
+    → take n (q .places) ≡ all
+filling-end m all rest n q e k =
+    sym (append-nil (take n (q .places))) ∙ ap (λ (l : List Message). take n (q .places) ++ l) (sym (copies-end m rest e)) ∙ k .left
+
+-- ---- blanks
 
 pub record Blanked (n : ℕ) (p q : Pool) (at : ℕ) : Type 0 where
   pub from : n ≤ at
@@ -62,56 +182,3 @@ blanked-end p q at h l d k =
     sym (take-all at (q .places) (omega (arith, k .long))) ∙ k .head
     ∙ ap (λ (i : ℕ). waiting p ++ replicate i blank) e in
     ap₂ pool (k .count-is ∙ sym n) all
-
--- ---- removing
-
-pub record Closed (n place : ℕ) (p q : Pool) (at : ℕ) : Type 0 where
-  pub from : place ≤ at
-  pub below : at < n
-  pub long : length (q .places) ≡ 256
-  pub head : take at (q .places) ≡ take at (removedAt (take n (p .places)) place)
-  pub rest : (i : ℕ) → at ≤ i → getD (q .places) i blank ≡ getD (p .places) i blank
-
-module _ (n place : ℕ) (p : Pool) (h : n ≤ 256) (l : length (p .places) ≡ 256) (b : place < n) where
-  abbrev zs : List Message
-  zs = removedAt (take n (p .places)) place
-
-  held-length : length (take n (p .places)) ≡ n
-  held-length = length-take-le n (p .places) (omega arith)
-
-  left-length : length zs ≡ n - 1
-  left-length = removed-length (take n (p .places)) place (omega (arith, held-length)) ∙ omega (arith, held-length)
-
-  pub closed-none : Closed n place p p place
-  unfolding removedAt
-  closed-none =
-      let e : length (take place (take n (p .places))) ≡ place = length-take-le place (take n (p .places)) (omega (arith, held-length)) in
-      record {
-        from = omega arith;
-        below = b;
-        long = l;
-        head = sym (take-at (take place (take n (p .places))) _ place e ∙ take-take place n (p .places) (omega arith));
-        rest = λ i d. refl;
-      }
-
-  pub closed-more : (q : Pool) (at : ℕ) → at + 1 < n → Closed n place p q at
-      → Closed n place p (wrote q at (getD (q .places) (at + 1) blank)) (at + 1)
-  closed-more q at d k =
-      let m = getD (q .places) (at + 1) blank in
-      let e : m ≡ getD zs at blank = k .rest (at + 1) (omega arith) ∙ sym (getD-take n (p .places) (at + 1) blank d)
-      ∙ sym (removed-high (take n (p .places)) place (omega (arith, held-length)) at (k .from)) in
-      record {
-        from = omega (arith, k .from);
-        below = d;
-        long = length-set (q .places) at m ∙ k .long;
-        head =
-            front (q .places) at m (omega (arith, k .long)) ∙ ap (λ (xs : List Message). xs ++ (m ∷ [])) (k .head)
-            ∙ ap (λ (x : Message). take at zs ++ (x ∷ [])) e ∙ sym (take-suc zs at blank (omega (arith, left-length)))
-            ∙ ap (λ (i : ℕ). take i zs) (sym (add-one at));
-        rest = λ i g. getD-set-other (q .places) at i m blank (λ z. omega arith) ∙ k .rest i (omega arith);
-      }
-
-  pub closed-end : (q : Pool) (at : ℕ) → n ≤ at + 1 → Closed n place p q at → take (n - 1) (q .places) ≡ zs
-  closed-end q at d k =
-      let e : n - 1 ≡ at = omega (arith, k .below) in
-      rw e (k .head ∙ take-all at zs (omega (arith, left-length)))

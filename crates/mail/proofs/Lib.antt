@@ -1,4 +1,3 @@
 pub mod Places
 pub mod Gaps
-pub mod Filling
 pub mod Chain

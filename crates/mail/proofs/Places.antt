@@ -1,5 +1,5 @@
--- The loops over places. A pool by value has 256 of them, so what waits has the pool's count; a search that passed the places below `at`
--- ends as the definition says. Assumes nothing.
+-- The loops over places. A pool by value has 256 of them, so what waits has the pool's count, and what is left stands at its places; a
+-- search that passed the messages before `at` ends as the definition says. Assumes nothing.
 use mathlib.Core.Path.{_≡_, refl, sym, _∙_, ap}
 use mathlib.Core.Bool.{Bool, true, false, _&&_}
 use mathlib.Core.List.{List, [], _∷_, _++_}
@@ -19,20 +19,33 @@ use Rattle.marks.specs.Bools.{or-left, or-right, or-fails}
 use Rattle.marks.specs.Laws.{more, fails}
 use Rattle.rules.specs.declared.Message.{Message}
 use Rattle.rules.specs.declared.Pool.{Pool}
-use Rattle.rules.specs.Pool.{blank}
+use Rattle.rules.specs.Pool.{blank, messageAt, waiting}
 use Rattle.rules.specs.Mail.{fieldsOf, sameTo, alike, firstEqual}
 use Rattle.rules.specs.Actions.{joinWaits}
 use Rattle.rules.proofs.Pool as pool
+use Rattle.mail.specs.Sending.{leftOf, leftCount, placeOf}
 use Rattle.mail.specs.Equal.{first-equal-at, first-equal-none}
+use Rattle.mail.specs.Laid.{waiting-length, place-low, left-at}
 
--- a pool by value has 256 places
+-- a pool by value has 256 places, so what waits has the pool's count
 pub places-length : (x : Pool) (vs : List Val) → Is pool.the-row x vs → length (x .places) ≡ 256
 places-length x vs is = sym (length-map (x .places) _) ∙ is .1 .1 .1 .0 .1 .0 .1
 
+pub waiting-counted : (x : Pool) (vs : List Val) → Is pool.the-row x vs → x .count ≤ 256 → length (waiting x) ≡ x .count
+waiting-counted x vs is h = waiting-length x h (places-length x vs is)
+
+-- what was read at a place is the message there of what is left
+module _ (p : Pool) (gone n at place : ℕ) (e : length (waiting p) ≡ p .count) (d : n ≡ leftCount (p .count) gone) (l : at < n)
+    (f : place ≡ placeOf gone at) where
+  pub left-low-at : place < p .count
+  left-low-at = rw f (place-low (p .count) gone at (omega arith))
+
+  pub left-read : messageAt p place ≡ getD (leftOf p gone) at blank
+  left-read = rw f (sym (left-at p gone e at (omega arith)))
+
 -- the messages before one more place
-pub taken-more : (places : List Message) (at n : ℕ) → length places ≡ 256 → n ≤ 256 → at < n
-    → take (at + 1) places ≡ take at places ++ (getD places at blank ∷ [])
-taken-more places at n long low h = rw add-one (take-suc places at blank (omega arith))
+pub taken-more : (xs : List Message) (at : ℕ) → at < length xs → take (at + 1) xs ≡ take at xs ++ (getD xs at blank ∷ [])
+taken-more xs at h = rw add-one (take-suc xs at blank h)
 
 -- the first f fields of two rows are equal
 pub record Same (f : ℕ) (a b : List ℕ) : Type 0 where
@@ -48,39 +61,32 @@ same-more f a b h e = record { so = more f (λ i. eqb (getD a i 0) (getD b i 0))
 same-not : (f : ℕ) (a b : List ℕ) → f < 9 → (getD a f 0 ≡ getD b f 0 → ⊥) → sameTo 9 a b ≡ false
 same-not f a b l d = fails 9 (λ i. eqb (getD a i 0) (getD b i 0)) f l (ne-eqb _ _ d)
 
--- none of the places below `at` has the fields b
-pub record Passed (b : List ℕ) (places : List Message) (at : ℕ) : Type 0 where
-  pub differ : (i : ℕ) → i < at → sameTo 9 (fieldsOf (getD places i blank)) b ≡ false
+-- none of the messages before `at` has the fields b
+pub record Passed (b : List ℕ) (xs : List Message) (at : ℕ) : Type 0 where
+  pub differ : (i : ℕ) → i < at → sameTo 9 (fieldsOf (getD xs i blank)) b ≡ false
 
-pub none-passed : (b : List ℕ) (places : List Message) → Passed b places 0
-none-passed b places = record { differ = λ i h. absurd (omega arith) }
+pub none-passed : (b : List ℕ) (xs : List Message) → Passed b xs 0
+none-passed b xs = record { differ = λ i h. absurd (omega arith) }
 
-pub passed-more : (b : List ℕ) (places : List Message) (at f : ℕ) (a : List ℕ) → a ≡ fieldsOf (getD places at blank) → f < 9
-    → (getD a f 0 ≡ getD b f 0 → ⊥) → Passed b places at → Passed b places (at + 1)
-passed-more b places at f a e l d k =
+pub passed-more : (b : List ℕ) (xs : List Message) (at f : ℕ) (a : List ℕ) → a ≡ fieldsOf (getD xs at blank) → f < 9
+    → (getD a f 0 ≡ getD b f 0 → ⊥) → Passed b xs at → Passed b xs (at + 1)
+passed-more b xs at f a e l d k =
     record { differ = below-more _ _ (k .differ) (ap (λ (r : List ℕ). sameTo 9 r b) (sym e) ∙ same-not f a b l d) }
 
-module _ (m : Message) (b : List ℕ) (places : List Message) (n : ℕ) (e : b ≡ fieldsOf m) (long : length places ≡ 256) (low : n ≤ 256) where
-  held-length : length (take n places) ≡ n
-  held-length = length-take-le n places (omega arith)
-
-  there : (i : ℕ) → i < n → alike (getD (take n places) i blank) m ≡ sameTo 9 (fieldsOf (getD places i blank)) b
+module _ (m : Message) (b : List ℕ) (xs : List Message) (e : b ≡ fieldsOf m) where
+  there : (i : ℕ) → alike (getD xs i blank) m ≡ sameTo 9 (fieldsOf (getD xs i blank)) b
   unfolding alike
-  there i l =
-      ap (λ (x : Message). alike x m) (getD-take n places i blank l)
-      ∙ ap (λ (r : List ℕ). sameTo 9 (fieldsOf (getD places i blank)) r) (sym e)
+  there i = ap (λ (r : List ℕ). sameTo 9 (fieldsOf (getD xs i blank)) r) (sym e)
 
-  pub missed : (at : ℕ) → n ≤ at → Passed b places at → firstEqual (take n places) m ≡ Nothing
-  missed at h k =
-      first-equal-none (take n places) m
-      (λ t l. there t (omega (arith, held-length)) ∙ k .differ t (omega (arith, held-length)))
+  pub missed : (at : ℕ) → length xs ≤ at → Passed b xs at → firstEqual xs m ≡ Nothing
+  missed at h k = first-equal-none xs m (λ t l. there t ∙ k .differ t (omega arith))
 
-  pub met : (at f : ℕ) (a : List ℕ) → at < n → Passed b places at → a ≡ fieldsOf (getD places at blank) → f ≡ 9 → Same f a b
-      → firstEqual (take n places) m ≡ At at
+  pub met : (at f : ℕ) (a : List ℕ) → at < length xs → Passed b xs at → a ≡ fieldsOf (getD xs at blank) → f ≡ 9 → Same f a b
+      → firstEqual xs m ≡ At at
   met at f a h k q nine s =
-      first-equal-at (take n places) m at (omega (arith, held-length))
-      (there at h ∙ ap (λ (r : List ℕ). sameTo 9 r b) (sym q) ∙ ap (λ (i : ℕ). sameTo i a b) (sym nine) ∙ s .so)
-      (λ i l. there i (omega arith) ∙ k .differ i l)
+      first-equal-at xs m at h
+      (there at ∙ ap (λ (r : List ℕ). sameTo 9 r b) (sym q) ∙ ap (λ (i : ℕ). sameTo i a b) (sym nine) ∙ s .so)
+      (λ i l. there i ∙ k .differ i l)
 
 -- ---- JoinRequests
 

@@ -1,52 +1,38 @@
--- A list laid out as a pool: what waits in it, one message more, one message less. Assumes nothing.
+-- A list laid out as a pool: what waits in it, what is left of it once a place is away. Assumes nothing.
 use mathlib.Core.Path.{_≡_, sym, _∙_, ap}
-use mathlib.Core.List.{List, [], _∷_, _++_}
+use mathlib.Core.Bool.{Bool, true, false, cond}
+use mathlib.Core.Logic.{_⊎_, inl, inr}
+use mathlib.Core.List.{List, _++_, append-nil}
 use Prim.Native.Nat.{ℕ, suc, _+_, _-_, _<_, _≤_}
 use native.Mathlib.Nat.{le-of-lt}
-use native.Mathlib.Numerals.{add-one}
 use native.Mathlib.Omega.{arith}
-use lib.ListN.{getD, take, drop, set, length, replicate, length-append, length-take, length-drop, List·getD-append}
-use lib.Seq.{set-append-seam, append-snoc, take-append-seam, length-take-le, getD-take, getD-drop, getD-append-add}
+use borrow.Author.Tests.{lt-ltb, le-ltb}
+use lib.Dec.{ltb}
+use lib.ListN.{getD, take, drop, length, length-append, length-take, length-drop, drop-of-length-le, List·getD-append}
+use lib.Seq.{take-append-seam, take-all, length-take-le, getD-take, getD-drop, getD-append-add}
+use Rattle.marks.specs.Bools.{lt-or-le}
 use Rattle.rules.specs.declared.Message.{Message}
 use Rattle.rules.specs.declared.Pool.{Pool}
-use Rattle.rules.specs.Pool.{blank, messageAt, waiting, lay, laid}
+use Rattle.rules.specs.Pool.{blank, messageAt, waiting, laid}
 use Rattle.rules.specs.Mail.{removedAt}
-use Rattle.mail.specs.Sending.{Neat}
+use Rattle.mail.specs.Sending.{leftOf, leftCount, placeOf}
 
 -- ---- what waits
 
 pub waiting-laid : (ys : List Message) → waiting (laid ys) ≡ ys
 waiting-laid ys = take-append-seam ys _
 
-pub neat-laid : (ys : List Message) → length ys ≤ 256 → Neat (laid ys)
-neat-laid ys h = record { short = rw waiting-laid h; same = rw waiting-laid }
-
-pub neat-count : (p : Pool) → Neat p → p .count ≡ length (waiting p)
-neat-count p n = ap (λ (q : Pool). q .count) (n .same)
-
 pub waiting-short : (p : Pool) → length (waiting p) ≤ p .count
 waiting-short p = omega (arith, length-take (p .count) (p .places))
+
+pub waiting-length : (p : Pool) → p .count ≤ 256 → length (p .places) ≡ 256 → length (waiting p) ≡ p .count
+waiting-length p h l = length-take-le (p .count) (p .places) (omega arith)
 
 pub waiting-at : (p : Pool) (i : ℕ) → i < p .count → getD (waiting p) i blank ≡ messageAt p i
 waiting-at p i h = getD-take (p .count) (p .places) i blank h
 
 pub laid-at : (ys : List Message) (i : ℕ) → i < length ys → messageAt (laid ys) i ≡ getD ys i blank
 laid-at ys i h = List·getD-append ys _ blank i h
-
--- ---- one message more, at the first blank place
-
-pub lay-more : (ys : List Message) (m : Message) → length ys < 256 → set (lay ys) (length ys) m ≡ lay (ys ++ (m ∷ []))
-lay-more ys m h =
-    let e : 256 - length ys ≡ suc (256 - suc (length ys)) = omega arith in
-    let l : length (ys ++ (m ∷ [])) ≡ suc (length ys) = length-append ys (m ∷ []) ∙ add-one (length ys) in
-    let rest = replicate (256 - suc (length ys)) blank in
-    rw (e, l) (set-append-seam ys blank rest m ∙ sym (append-snoc ys m rest))
-
-abbrev pub grown : Pool → Message → Pool
-grown p m = record { count = p .count + 1; places = set (p .places) (p .count) m }
-
-pub grown-laid : (p : Pool) (m : Message) → Neat p → p .count < 256 → grown p m ≡ laid (waiting p ++ (m ∷ []))
-grown-laid p m n h = ap (λ (q : Pool). grown q m) (n .same) ∙ rw (lay-more (waiting p) m (omega (arith, neat-count p n)), length-append)
 
 -- ---- one message less
 
@@ -74,10 +60,46 @@ pub removed-short : (xs : List Message) (i : ℕ) → length (removedAt xs i) �
 unfolding removedAt
 removed-short xs i = rw (length-append, length-take, length-drop) (omega arith)
 
--- ---- the pools that are made of a pool are neat
+-- where no message stands there, none is away
+pub removed-none : (xs : List Message) (i : ℕ) → length xs ≤ i → removedAt xs i ≡ xs
+unfolding removedAt
+removed-none xs i h = rw (take-all i xs h, drop-of-length-le xs {i = suc i} (omega arith)) (append-nil xs)
 
-pub tidy-neat : (p : Pool) → p .count ≤ 256 → Neat (laid (waiting p))
-tidy-neat p h = neat-laid (waiting p) (omega (arith, waiting-short p))
+-- ---- what is left of a pool
 
-pub removed-neat : (p : Pool) (i : ℕ) → p .count ≤ 256 → Neat (laid (removedAt (waiting p) i))
-removed-neat p i h = neat-laid (removedAt (waiting p) i) (omega (arith, waiting-short p, removed-short (waiting p) i))
+pub left-low : (n gone : ℕ) → leftCount n gone ≤ n
+left-low n gone = go (ltb gone n)
+  where
+    go : (b : Bool) → cond b (n - 1) n ≤ n
+    go true = omega arith
+    go false = omega arith
+
+pub place-low : (n gone at : ℕ) → at < leftCount n gone → placeOf gone at < n
+place-low n gone at l = go (lt-or-le gone n) (lt-or-le at gone)
+  where
+    go : (gone < n) ⊎ (n ≤ gone) → (at < gone) ⊎ (gone ≤ at) → placeOf gone at < n
+    go h (inl k) = rw (lt-ltb at gone k) (omega (arith, left-low n gone))
+    go (inl h) (inr k) = let d : at < n - 1 = rw (lt-ltb gone n h) at l in rw (le-ltb at gone k) (omega arith)
+    go (inr h) (inr k) = let d : at < n = rw (le-ltb gone n h) at l in absurd (omega arith)
+
+module _ (p : Pool) (gone : ℕ) (e : length (waiting p) ≡ p .count) where
+  pub left-length : length (leftOf p gone) ≡ leftCount (p .count) gone
+  left-length = go (lt-or-le gone (p .count))
+    where
+      go : (gone < p .count) ⊎ (p .count ≤ gone) → length (leftOf p gone) ≡ leftCount (p .count) gone
+      go (inl h) = rw (lt-ltb gone (p .count) h) (removed-length (waiting p) gone (omega arith) ∙ ap (λ (n : ℕ). n - 1) e)
+      go (inr h) = rw (le-ltb gone (p .count) h) (ap (λ (l : List Message). length l) (removed-none (waiting p) gone (omega arith)) ∙ e)
+
+  -- what is left stands at its places
+  pub left-at : (at : ℕ) → at < leftCount (p .count) gone → getD (leftOf p gone) at blank ≡ messageAt p (placeOf gone at)
+  left-at at l = go (lt-or-le gone (p .count)) (lt-or-le at gone)
+    where
+      go : (gone < p .count) ⊎ (p .count ≤ gone) → (at < gone) ⊎ (gone ≤ at) → getD (leftOf p gone) at blank ≡ messageAt p (placeOf gone at)
+      go (inl h) (inl k) = rw (lt-ltb at gone k) (removed-low (waiting p) gone (omega arith) at k ∙ waiting-at p at (omega arith))
+      go (inl h) (inr k) =
+          let n : at < p .count - 1 = rw (lt-ltb gone (p .count) h) at l in
+          rw (le-ltb at gone k) (removed-high (waiting p) gone (omega arith) at k ∙ waiting-at p (at + 1) (omega arith))
+      go (inr h) k =
+          let n : at < p .count = rw (le-ltb gone (p .count) h) at l in
+          rw (lt-ltb at gone (omega arith))
+          (ap (λ (xs : List Message). getD xs at blank) (removed-none (waiting p) gone (omega arith)) ∙ waiting-at p at n)

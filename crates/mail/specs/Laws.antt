@@ -1,5 +1,5 @@
 -- What adding, removing and sending keep, for every property of messages: that all have it (All), and that no two are equal (Apart). What
--- Equal, Laid, Sends and Holds say of the pool is passed on, so that a user names this file alone. By induction on the list. Assumes
+-- Equal, Laid, Sends and News say of the pool is passed on, so that a user names this file alone. By induction on the list. Assumes
 -- nothing.
 use mathlib.Core.Path.{_≡_, refl, sym, _∙_, ap}
 use mathlib.Core.Logic.{_⊎_, inl, inr, ⊎-elim, _↔_}
@@ -12,7 +12,7 @@ use lib.ListN.{getD, length, length-append}
 use lib.Seq.{append-snoc}
 use Rattle.marks.specs.declared.Found.{Found}
 use Rattle.marks.specs.declared.Found.the-variants.{At, Nothing}
-use Rattle.marks.specs.Marks.{has, tally, sizeOf, without, allTo}
+use Rattle.marks.specs.Marks.{has, sizeOf, without, allTo}
 use Rattle.marks.specs.Laws.{each, all-of, size-mono, has-without}
 use Rattle.marks.specs.Bools.{and-left, or-fails-left, or-fails-right, false-not}
 use Rattle.rules.specs.declared.Message.{Message}
@@ -24,14 +24,14 @@ use Rattle.rules.specs.Pool.{blank, messageAt, waiting, laid}
 use Rattle.rules.specs.Mail.{alike, allDifferent, added, removedAt, sentTo, sent}
 use Rattle.rules.specs.Actions.{waits}
 use Rattle.rules.specs.Plans.{quietPlan, sendPlan, addedTo, mailed}
-use Rattle.mail.specs.Sending.{heldOf, copiesTo, copies}
+use Rattle.mail.specs.Sending.{heldOf, copies}
 pub use Rattle.mail.specs.Equal.{alike-same, same-alike, alike-refl, alike-sym, alike-trans, alike-dest}
 pub use Rattle.mail.specs.Equal.{first-equal-at, first-equal-none, waits-nil, waits-cons, waits-append, waits-last}
 pub use Rattle.mail.specs.Equal.{added-at, added-nothing, added-is}
-pub use Rattle.mail.specs.Laid.{waiting-laid, neat-laid, neat-count, waiting-short, waiting-at, laid-at}
-pub use Rattle.mail.specs.Laid.{removed-length, removed-low, removed-high, removed-short, tidy-neat, removed-neat}
-pub use Rattle.mail.specs.Sends.{sent-is, sent-none, has-held, copies-fresh, copies-more, copies-end}
-pub use Rattle.mail.specs.Holds.{sent-longer, holds-going, mailed-fits}
+pub use Rattle.mail.specs.Laid.{waiting-laid, waiting-short, waiting-length, waiting-at, laid-at}
+pub use Rattle.mail.specs.Laid.{removed-length, removed-low, removed-high, removed-short, removed-none, left-length, left-at}
+pub use Rattle.mail.specs.Sends.{sent-is, sent-none, sent-longer, has-held, copies-fresh, copies-more, copies-end, copies-length}
+pub use Rattle.mail.specs.News.{new-slotted, added-to-is, mailed-news, news-size, news-room}
 
 -- ---- all have a property
 
@@ -241,19 +241,6 @@ mailed-quiet v ys = sent-none blank ys
 pub mailed-send : (v : Node) (m : Message) (s : ℕ) (ys : List Message) → mailed (sendPlan v m s) ys ≡ added ys (placed m s)
 unfolding mailed
 mailed-send v m s ys = sent-none blank (added ys (placed m s))
-
-copies-length-to : (m : Message) (set n : ℕ) → length (copiesTo m set n) ≡ tally n (has set)
-unfolding copiesTo tally
-copies-length-to m set zero = refl
-copies-length-to m set (suc n) = rw (length-append, copies-length-to m set n) (go (has set n))
-  where
-    go : (b : Bool) → tally n (has set) + length (cond b (placed m n ∷ []) []) ≡ tally n (has set) + cond b 1 0
-    go true = refl
-    go false = refl
-
-pub copies-length : (m : Message) (set : ℕ) → length (copies m set) ≡ sizeOf set
-unfolding sizeOf
-copies-length m set = copies-length-to m set 64
 
 pub added-length : (xs : List Message) (m : Message) → (length xs ≤ length (added xs m)) × (length (added xs m) ≤ length xs + 1)
 added-length xs m = go (added-cases xs m)

@@ -3,5 +3,5 @@ pub mod Mix
 pub mod Equal
 pub mod Laid
 pub mod Sends
-pub mod Holds
+pub mod News
 pub mod Laws

@@ -1,17 +1,17 @@
 -- Sending to a set of slots, at once: what is added is a copy for each slot of the set to which no equal waits, in rising order, for
--- copies with different destinations are never equal. And what Holds says of one message more, and of one sending after another. Assumes
--- nothing.
+-- copies with different destinations are never equal. Assumes nothing.
 use mathlib.Core.Path.{_≡_, refl, sym, _∙_, ap}
 use mathlib.Core.Logic.{_⊎_, inl, inr}
 use mathlib.Core.Bool.{Bool, true, false, cond, _&&_, _||_, not, or-false, and-true}
 use mathlib.Core.List.{List, [], _∷_, _++_, append-nil, append-assoc}
-use Prim.Native.Nat.{ℕ, zero, suc, _<_, _≤_}
+use Prim.Native.Nat.{ℕ, zero, suc, _+_, _<_, _≤_}
 use native.Mathlib.Nat.{eq-or-lt-of-le, le-of-suc-le-suc}
 use native.Mathlib.Omega.{arith}
 use borrow.Author.Tests.{eq-eqb, ne-eqb, eqb-true}
 use lib.Dec.{eqb}
+use lib.ListN.{length, length-append}
 use Rattle.marks.specs.declared.Found.the-variants.{At, Nothing}
-use Rattle.marks.specs.Marks.{has, without, addOf, removeOf, lowestOf}
+use Rattle.marks.specs.Marks.{has, tally, sizeOf, without, addOf, removeOf, lowestOf}
 use Rattle.marks.specs.Laws.{has-zero, has-gather, gather-same, gather-none, has-without, has-remove, First, lowest-found, first-none}
 use Rattle.marks.specs.Bools.{opposed, bool-false, bool-same, and-fails-left, and-fails-right, true-not}
 use Rattle.rules.specs.declared.Message.{Message}
@@ -156,3 +156,21 @@ copies-from m set s (suc n) i l h = go (λ k. copies-from m set s n i k (omega a
 
 pub copies-more : (m : Message) (set s : ℕ) → lowestOf set ≡ At s → copies m set ≡ placed m s ∷ copies m (removeOf set s)
 copies-more m set s e = let i = lowest-found set s e in copies-from m set s 64 i (i .below) (omega arith)
+
+-- ---- how many
+
+copies-length-to : (m : Message) (set n : ℕ) → length (copiesTo m set n) ≡ tally n (has set)
+unfolding copiesTo tally
+copies-length-to m set zero = refl
+copies-length-to m set (suc n) = rw (length-append, copies-length-to m set n) (go (has set n))
+  where
+    go : (b : Bool) → tally n (has set) + length (cond b (placed m n ∷ []) []) ≡ tally n (has set) + cond b 1 0
+    go true = refl
+    go false = refl
+
+pub copies-length : (m : Message) (set : ℕ) → length (copies m set) ≡ sizeOf set
+unfolding sizeOf
+copies-length m set = copies-length-to m set 64
+
+pub sent-longer : (m : Message) (set : ℕ) (xs : List Message) → length xs ≤ length (sent m set xs)
+sent-longer m set xs = rw (sent-is m set xs, length-append) (omega arith)

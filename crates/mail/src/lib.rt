@@ -1,25 +1,28 @@
-// The pool by value: the first equal message, adding, removing, sending. Each is the definition on the list of waiting messages; places
-// past the count come out blank.
+// The pool by value. A step reads first, and then builds the pool after it once: what is left, with the plan's new messages at the end and
+// blanks past the count. "Once place `gone` is away": where gone is at or above the count, none is away.
 ghost use mathlib.Core.Path.{_≡_};
-ghost use mathlib.Core.Bool.{_&&_};
+ghost use mathlib.Core.Bool.{true};
+ghost use mathlib.Core.List.{_++_};
 ghost use Prim.Native.Nat.{_≤_, _<_};
-ghost use Rattle.rules.specs.Mail.{fieldsOf, allDifferent, firstEqual, added, sent, removedAt};
+ghost use Rattle.rules.specs.Mail.{fieldsOf, allDifferent, firstEqual};
 ghost use Rattle.rules.specs.Mail.{alike as alikeOf};
 ghost use Rattle.rules.specs.Actions.{joinWaits};
 ghost use Rattle.rules.specs.Actions.{waits as waitsOf};
-ghost use Rattle.rules.specs.Plans.{addedTo};
-ghost use Rattle.rules.specs.Pool.{waiting, laid, messageAt};
-ghost use Rattle.mail.specs.Sending.{Neat, Going, Holds, MailedOut, heldOf, heldWith, slotted};
+ghost use Rattle.rules.specs.Plans.{mailed};
+ghost use Rattle.rules.specs.Pool.{waiting, laid};
+ghost use Rattle.marks.specs.Marks.{without};
+ghost use Rattle.mail.specs.Sending.{leftOf, leftCount, placeOf, slotted, heldOf, heldWith, copyTo, copies};
+ghost use Rattle.mail.specs.Sending.{newTo, newAll, newsOf, newCount, roomOf, Roomy, Free, Left};
 ghost use Rattle.mail.specs.Mix.{mixOf, bucketOf};
 use marks::Found;
 use rules::Message;
 use rules::Plan;
 use rules::Pool;
 
-// A pool that is being added to, and whether all found room so far.
-pub struct Sent {
-    pub fits: bool,
-    pub pool: Pool,
+// Which of a plan's messages are new: the slot of the first one if it is, and the slots to which the other is.
+pub struct New {
+    pub one: Found,
+    pub all: u64,
 }
 
 // A message's fields in a row, but for its hops.
@@ -54,19 +57,35 @@ pub fn alike(a: Message, b: Message) -> bool
         & (a.failed == b.failed)
 }
 
-// The first waiting message that equals m, in pool order.
-fn first_equal(p: Pool, m: Message) -> Found
-    requires { ⌜ p .count ≤ 256 ⌝ }
-    ensures { λ r. ⌜ r ≡ firstEqual (waiting p) m ⌝ }
+// How many of n messages are left once place `gone` is away.
+fn left(n: usize, gone: usize) -> usize
+    ensures { λ r. ⌜ r ≡ leftCount n gone ⌝ }
 {
-    let n = p.count;
+    if gone < n { n - 1 } else { n }
+}
+
+// The place of what comes at place `at` once place `gone` is away.
+fn place_of(gone: usize, at: usize) -> usize
+    requires { ⌜ at < 256 ⌝ }
+    ensures { λ r. ⌜ r ≡ placeOf gone at ⌝ }
+{
+    if at < gone { at } else { at + 1 }
+}
+
+// The first message that equals m, in pool order, of those left once place `gone` is away.
+fn first_equal(p: Pool, gone: usize, m: Message) -> Found
+    requires { ⌜ p .count ≤ 256 ⌝ }
+    ensures { λ r. ⌜ r ≡ firstEqual (leftOf p gone) m ⌝ }
+{
+    let n = left(p.count, gone);
     let b = fields(m);
     let mut at: usize = 0;
     let found = 'places: loop {
         if n <= at {
             break 'places Found::Nothing;
         }
-        let q = p.places[at];
+        let place = place_of(gone, at);
+        let q = p.places[place];
         let a = fields(q);
         let mut f: usize = 0;
         'fields: while f < 9 {
@@ -81,12 +100,12 @@ fn first_equal(p: Pool, m: Message) -> Found
     found
 }
 
-// Does a message equal to m wait?
-pub fn waits(p: Pool, m: Message) -> bool
+// Is an equal of m left once place `gone` is away?
+pub fn waits(p: Pool, gone: usize, m: Message) -> bool
     requires { ⌜ p .count ≤ 256 ⌝ }
-    ensures { λ r. ⌜ r ≡ waitsOf (waiting p) m ⌝ }
+    ensures { λ r. ⌜ r ≡ waitsOf (leftOf p gone) m ⌝ }
 {
-    let at = first_equal(p, m);
+    let at = first_equal(p, gone, m);
     match at {
         Found::At(_) => true,
         Found::Nothing => false,
@@ -108,46 +127,6 @@ pub fn join_waits(p: Pool, i: u32) -> bool
         at += 1;
     }
     false
-}
-
-pub fn message_at(p: Pool, place: usize) -> Message
-    requires { ⌜ place < 256 ⌝ }
-    ensures { λ r. ⌜ r ≡ messageAt p place ⌝ }
-{
-    p.places[place]
-}
-
-// The same messages, with blanks past the count.
-pub fn tidy(p: Pool) -> Pool
-    requires { ⌜ p .count ≤ 256 ⌝ }
-    ensures { λ r. ⌜ r ≡ laid (waiting p) ⌝ }
-{
-    let none = parts::blank_message();
-    let n = p.count;
-    let mut q = p;
-    let mut at = n;
-    while at < 256 {
-        q.places[at] = none;
-        at += 1;
-    }
-    q
-}
-
-// The pool without the message at a place: the gap is closed, and places past the count are blank.
-pub fn removed(p: Pool, place: usize) -> Pool
-    requires { ⌜ (p .count ≤ 256) × (place < p .count) ⌝ }
-    ensures { λ r. ⌜ r ≡ laid (removedAt (waiting p) place) ⌝ }
-{
-    let n = p.count;
-    let mut q = p;
-    let mut at = place;
-    while at + 1 < n {
-        let x = q.places[at + 1];
-        q.places[at] = x;
-        at += 1;
-    }
-    q.count = n - 1;
-    tidy(q)
 }
 
 // A number made of the nine fields.
@@ -180,8 +159,8 @@ pub fn all_different(p: Pool) -> bool
     ensures { λ r. ⌜ r ≡ allDifferent (waiting p) ⌝ }
 {
     let n = p.count;
-    let mut heads = [0usize; 1021];
-    let mut next = [0usize; 256];
+    let mut heads = [0u32; 1021];
+    let mut next = [0u32; 256];
     let mut j: usize = 0;
     let different = 'places: loop {
         if n <= j {
@@ -190,62 +169,19 @@ pub fn all_different(p: Pool) -> bool
         let m = p.places[j];
         let h = bucket(m);
         let first = heads[h];
-        let mut at = first;
+        let mut at = first as usize;
         'chain: while 0 < at {
             let q = p.places[at - 1];
             if alike(q, m) {
                 break 'places false;
             }
-            at = next[at - 1];
+            at = next[at - 1] as usize;
         }
         next[j] = first;
-        heads[h] = j + 1;
+        heads[h] = (j + 1) as u32;
         j += 1;
     };
     different
-}
-
-// Adds m at the end, unless an equal message waits; without room, or if there was none before, it does not fit.
-fn push(x: Sent, m: Message) -> Sent
-    requires { ⌜ Going x ⌝ }
-    ensures { λ r. ⌜ Holds (x .fits) (added (waiting (x .pool)) m) r ⌝ }
-{
-    if !x.fits {
-        return x;
-    }
-    let mut p = x.pool;
-    let at = first_equal(p, m);
-    if let Found::At(_) = at {
-        return x;
-    }
-    let n = p.count;
-    if 256 <= n {
-        return Sent {
-            fits: false,
-            pool: p,
-        };
-    }
-    p.places[n] = m;
-    p.count = n + 1;
-    Sent {
-        fits: true,
-        pool: p,
-    }
-}
-
-// Adds m for a slot, if there is one. A slot that no mark stands for finds no room.
-fn push_to(x: Sent, m: Message, to: Found) -> Sent
-    requires { ⌜ Going x ⌝ }
-    ensures { λ r. ⌜ Holds (x .fits && slotted to) (addedTo to m (waiting (x .pool))) r ⌝ }
-{
-    let Found::At(s) = to else {
-        return x;
-    };
-    if s < 64 {
-        push(x, parts::to_slot(m, s as u32))
-    } else {
-        Sent { fits: false, ..x }
-    }
 }
 
 // A set of slots, with q's if q equals m in all but the slot.
@@ -260,65 +196,132 @@ pub fn held_with(set: u64, q: Message, m: Message) -> u64
     }
 }
 
-// The slots to which an equal of m waits.
-fn held(p: Pool, m: Message) -> u64
+// The slots to which an equal of m is left once place `gone` is away.
+fn held(p: Pool, gone: usize, m: Message) -> u64
     requires { ⌜ p .count ≤ 256 ⌝ }
-    ensures { λ r. ⌜ r ≡ heldOf m (waiting p) ⌝ }
+    ensures { λ r. ⌜ r ≡ heldOf m (leftOf p gone) ⌝ }
 {
-    let n = p.count;
+    let n = left(p.count, gone);
     let mut set: u64 = 0;
     let mut at: usize = 0;
     while at < n {
-        let q = p.places[at];
+        let place = place_of(gone, at);
+        let q = p.places[place];
         set = held_with(set, q, m);
         at += 1;
     }
     set
 }
 
-// Adds m for each slot of a set, in rising order, as push would.
-fn send_each(x: Sent, m: Message, to: u64) -> Sent
-    requires { ⌜ Going x ⌝ }
-    ensures { λ r. ⌜ Holds (x .fits) (sent m to (waiting (x .pool))) r ⌝ }
+// The slot to which m is new, if it goes to one and no equal is left.
+fn new_one(p: Pool, gone: usize, m: Message, to: Found) -> Found
+    requires { ⌜ (p .count ≤ 256) × (slotted to ≡ true) ⌝ }
+    ensures { λ r. ⌜ r ≡ newTo m to (leftOf p gone) ⌝ }
 {
-    if !x.fits {
-        return x;
-    }
-    if to == 0 {
-        return x;
-    }
-    let mut p = x.pool;
-    let have = held(p, m);
-    let mut rest = marks::less(to, have);
-    let fits = 'slots: loop {
-        let next = marks::lowest(rest);
-        let Found::At(s) = next else {
-            break 'slots true;
-        };
-        let n = p.count;
-        if 256 <= n {
-            break 'slots false;
-        }
-        p.places[n] = parts::to_slot(m, s as u32);
-        p.count = n + 1;
-        rest = marks::removed(rest, s);
+    let Found::At(s) = to else {
+        return Found::Nothing;
     };
-    Sent { fits, pool: p }
+    if waits(p, gone, parts::to_slot(m, s as u32)) {
+        Found::Nothing
+    } else {
+        Found::At(s)
+    }
 }
 
-// What waits after a plan, where `from` waited before it.
-pub fn mail_out(from: Pool, plan: Plan) -> Sent
-    requires { ⌜ Neat from ⌝ }
-    ensures { λ r. ⌜ MailedOut plan (waiting from) r ⌝ }
+// The slots of a set to which m is new, where `first` is new to the slot `one`, if there is one.
+fn new_all(p: Pool, gone: usize, first: Message, one: Found, m: Message, set: u64) -> u64
+    requires { ⌜ (p .count ≤ 256) × (slotted one ≡ true) ⌝ }
+    ensures { λ r. ⌜ r ≡ without set (heldOf m (leftOf p gone ++ copyTo first one)) ⌝ }
 {
-    let to = plan.to;
-    let first = plan.first;
-    let each = plan.each;
-    let all = plan.all;
-    let start = Sent {
-        fits: true,
-        pool: from,
+    if set == 0 {
+        return 0;
+    }
+    let have = held(p, gone, m);
+    let Found::At(s) = one else {
+        return marks::less(set, have);
     };
-    let one = push_to(start, first, to);
-    send_each(one, each, all)
+    let q = parts::to_slot(first, s as u32);
+    marks::less(set, held_with(have, q, m))
+}
+
+// Which of the plan's messages are new once place `gone` is away.
+pub fn news(p: Pool, gone: usize, plan: Plan) -> New
+    requires { ⌜ (p .count ≤ 256) × (slotted (plan .to) ≡ true) ⌝ }
+    ensures { λ r. ⌜ r ≡ newsOf plan (leftOf p gone) ⌝ }
+{
+    let first = plan.first;
+    let to = plan.to;
+    let one = new_one(p, gone, first, to);
+    let all = new_all(p, gone, first, one, plan.each, plan.all);
+    New { one, all }
+}
+
+// Does the pool after the step hold at most 256? Of n messages place `gone` is away, and the new ones are there.
+pub fn room(n: usize, gone: usize, new: New) -> bool
+    requires { ⌜ n ≤ 256 ⌝ }
+    ensures { λ r. ⌜ r ≡ roomOf n gone new ⌝ }
+{
+    let one = new.one;
+    let more: usize = match one {
+        Found::At(_) => 1,
+        Found::Nothing => 0,
+    };
+    left(n, gone) + (more + marks::count(new.all) as usize) <= 256
+}
+
+// The pool once place `gone` is away, with the gap closed; places past the count are whatever they are.
+fn removed(p: Pool, gone: usize) -> Pool
+    requires { ⌜ p .count ≤ 256 ⌝ }
+    ensures { λ r. ⌜ Left p gone r ⌝ }
+{
+    let n = left(p.count, gone);
+    let mut q = p;
+    let mut at = gone;
+    while at < n {
+        let x = q.places[at + 1];
+        q.places[at] = x;
+        at += 1;
+    }
+    q.count = n;
+    q
+}
+
+// The pool with the new messages at the end: `first` to its slot, then `each` to its slots in rising order; then blanks.
+fn filled(p: Pool, first: Message, each: Message, new: New) -> Pool
+    requires { ⌜ Free p new ⌝ }
+    ensures { λ r. ⌜ r ≡ laid ((waiting p ++ copyTo first (new .one)) ++ copies each (new .all)) ⌝ }
+{
+    let none = parts::blank_message();
+    let one = new.one;
+    let mut rest = new.all;
+    let mut n = p.count;
+    let mut q = p;
+    if let Found::At(s) = one {
+        q.places[n] = parts::to_slot(first, s as u32);
+        n += 1;
+    }
+    'slots: loop {
+        let next = marks::lowest(rest);
+        let Found::At(s) = next else {
+            break 'slots;
+        };
+        q.places[n] = parts::to_slot(each, s as u32);
+        n += 1;
+        rest = marks::removed(rest, s);
+    }
+    q.count = n;
+    let mut at = n;
+    while at < 256 {
+        q.places[at] = none;
+        at += 1;
+    }
+    q
+}
+
+// The pool after the plan: the gap at place `gone` is closed, the new messages are at the end, and places past the count are blank.
+pub fn after(p: Pool, gone: usize, plan: Plan, new: New) -> Pool
+    requires { ⌜ Roomy p gone plan new ⌝ }
+    ensures { λ r. ⌜ r ≡ laid (mailed plan (leftOf p gone)) ⌝ }
+{
+    filled(removed(p, gone), plan.first, plan.each, new)
 }

@@ -41,6 +41,9 @@ mul-first c = search needs
 array-read-first : tie.Need-array-read-first Inv-chain μ-chain Inv-places μ-places
 array-read-first c = search needs
 
+cast-at : tie.Need-cast-at Inv-chain μ-chain Inv-places μ-places
+cast-at c = let l = c .before .before .before .places .inv .1 .head (c .bucket .result) (omega arith) .low in omega arith
+
 chain-holds : tie.Need-chain-holds Inv-chain μ-chain Inv-places μ-places
 chain-holds c =
     let k = c .before .before .before .places in
@@ -67,6 +70,14 @@ mul-at c = search needs
 array-read-at : tie.Need-array-read-at Inv-chain μ-chain Inv-places μ-places
 array-read-at c = let w = c .before .before .before .before .chain .inv .low in omega arith
 
+cast-at-2 : tie.Need-cast-at-2 Inv-chain μ-chain Inv-places μ-places
+cast-at-2 c =
+    let s = c .before .before .before .before in
+    let k = s .before .before .before .before .places in
+    let w = s .chain .inv .low in
+    let l = k .inv .1 .link (s .chain .at - 1) (omega arith) .low in
+    omega arith
+
 chain-less : tie.Need-chain-less Inv-chain μ-chain Inv-places μ-places
 chain-less c =
     let s = c .before .before .before .before in
@@ -91,6 +102,9 @@ array-write-next c = search needs
 
 add-heads : tie.Need-add-heads Inv-chain μ-chain Inv-places μ-places
 add-heads c = search needs
+
+cast-heads : tie.Need-cast-heads Inv-chain μ-chain Inv-places μ-places
+cast-heads c = search needs
 
 mul-heads : tie.Need-mul-heads Inv-chain μ-chain Inv-places μ-places
 mul-heads c = search needs
@@ -142,6 +156,7 @@ all-different-spec =
     bucket-requires
     mul-first
     array-read-first
+    cast-at
     chain-holds
     sub-q
     mul-q
@@ -150,11 +165,13 @@ all-different-spec =
     sub-at
     mul-at
     array-read-at
+    cast-at-2
     chain-less
     chain-again
     mul-next
     array-write-next
     add-heads
+    cast-heads
     mul-heads
     array-write-heads
     add-j
