@@ -14,7 +14,7 @@ use Rattle.rules.specs.declared.Message.{Message}
 use Rattle.rules.specs.declared.Plan.{Plan}
 use Rattle.rules.specs.declared.Pool.{Pool}
 use Rattle.rules.specs.Nodes.{placed}
-use Rattle.rules.specs.Pool.{waiting}
+use Rattle.rules.specs.Pool.{waiting, laid}
 use Rattle.rules.specs.Actions.{waits}
 use Rattle.rules.specs.Plans.{mailed}
 use Rattle.mail.specs.declared.New.{New}
@@ -82,6 +82,7 @@ module _ (p : Pool) (gone : ℕ) (x : Plan) (w : New) (q : Pool) (r : Roomy p go
         room = omega (arith, l .count-is, leb-true (leftCount (p .count) gone + newCount w) 256 (r .room));
       }
 
-  pub after-is : (waiting q ++ copyTo (x .first) (w .one)) ++ copies (x .each) (w .all) ≡ mailed x (leftOf p gone)
+  pub after-is : (t : Pool) → t ≡ laid ((waiting q ++ copyTo (x .first) (w .one)) ++ copies (x .each) (w .all))
+      → t ≡ laid (mailed x (leftOf p gone))
   unfolding newOne
-  after-is = rw (l .waiting-is, r .told) (sym (mailed-news x (leftOf p gone)))
+  after-is t e = e ∙ rw (l .waiting-is, r .told) (ap laid (sym (mailed-news x (leftOf p gone))))

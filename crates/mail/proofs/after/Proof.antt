@@ -1,7 +1,5 @@
 -- `mail::after` meets its contract: the gap is closed, then the new messages are put. Assumes nothing.
 use borrow.Author.Needs.{needs}
-use mathlib.Core.Path.{_∙_, ap}
-use Rattle.rules.specs.Pool.{laid}
 use Rattle.mail.proofs.Fresh.{after-free, after-is}
 use Rattle.mail.proofs.after.Statement.{statement}
 use Rattle.mail.proofs.after.Tie as tie
@@ -15,7 +13,7 @@ filled-requires c κs = let s = c .before in after-free (s .args .p) (s .args .g
 returns : tie.Need-returns
 returns c =
     let s = c .before .before in
-    c .filled .ensures ∙ ap laid (after-is (s .args .p) (s .args .gone) (s .args .plan) _ _ (s .pre) (c .before .removed .ensures))
+    after-is (s .args .p) (s .args .gone) (s .args .plan) _ _ (s .pre) (c .before .removed .ensures) _ (c .filled .ensures)
 
 pub after-spec : {M : Type 1} → statement M
 after-spec = tie.close (tie.spec removed-requires filled-requires returns)
