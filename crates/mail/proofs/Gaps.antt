@@ -19,7 +19,7 @@ use Rattle.rules.specs.declared.Pool.{Pool}
 use Rattle.rules.specs.Nodes.{placed}
 use Rattle.rules.specs.Pool.{blank, messageAt, waiting, laid}
 use Rattle.mail.specs.Sending.{leftOf, leftCount, placeOf, copyTo, copies, oneOrNone, Left}
-use Rattle.mail.specs.Laid.{waiting-length, left-low, left-length, left-at}
+use Rattle.mail.specs.Laid.{waiting-length, left-low, place-low, left-length, left-at}
 use Rattle.mail.specs.Sends.{copies-end, copies-more}
 
 abbrev pool : ℕ → List Message → Pool
@@ -54,6 +54,9 @@ module _ (gone n : ℕ) (p : Pool) (h : p .count ≤ 256) (l : length (p .places
   behind i a b =
       let e : placeOf gone i ≡ i + 1 = rw (le-ltb i gone a) in
       sym (left-at p gone all-wait i (omega arith) ∙ ap (λ (k : ℕ). messageAt p k) e)
+
+  pub next-low : (q : Pool) (at : ℕ) → at < n → Closed gone n p q at → at + 1 < 256
+  next-low q at b k = omega (arith, rw (le-ltb at gone (k .from)) at (place-low (p .count) gone at (omega arith)))
 
   pub closed-none : Closed gone n p p gone
   closed-none = record { from = omega arith; long = l; head = before; rest = λ i a. refl }
@@ -97,18 +100,19 @@ pub record Put (p : Pool) (m : Message) (to : Found) (n : ℕ) (q : Pool) : Type
   pub long : length (q .places) ≡ 256
   pub head : take n (q .places) ≡ waiting p ++ copyTo m to
 
-pub put-one : (p : Pool) (m : Message) (to : Found) (s : ℕ) → length (p .places) ≡ 256 → p .count < 256 → to ≡ At s
-    → Put p m to (p .count + 1) (wrote p (p .count) (placed m s))
-put-one p m to s l h e =
-    rw e
-    record {
-      count-is = refl;
-      long = length-set (p .places) (p .count) (placed m s) ∙ l;
-      head = front (p .places) (p .count) (placed m s) (omega arith);
-    }
+module _ (p : Pool) (m : Message) (to : Found) (l : length (p .places) ≡ 256) (n : ℕ) (q : Pool) where
+  pub put-one : (s : ℕ) (z : Message) → p .count < 256 → to ≡ At s → z ≡ placed m s → n ≡ p .count + 1 → q ≡ wrote p (p .count) z
+      → Put p m to n q
+  put-one s z h e f c w =
+      rw (w, c, f, e)
+      record {
+        count-is = refl;
+        long = length-set (p .places) (p .count) (placed m s) ∙ l;
+        head = front (p .places) (p .count) (placed m s) (omega arith);
+      }
 
-pub put-none : (p : Pool) (m : Message) (to : Found) → length (p .places) ≡ 256 → to ≡ Nothing → Put p m to (p .count) p
-put-none p m to l e = rw e record { count-is = omega arith; long = l; head = sym (append-nil (waiting p)) }
+  pub put-none : to ≡ Nothing → n ≡ p .count → q ≡ p → Put p m to n q
+  put-none e c w = rw (w, c, e) record { count-is = omega arith; long = l; head = sym (append-nil (waiting p)) }
 
 pub record Filling (m : Message) (all : List Message) (rest n : ℕ) (q : Pool) : Type 0 where
   pub room : n + sizeOf rest ≤ 256

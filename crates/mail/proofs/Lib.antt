@@ -1,3 +1,4 @@
 pub mod Places
 pub mod Gaps
+pub mod Fresh
 pub mod Chain

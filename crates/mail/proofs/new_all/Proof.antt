@@ -1,56 +1,53 @@
+-- `mail::new_all` meets its contract: nothing to send, no first message, or one that counts too. Assumes nothing.
 use borrow.Author.Needs.{needs}
+use native.Mathlib.Omega.{arith}
+use Rattle.mail.specs.Sending.{leftOf}
+use Rattle.mail.proofs.Fresh.{slot-low, all-none, all-alone, all-after}
 use Rattle.mail.proofs.new_all.Statement.{statement}
 use Rattle.mail.proofs.new_all.Tie as tie
-use Rattle.mail.proofs.new_all.Reads as reads
-use Rattle.mail.proofs.new_all.Lts as lts
-use Rattle.mail.proofs.held.Reads as held-reads
-use Rattle.mail.proofs.held_with.Reads as held-with-reads
-use Rattle.marks.proofs.less.Reads as less-reads
-use Rattle.parts.proofs.to_slot.Reads as to-slot-reads
 
--- src/lib.rt:237:9
 returns : tie.Need-returns
-returns c = ?
+returns c =
+    let a = c .before .args in
+    all-none (leftOf (a .p) (a .gone)) (a .first) (a .one) (a .m) _ (c .if1 .taken)
 
--- src/lib.rt:239:9
 held-requires : tie.Need-held-requires
 held-requires c κs = search needs
 
--- src/lib.rt:240:19
 enum-known-one : tie.Need-enum-known-one
 enum-known-one c = search needs
 
--- src/lib.rt:241:9
 enum-told : tie.Need-enum-told
 enum-told c = search needs
 
--- src/lib.rt:241:9
 less-requires : tie.Need-less-requires
 less-requires c κs = search needs
 
--- src/lib.rt:241:9
 returns-2 : tie.Need-returns-2
-returns-2 c = ?
+returns-2 c =
+    let h = c .before .before .before in
+    all-alone _ _ _ _ _ _ _ (h .held .ensures) (c .before .enum-told .given .1) (c .less .ensures)
 
--- src/lib.rt:243:35
 cast-to-slot : tie.Need-cast-to-slot
-cast-to-slot c = ?
+cast-to-slot c =
+    let s = c .before .before .before .before .before in
+    omega (arith, slot-low _ _ (c .before .one .given .1) (s .pre .1))
 
--- src/lib.rt:243:9
 to-slot-requires : tie.Need-to-slot-requires
 to-slot-requires c κs = search needs
 
--- src/lib.rt:244:22
 held-with-requires : tie.Need-held-with-requires
 held-with-requires c κs = search needs
 
--- src/lib.rt:244:5
 less-requires-2 : tie.Need-less-requires-2
 less-requires-2 c κs = search needs
 
--- src/lib.rt:232:1
 returns-3 : tie.Need-returns-3
-returns-3 c = ?
+returns-3 c =
+    let b = c .before in
+    let o = b .before .before .before in
+    let h = o .before .before in
+    all-after _ _ _ _ _ _ _ _ _ _ (h .held .ensures) (o .one .given .1) (b .before .to-slot .ensures) (b .held-with .ensures) (c .less2 .ensures)
 
 pub new-all-spec : {M : Type 1} → statement M
 new-all-spec =

@@ -1,22 +1,22 @@
+-- `mail::news` meets its contract. Assumes nothing.
 use borrow.Author.Needs.{needs}
+use Rattle.mail.specs.Sending.{leftOf}
+use Rattle.mail.specs.News.{new-slotted}
+use Rattle.mail.proofs.Fresh.{news-are}
 use Rattle.mail.proofs.news.Statement.{statement}
 use Rattle.mail.proofs.news.Tie as tie
-use Rattle.mail.proofs.news.Reads as reads
-use Rattle.mail.proofs.news.Lts as lts
-use Rattle.mail.proofs.new_all.Reads as new-all-reads
-use Rattle.mail.proofs.new_one.Reads as new-one-reads
 
--- src/lib.rt:254:9
 new-one-requires : tie.Need-new-one-requires
 new-one-requires c κs = search needs
 
--- src/lib.rt:255:9
 new-all-requires : tie.Need-new-all-requires
-new-all-requires c κs = ?
+new-all-requires c κs =
+    let s = c .before .before in
+    let x = s .args .plan in
+    (s .pre .0, rw (c .new-one .ensures) (new-slotted (x .first) (x .to) (leftOf (s .args .p) (s .args .gone)) (s .pre .1)))
 
--- src/lib.rt:248:1
 returns : tie.Need-returns
-returns c = ?
+returns c = news-are (c .before .before .before .args .plan) _ _ _ (c .before .new-one .ensures) (c .new-all .ensures)
 
 pub news-spec : {M : Type 1} → statement M
 news-spec = tie.close (tie.spec new-one-requires new-all-requires returns)

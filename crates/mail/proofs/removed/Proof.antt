@@ -1,58 +1,66 @@
+-- `mail::removed` meets its contract. The invariant: the places below `at` are those of what is left, and those from `at` on are as they
+-- were. The measure: the messages to move. Assumes nothing.
+use borrow.Author.Needs.{needs}
+use mathlib.Core.Path.{_≡_}
+use Prim.Native.Nat.{_+_, _-_, _<_}
+use native.Mathlib.Omega.{arith}
+use lib.ListN.{length}
+use Rattle.mail.proofs.Places.{places-length}
+use Rattle.mail.proofs.Gaps.{Closed, next-low, closed-none, closed-more, closed-end}
 use Rattle.mail.proofs.removed.Statement.{statement}
 use Rattle.mail.proofs.removed.Tie as tie
-use Rattle.mail.proofs.removed.Reads as reads
-use Rattle.mail.proofs.removed.Lts as lts
-use Rattle.mail.proofs.left.Reads as left-reads
 
 abbrev Inv-loop : tie.InvT-loop
-Inv-loop gone n q₀ at₀ q at = ?
+Inv-loop gone n q₀ at₀ q at = Closed gone n q₀ q at
 
 abbrev μ-loop : tie.MeasureT-loop
-μ-loop gone n q₀ at₀ q at = ?
+μ-loop gone n q₀ at₀ q at = n - at
 
--- src/lib.rt:277:9
+long : (c : tie.Start Inv-loop μ-loop) → length (c .args .p .places) ≡ 256
+long c = places-length (c .args .p) _ (c .good .0)
+
 left-requires : tie.Need-left-requires Inv-loop μ-loop
-left-requires c κs = ?
+left-requires c κs = search needs
 
--- src/lib.rt:280:5
 loop-holds : tie.Need-loop-holds Inv-loop μ-loop
-loop-holds c = ?
+loop-holds c = closed-none _ _ _ (c .before .pre) (long (c .before)) (c .left .ensures)
 
--- src/lib.rt:281:26
+low : (c : tie.In-loop Inv-loop μ-loop) → c .before .loop .at + 1 < 256
+low c =
+    let b = c .before .before in
+    next-low _ _ _ (b .before .pre) (long (b .before)) (b .left .ensures) _ _ (c .loop-test .taken) (c .before .loop .inv)
+
 add-x : tie.Need-add-x Inv-loop μ-loop
-add-x c = ?
+add-x c = omega (arith, low c)
 
--- src/lib.rt:281:17
 mul-x : tie.Need-mul-x Inv-loop μ-loop
-mul-x c = ?
+mul-x c = omega (arith, low c)
 
--- src/lib.rt:281:17
 element-copy-out-x : tie.Need-element-copy-out-x Inv-loop μ-loop
-element-copy-out-x c = ?
+element-copy-out-x c = low c
 
--- src/lib.rt:282:9
 mul-x-2 : tie.Need-mul-x-2 Inv-loop μ-loop
-mul-x-2 c = ?
+mul-x-2 c = omega (arith, low (c .before))
 
--- src/lib.rt:282:9
 element-set-from-x : tie.Need-element-set-from-x Inv-loop μ-loop
-element-set-from-x c = ?
+element-set-from-x c = omega (arith, low (c .before))
 
--- src/lib.rt:283:9
 add-at : tie.Need-add-at Inv-loop μ-loop
-add-at c = ?
+add-at c = omega (arith, low (c .before))
 
--- src/lib.rt:280:5
 loop-less : tie.Need-loop-less Inv-loop μ-loop
-loop-less c = ?
+loop-less c = search needs
 
--- src/lib.rt:280:5
 loop-again : tie.Need-loop-again Inv-loop μ-loop
-loop-again c = ?
+loop-again c =
+    let k = c .before .before in
+    let b = k .before in
+    closed-more _ _ _ (b .before .pre) (long (b .before)) (b .left .ensures) _ _ (c .before .loop-test .taken) (k .loop .inv)
 
--- src/lib.rt:273:1
 returns : tie.Need-returns Inv-loop μ-loop
-returns c = ?
+returns c =
+    let b = c .before .before in
+    closed-end _ _ _ (b .before .pre) (long (b .before)) (b .left .ensures) _ _ (c .loop-test .left) (c .before .loop .inv)
 
 pub removed-spec : {M : Type 1} → statement M
 removed-spec =
