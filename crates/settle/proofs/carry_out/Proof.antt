@@ -42,7 +42,7 @@ returns : tie.Need-returns
 returns c =
     let s = c .before .before .before .before .before .before .before in
     c .done .ensures
-    ∙ rw (c .before .before .before .with-node .ensures, c .before .after .ensures)
+    ∙ rw (c .before .before .with-node .ensures, c .before .after .ensures)
     (fits (s .args .t) (s .args .p) (s .args .gone) (s .args .i) (s .args .plan) _ (whole s) (c .before .before .before .before .before .before .news .ensures)
     (sym (c .before .before .before .before .before .room .ensures) ∙ c .before .before .before .before .if1 .taken))
 
