@@ -6,6 +6,9 @@ use crate::table::Names;
 use crate::trouble::Fault;
 use crate::words::{lines, Line};
 
+const NO_ACTION: &str =
+    "no action; it is lookup, join, request lease, lease expired, grant expired, take, settled or list";
+
 /// What a line of a rehearsal asks for.
 #[derive(Debug, PartialEq, Eq)]
 pub enum Ask {
@@ -46,7 +49,7 @@ fn ask(line: &mut Line, names: &Names) -> Result<Ask, Fault> {
         "take" => [6, line.take_number("a place", u64::MAX)?, 0],
         "settled" => return Ok(Ask::Settled),
         "list" => return Ok(Ask::List),
-        _ => return Err(line.fault("no action; it is lookup, join, request lease, lease expired, grant expired or take, or asks settled or list")),
+        _ => return Err(line.fault(NO_ACTION)),
     };
     Ok(Ask::Step(words))
 }

@@ -10,6 +10,12 @@ pub struct Point {
 }
 
 impl Point {
+    pub const MIDDLE: Point = Point { x: 0.0, y: 0.0 };
+
+    pub fn distance(self, other: Point) -> f64 {
+        (self.x - other.x).hypot(self.y - other.y)
+    }
+
     /// The point at a turn and a radius round the middle.
     pub fn round(turn: f64, radius: f64) -> Point {
         let (sin, cos) = (turn * TAU).sin_cos();

@@ -3,6 +3,7 @@
 
 mod action;
 mod command;
+mod draw;
 mod driver;
 mod file;
 mod form;
@@ -13,6 +14,8 @@ mod print;
 mod rehearse;
 mod survey;
 mod table;
+#[cfg(test)]
+mod tests;
 mod trouble;
 mod words;
 
@@ -46,6 +49,10 @@ fn main() -> ExitCode {
 /// Whether nothing was refused.
 fn run(args: &[&str]) -> Result<bool, Trouble> {
     match *args {
+        [_, "help"] => {
+            print!("{USAGE}");
+            Ok(true)
+        }
         [driver, "text", file] => command::text(driver, file).map(|()| true),
         [driver, "file", text, out] => command::file(driver, text, out).map(|()| true),
         [driver, "start", ref words @ ..] => command::start(driver, words).map(|()| true),
