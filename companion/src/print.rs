@@ -38,8 +38,9 @@ pub fn message(message: &Message, names: &Names) -> String {
     }
     for field in form.fields {
         if let Some(value) = value(*field, form, message, names) {
-            let words = [field.keyword(), &value];
-            words.iter().filter(|word| !word.is_empty()).for_each(|word| text += &format!(" {word}"));
+            for word in [field.keyword(), &value].iter().filter(|word| !word.is_empty()) {
+                text += &format!(" {word}");
+            }
         }
     }
     text

@@ -58,8 +58,8 @@ impl<'a> Survey<'a> {
         lookups.map(|lookup| self.journey(lookup)).collect()
     }
 
-    /// The arc of a ready node. It holds less than half of the ring above the id and less than half below it, or all of the
-    /// ring; the id itself is in it unless the node is its own right neighbour only.
+    /// The arc of a ready node: all of the ring, or less than half of it above the id and less than half below. The id is
+    /// in it unless the right side alone is empty; then the arc begins above the id.
     fn arc(&mut self, id: u32, slot: u32) -> Result<Arc, Trouble> {
         let (half, last) = (1u32 << (self.table.m - 1), u32::MAX >> (32 - self.table.m));
         let up = |by: u32| id.wrapping_add(by) & last;
@@ -67,10 +67,11 @@ impl<'a> Survey<'a> {
         if self.covers(slot, up(half))? {
             return Ok(Arc { from: up(1), to: id });
         }
-        let first = u32::from(!self.covers(slot, id)?);
-        let rise = self.last_covered(slot, first, half, up)?;
-        let fall = if first == 0 { self.last_covered(slot, 0, half, down)? } else { 0 };
-        Ok(Arc { from: if first == 0 { down(fall) } else { up(1) }, to: up(rise) })
+        if !self.covers(slot, id)? {
+            return Ok(Arc { from: up(1), to: up(self.last_covered(slot, 1, half, up)?) });
+        }
+        let (rise, fall) = (self.last_covered(slot, 0, half, up)?, self.last_covered(slot, 0, half, down)?);
+        Ok(Arc { from: down(fall), to: up(rise) })
     }
 
     /// The last covered step from `within`, covered, towards `beyond`, which is not.
@@ -83,9 +84,10 @@ impl<'a> Survey<'a> {
     ) -> Result<u32, Trouble> {
         while beyond - within > 1 {
             let middle = within + (beyond - within) / 2;
-            match self.covers(slot, key(middle))? {
-                true => within = middle,
-                false => beyond = middle,
+            if self.covers(slot, key(middle))? {
+                within = middle;
+            } else {
+                beyond = middle;
             }
         }
         Ok(within)

@@ -99,8 +99,25 @@ fn odd_records_there_and_back() {
 
 #[test]
 fn loose_text_is_read() {
-    let loose = "ring M=8 L=1 # a comment\nnode 17 wait right 18 left\n\n   failed slot 1\nnode 18 3\nmessage 1 word 80 at 17\nBroadcastLSet at 18 left 18 granted owner 17\n";
-    let strict = "ring M=8 L=1\n\nnode 17 wait\n  right 18\n  failed 18\n\nnode 18 ready\n\nLookup 80 at 17\nBroadcastLSet owner 17 at 18 left 18 granted\n";
+    let loose = "ring M=8 L=1 # a comment
+        node 17 wait right 18 left
+
+        failed slot 1
+        node 18 3
+        message 1 word 80 at 17
+        BroadcastLSet at 18 left 18 granted owner 17";
+    let strict = "\
+ring M=8 L=1
+
+node 17 wait
+  right 18
+  failed 18
+
+node 18 ready
+
+Lookup 80 at 17
+BroadcastLSet owner 17 at 18 left 18 granted
+";
     assert_eq!(print::table(&parsed(loose)), strict);
 }
 
