@@ -150,8 +150,12 @@ pub fn gone_of(a: Action) -> usize
     ensures { λ r. ⌜ r ≡ goneOf a ⌝ }
 {
     match a {
+        Action::Lookup(_, _) => 256,
+        Action::Join(_, _) => 256,
+        Action::RequestLease(_) => 256,
+        Action::LeaseExpired(_, _) => 256,
+        Action::GrantExpired(_, _) => 256,
         Action::Take(place) => place,
-        _ => 256,
     }
 }
 

@@ -1,17 +1,17 @@
 -- `step::plan_of` meets its contract: the action that was matched decides the definition's case, and its being in range gives what each asks. Assumes nothing.
 use borrow.Author.Needs.{needs}
 use borrow.Author.Tests.{ltb-true}
-use mathlib.Core.Path.{_≡_, sym, _∙_, ap}
+use mathlib.Core.Path.{_≡_, sym, _∙_, ap, subst}
 use mathlib.Core.Bool.{true}
 use Prim.Native.Nat.{_<_}
 use native.Mathlib.Nat.{lt-of-lt-of-le}
 use lib.Pow.{pow-mono}
 use Rattle.rules.specs.declared.Action.{Action}
-use Rattle.rules.specs.declared.Action.the-variants.{Take}
-use Rattle.rules.specs.declared.Pool.{Pool}
+use Rattle.rules.specs.declared.Message.{Message}
+use Rattle.rules.specs.Fits.{messageFits}
 use Rattle.sound.specs.Sound.{sound}
-use Rattle.table.specs.declared.Table.{Table}
 use Rattle.table.specs.Step.{inRange}
+use Rattle.table.specs.Table.{ringOf}
 use Rattle.step.specs.Asked.{tookOf, planOf}
 use Rattle.step.specs.Settles.{two, slot-low, counted, took-fits, took-dest}
 use Rattle.step.proofs.plan_of.Statement.{statement}
@@ -52,7 +52,8 @@ enum-known-a-4 c = search needs
 plan-of-lease-requires : tie.Need-plan-of-lease-requires
 plan-of-lease-requires c κs =
     let s = c .before .before .before in
-    let b = two _ _ _ _ (ranged s _ (c .before .a4 .given .1)) in
+    let x = c .before .a4 .given .0 in
+    let b = two (x .0) (s .args .t .n) (x .1 .0) (s .args .t .n) (ranged s _ (c .before .a4 .given .1)) in
     (sound _ _ (s .pre .0) .listed, slot-low _ _ (s .pre .0) _ (b .0))
 
 enum-known-a-5 : tie.Need-enum-known-a-5
@@ -64,16 +65,18 @@ plan-of-grant-requires c κs =
     let b = two _ _ _ _ (ranged s _ (c .before .a5 .given .1)) in
     (slot-low _ _ (s .pre .0) _ (b .0), slot-low _ _ (s .pre .0) _ (b .1))
 
-enum-known-a-6 : tie.Need-enum-known-a-6
-enum-known-a-6 c = search needs
+enum-told : tie.Need-enum-told
+enum-told c = search needs
 
 plan-of-take-requires : tie.Need-plan-of-take-requires
 plan-of-take-requires c κs =
-    let s = c .before .before .before in
-    let e = c .before .a6 .given .1 in
+    let s = c .before .before in
+    let e = c .enum-told .given .1 in
     let h = ltb-true _ _ (ranged s _ e) in
-    let m = s .pre .2 ∙ ap (tookOf (s .args .p)) e in
-    (sound _ _ (s .pre .0) .listed, rw m (took-dest _ _ (s .pre .0) _ h), rw m (took-fits _ _ (s .pre .0) _ h))
+    let m = sym (s .pre .2 ∙ ap (tookOf (s .args .p)) e) in
+    (sound _ _ (s .pre .0) .listed,
+      subst (λ (x : Message). x .dest < s .args .t .n) m (took-dest _ _ (s .pre .0) _ h),
+      subst (λ (x : Message). messageFits (ringOf (s .args .t)) x ≡ true) m (took-fits _ _ (s .pre .0) _ h))
 
 returns : tie.Need-returns
 returns c = c .plan-of-lookup .ensures ∙ ap (planOf _ _ _) (sym (c .before .before .a .given .1))
@@ -91,7 +94,7 @@ returns-5 : tie.Need-returns-5
 returns-5 c = c .plan-of-grant .ensures ∙ ap (planOf _ _ _) (sym (c .before .before .a5 .given .1))
 
 returns-6 : tie.Need-returns-6
-returns-6 c = c .plan-of-take .ensures ∙ ap (planOf _ _ _) (sym (c .before .before .a6 .given .1))
+returns-6 c = c .plan-of-take .ensures ∙ ap (planOf _ _ _) (sym (c .before .enum-told .given .1))
 
 pub plan-of-spec : {M : Type 1} → statement M
 plan-of-spec =
@@ -107,7 +110,7 @@ plan-of-spec =
     plan-of-lease-requires
     enum-known-a-5
     plan-of-grant-requires
-    enum-known-a-6
+    enum-told
     plan-of-take-requires
     returns
     returns-2

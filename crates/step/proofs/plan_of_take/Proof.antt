@@ -10,20 +10,20 @@ cast-i : tie.Need-cast-i
 cast-i c = search needs
 
 node-at-requires : tie.Need-node-at-requires
-node-at-requires c κs = lt-of-lt-of-le (c .pre .1) (c .pre .0 .n-high)
+node-at-requires c κs = lt-of-lt-of-le (c .before .pre .1) (c .before .pre .0 .n-high)
 
 ids-requires : tie.Need-ids-requires
 ids-requires c κs = search needs
 
 dead-set-requires : tie.Need-dead-set-requires
-dead-set-requires c κs = c .before .before .pre .0 .n-high
+dead-set-requires c κs = c .before .before .before .pre .0 .n-high
 
 ring-of-requires : tie.Need-ring-of-requires
 ring-of-requires c κs = search needs
 
 plan-take-requires : tie.Need-plan-take-requires
 plan-take-requires c κs =
-    let s = c .before .before .before .before in
+    let s = c .before .before .before .before .before .before in
     let g = c .before .ring-of .ensures in
     (rw (g, c .before .before .before .ids .ensures) (s .pre .0), rw g (s .pre .1), rw g (s .pre .2))
 
