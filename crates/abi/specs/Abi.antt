@@ -5,8 +5,10 @@ use mathlib.Core.List.{List}
 use Prim.Native.Nat.{ℕ, _+_, _*_}
 use lib.Dec.{eqb}
 use Rattle.rules.specs.declared.Action.the-variants.{Lookup, Join, RequestLease, LeaseExpired, GrantExpired, Take}
-use Rattle.rules.specs.Numbers.{answerNumber}
+use Rattle.rules.specs.Numbers.{refusalNumber, answerNumber}
 use Rattle.format.specs.declared.Wrote.{Wrote}
+use Rattle.entry.specs.declared.Rest.{Rest}
+use Rattle.entry.specs.declared.Rest.the-variants.{Settled, Unsettled, NotAsked}
 use Rattle.wire.specs.Wire.{loadedOf, nextOf, wroteBy, leftBy}
 use Rattle.abi.specs.declared.Asked.{Asked}
 use Rattle.abi.specs.declared.Asked.the-variants.{Is, None}
@@ -14,6 +16,12 @@ use Rattle.abi.specs.declared.Asked.the-variants.{Is, None}
 -- the number of the answer in the low 32 bits, the count of bytes in the high 32 bits
 abbrev pub packOf : Wrote → ℕ
 packOf w = w .count * 4294967296 + answerNumber (w .answer)
+
+-- the number in the low 32 bits; in the high 32 bits 1 where the table is settled, else 0
+abbrev pub restWord : Rest → ℕ
+restWord Settled = 4294967296
+restWord Unsettled = 0
+restWord (NotAsked why) = refusalNumber why
 
 -- no action has this number: every bit of the low word is set
 abbrev pub unknown : ℕ

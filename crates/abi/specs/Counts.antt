@@ -1,6 +1,6 @@
 -- A count of written bytes is small, so that it and the answer's number fit one word. Assumes nothing.
 use mathlib.Core.Path.{_≡_, refl}
-use mathlib.Core.Bool.{Bool, true, false}
+use mathlib.Core.Bool.{Bool, true, false, cond}
 use mathlib.Core.List.{List}
 use Prim.Native.Nat.{ℕ, _≤_}
 use native.Mathlib.Omega.{arith}
@@ -9,6 +9,7 @@ use lib.ListN.{length}
 use Rattle.marks.specs.Bools.{and-right}
 use Rattle.rules.specs.declared.Answer.{Answer}
 use Rattle.rules.specs.declared.Answer.the-variants.{Done, Refused}
+use Rattle.rules.specs.declared.Refusal.the-variants as no
 use Rattle.rules.specs.declared.Pool.{Pool}
 use Rattle.table.specs.declared.Table.{Table}
 use Rattle.table.specs.declared.Stepped.{Stepped}
@@ -16,8 +17,10 @@ use Rattle.table.specs.Step.{isSound}
 use Rattle.table.specs.Valid.{validOf}
 use Rattle.sound.specs.Sound.{sound}
 use Rattle.format.specs.Format.{totalOf}
-use Rattle.format.specs.Write.{wroteOf}
+use Rattle.format.specs.Write.{notWritten, wroteOf}
 use Rattle.wire.specs.Wire.{wroteBy}
+use Rattle.listing.specs.Print.{listingOf}
+use Rattle.listing.specs.List.{room, listOf, listing-short}
 
 -- the longest file has 64 nodes and 256 messages
 pub wrote-small : (t : Table) (p : Pool) (out : List ℕ) → wroteOf t p 256 out .count ≤ 18464
@@ -36,3 +39,12 @@ wrote-by-small s out = go (s .answer) refl
     go : (a : Answer) → s .answer ≡ a → wroteBy s out .count ≤ 18464
     go Done e = rw e (wrote-small (s .table) (s .pool) out)
     go (Refused why) e = rw e (omega arith)
+
+-- a listing has at most 256 lines below its header
+pub list-small : (file out : List ℕ) → listOf file out .count ≤ 18464
+unfolding listOf
+list-small file out = go (ltb (length out) room)
+  where
+    go : (b : Bool) → cond b (notWritten no.NoRoom) (record { answer = Done; count = length (listingOf file) }) .count ≤ 18464
+    go true = omega arith
+    go false = omega (arith, listing-short file)

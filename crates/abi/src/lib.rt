@@ -1,11 +1,14 @@
-// The calls for other languages: numbers and bytes alone cross. The answer's number stands in the low 32 bits of the result, the count of
-// bytes written to the start of `out` in the high 32 bits; where the number is not 0, `out` is left as it was.
+// The calls for other languages: numbers and bytes alone cross. 01's number stands in the low 32 bits of the result, the count of bytes
+// written to the start of `out` in the high 32 bits; where the number is not 0, `out` is left as it was. include/tarpudhriv.h declares them.
 ghost use mathlib.Core.Path.{_≡_};
 ghost use Prim.Native.Nat.{_≤_};
-ghost use Rattle.wire.specs.Wire.{loadedOf, wroteBy, leftBy};
-ghost use Rattle.abi.specs.Abi.{packOf, askedOf, stepWord, stepLeft};
+ghost use Rattle.wire.specs.Wire.{loadedOf, begunOf, wroteBy, leftBy, restBy};
+ghost use Rattle.listing.specs.List.{listOf, listedOf};
+ghost use Rattle.abi.specs.Abi.{packOf, restWord, askedOf, stepWord, stepLeft};
+use entry::Rest;
 use format::Wrote;
 use rules::Action;
+use rules::Answer;
 
 // What a number says of an action.
 pub enum Asked {
@@ -28,12 +31,23 @@ fn action_of(k: u64, x: u64, y: u64) -> Asked
 }
 
 // An answer and a count as one word.
-pub fn packed(w: Wrote) -> u64
+fn packed(w: Wrote) -> u64
     requires { ⌜ w .count ≤ 18464 ⌝ }
     ensures { λ r. ⌜ r ≡ packOf w ⌝ }
 {
     let answer = w.answer;
     (w.count as u64) * 4294967296 + parts::answer_number(answer) as u64
+}
+
+// Whether a table is settled as one word.
+fn rest_word(said: Rest) -> u64
+    ensures { λ r. ⌜ r ≡ restWord said ⌝ }
+{
+    match said {
+        Rest::Settled => 4294967296,
+        Rest::Unsettled => 0,
+        Rest::NotAsked(why) => parts::answer_number(Answer::Refused(why)) as u64,
+    }
 }
 
 // Reads a table file and writes it back.
@@ -55,4 +69,30 @@ pub extern "C" fn tarpudhriv_step(file: &[u8], action: u64, x: u64, y: u64, out:
         Asked::Is(a) => packed(wire::step_file(file, a, out)),
         Asked::None => 4294967295,
     }
+}
+
+// Makes a table of M, L, the set A as marks and the ids, and writes its file.
+#[no_mangle]
+pub extern "C" fn tarpudhriv_start(m: u64, l: u64, a: u64, ids: &[u32], out: &mut [u8]) -> u64
+    ensures r { λ r. ⌜ r ≡ packOf (wroteBy (begunOf m l a (now (ids .entry))) (now (out .entry))) ⌝ }
+    ensures left { λ _. ⌜ now (out .exit) ≡ leftBy (begunOf m l a (now (ids .entry))) (now (out .entry)) ⌝ }
+{
+    packed(wire::start_file(m, l, a, ids, out))
+}
+
+// Reads a table file, and tells whether its table is settled: 1 or 0 in the high 32 bits, where the number is 0.
+#[no_mangle]
+pub extern "C" fn tarpudhriv_settled(file: &[u8]) -> u64
+    ensures { λ r. ⌜ r ≡ restWord (restBy (loadedOf (now (file .entry)))) ⌝ }
+{
+    rest_word(wire::settled_file(file))
+}
+
+// Writes the listing of a file, `refused N` and all. 11 for a buffer of fewer than 16,384 bytes, and no other number.
+#[no_mangle]
+pub extern "C" fn tarpudhriv_list(file: &[u8], out: &mut [u8]) -> u64
+    ensures r { λ r. ⌜ r ≡ packOf (listOf (now (file .entry)) (now (out .entry))) ⌝ }
+    ensures left { λ _. ⌜ now (out .exit) ≡ listedOf (now (file .entry)) (now (out .entry)) ⌝ }
+{
+    packed(listing::list(file, out))
 }

@@ -1,0 +1,66 @@
+/* answer: answers the driver's requests (docs/DRIVER.md) on standard input by the five calls. */
+#include <stdio.h>
+
+#include "tarpudhriv.h"
+
+enum { ROOM = 65536, IDS = 65 };
+
+static uint8_t body[ROOM], out[ROOM];
+
+static uint64_t little(const uint8_t *at, size_t bytes) {
+    uint64_t x = 0;
+    while (bytes-- > 0) x = x << 8 | at[bytes];
+    return x;
+}
+
+/* The first ids of a start; one past the 64 that are allowed is enough to be refused. */
+static uint64_t start(const uint8_t *rest, size_t len) {
+    uint32_t ids[IDS];
+    size_t n = (len - 24) / 4;
+    if (n > IDS) n = IDS;
+    for (size_t k = 0; k < n; k++) ids[k] = (uint32_t)little(rest + 24 + 4 * k, 4);
+    return tarpudhriv_start(little(rest, 8), little(rest + 8, 8), little(rest + 16, 8), ids, n, out, ROOM);
+}
+
+/* The bytes that answer settled. */
+static uint64_t settled(const uint8_t *file, size_t len) {
+    uint64_t word = tarpudhriv_settled(file, len);
+    if (tarpudhriv_number(word) != 0) return word;
+    out[0] = (uint8_t)tarpudhriv_count(word);
+    return UINT64_C(1) << 32;
+}
+
+static uint64_t reply_to(const uint8_t *request, size_t len) {
+    const uint8_t *rest = request + 1;
+    if (len == 0) return TARPUDHRIV_NO_ACTION;
+    len--;
+    switch (request[0]) {
+    case 0: return tarpudhriv_load(rest, len, out, ROOM);
+    case 1:
+        if (len < 24) return TARPUDHRIV_NO_ACTION;
+        return tarpudhriv_step(rest + 24, len - 24, little(rest, 8), little(rest + 8, 8), little(rest + 16, 8), out, ROOM);
+    case 2: return len < 24 || len % 4 != 0 ? TARPUDHRIV_NO_ACTION : start(rest, len);
+    case 3: return settled(rest, len);
+    case 4: return tarpudhriv_list(rest, len, out, ROOM);
+    default: return TARPUDHRIV_NO_ACTION;
+    }
+}
+
+static void send32(uint32_t x) {
+    for (int k = 0; k < 4; k++) putchar((int)(x >> 8 * k & 255));
+}
+
+int main(void) {
+    uint8_t head[4];
+    while (fread(head, 1, 4, stdin) == 4) {
+        size_t len = little(head, 4), kept = len < ROOM ? len : ROOM;
+        if (fread(body, 1, kept, stdin) != kept) return 1;
+        for (size_t past = kept; past < len; past++)
+            if (getchar() == EOF) return 1;
+        uint64_t word = len > ROOM ? TARPUDHRIV_NO_ACTION : reply_to(body, len);
+        send32(4 + tarpudhriv_count(word));
+        send32(tarpudhriv_number(word));
+        fwrite(out, 1, tarpudhriv_count(word), stdout);
+    }
+    return 0;
+}

@@ -1,0 +1,66 @@
+//! answer: answers the driver's requests (docs/DRIVER.md) on standard input by the five calls.
+
+use std::io::{self, Read, Write};
+use tarpudhriv::{Action, Refused};
+
+/// What a request that is none is answered.
+const MALFORMED: Refused = Refused(u32::MAX);
+
+/// The longest request.
+const ROOM: usize = 65_536;
+
+fn word(bytes: &[u8], k: usize) -> u64 {
+    u64::from_le_bytes(bytes[8 * k..][..8].try_into().expect("eight bytes"))
+}
+
+fn action(rest: &[u8]) -> Result<Action, Refused> {
+    let (slot, second) = (word(rest, 1), word(rest, 2));
+    match word(rest, 0) {
+        1 => Ok(Action::Lookup { slot, key: second }),
+        2 => Ok(Action::Join { slot, seed: second }),
+        3 => Ok(Action::RequestLease { slot }),
+        4 => Ok(Action::LeaseExpired { slot, other: second }),
+        5 => Ok(Action::GrantExpired { slot, other: second }),
+        6 => Ok(Action::Take { place: slot }),
+        _ => Err(MALFORMED),
+    }
+}
+
+fn start(rest: &[u8]) -> Result<Vec<u8>, Refused> {
+    let ids: Vec<u32> =
+        rest[24..].chunks(4).map(|id| u32::from_le_bytes(id.try_into().expect("four bytes"))).collect();
+    tarpudhriv::start(word(rest, 0), word(rest, 1), word(rest, 2), &ids)
+}
+
+fn reply_to(request: &[u8]) -> Result<Vec<u8>, Refused> {
+    if request.len() > ROOM {
+        return Err(MALFORMED);
+    }
+    let (kind, rest) = request.split_first().ok_or(MALFORMED)?;
+    match kind {
+        0 => tarpudhriv::load(rest),
+        1 if rest.len() >= 24 => tarpudhriv::step(&rest[24..], action(rest)?),
+        2 if rest.len() >= 24 && rest.len() % 4 == 0 => start(rest),
+        3 => tarpudhriv::settled(rest).map(|said| vec![u8::from(said)]),
+        4 => Ok(tarpudhriv::list(rest)),
+        _ => Err(MALFORMED),
+    }
+}
+
+fn main() -> io::Result<()> {
+    let (mut from, mut to) = (io::stdin().lock(), io::stdout().lock());
+    let mut head = [0; 4];
+    while from.read_exact(&mut head).is_ok() {
+        let mut request = vec![0; u32::from_le_bytes(head) as usize];
+        from.read_exact(&mut request)?;
+        let reply = reply_to(&request);
+        let (number, result) = match &reply {
+            Ok(result) => (0, result.as_slice()),
+            Err(Refused(number)) => (*number, &[][..]),
+        };
+        to.write_all(&(4 + result.len() as u32).to_le_bytes())?;
+        to.write_all(&number.to_le_bytes())?;
+        to.write_all(result)?;
+    }
+    Ok(())
+}

@@ -1,0 +1,64 @@
+/* The bench for C: five calls on table files (docs/FORMAT.md). Link target/staticlib/libabi.a, which `rt staticlib abi` makes (x86-64).
+ *
+ * Every call answers one 64-bit word. Its low 32 bits are the number: 0 done, 1 to 11 refused (docs/REFUSALS.md). Its high 32 bits
+ * are the count of bytes written to the start of `out`. Where the number is not 0 the count is 0 and `out` is untouched; where it is 0,
+ * the bytes of `out` past the count are untouched. The reply and what `out` then holds are proved for every input of any length.
+ *
+ * A call asks for pointers that may be read (`out`: written) for their length, are not null, also where the length is 0, and an `out`
+ * that overlaps no other argument. It keeps nothing, allocates nothing and calls nothing outside but the C library's memory functions, so
+ * threads may call at once. It needs at most TARPUDHRIV_STACK bytes of stack, 256 KB: measured, and tried at every run of the tests.
+ */
+#ifndef TARPUDHRIV_H
+#define TARPUDHRIV_H
+
+#include <stddef.h>
+#include <stdint.h>
+
+#ifdef __cplusplus
+extern "C" {
+#endif
+
+enum {
+    TARPUDHRIV_FILE = 18464,    /* the longest table file: room enough for load, step and start */
+    TARPUDHRIV_LISTING = 16384, /* the least room that list asks for */
+    TARPUDHRIV_STACK = 262144
+};
+
+/* The actions of a step, and what x and y are. */
+enum {
+    TARPUDHRIV_LOOKUP = 1,        /* x slot, y key */
+    TARPUDHRIV_JOIN = 2,          /* x slot, y slot of the seed */
+    TARPUDHRIV_REQUEST_LEASE = 3, /* x slot */
+    TARPUDHRIV_LEASE_EXPIRED = 4, /* x slot, y slot */
+    TARPUDHRIV_GRANT_EXPIRED = 5, /* x slot, y slot */
+    TARPUDHRIV_TAKE = 6           /* x place of the message, from 0 */
+};
+
+/* The number of a step whose action is none of these. */
+#define TARPUDHRIV_NO_ACTION UINT32_C(4294967295)
+
+static inline uint32_t tarpudhriv_number(uint64_t word) { return (uint32_t)word; }
+static inline uint32_t tarpudhriv_count(uint64_t word) { return (uint32_t)(word >> 32); }
+
+/* Reads a table file and writes it back. */
+uint64_t tarpudhriv_load(const uint8_t *file, size_t file_len, uint8_t *out, size_t out_len);
+
+/* Reads a table file, makes one step, and writes the table file after it. */
+uint64_t tarpudhriv_step(const uint8_t *file, size_t file_len, uint64_t action, uint64_t x, uint64_t y, uint8_t *out, size_t out_len);
+
+/* Makes a table of ids of m digits with leaf sets of l nodes a side, ready where a has a mark (mark s, worth 2^s, for slot s), and
+ * writes its file. */
+uint64_t tarpudhriv_start(uint64_t m, uint64_t l, uint64_t a, const uint32_t *ids, size_t ids_len, uint8_t *out, size_t out_len);
+
+/* Reads a table file, and tells whether its table is settled: tarpudhriv_count is 1 if it is, else 0. */
+uint64_t tarpudhriv_settled(const uint8_t *file, size_t file_len);
+
+/* Writes the listing of a file, as text. The number is 0, or 11 for less room than TARPUDHRIV_LISTING: of a file that is no table
+ * file the listing is the line `refused N`. */
+uint64_t tarpudhriv_list(const uint8_t *file, size_t file_len, uint8_t *out, size_t out_len);
+
+#ifdef __cplusplus
+}
+#endif
+
+#endif
