@@ -94,7 +94,7 @@ places-again : tie.Need-places-again Inv-fields μ-fields Inv-places μ-places
 places-again c =
     let k = c .before .before .before .before .before .before .before .places in
     let v = c .before .before .fields .inv in
-    (omega arith, rw (v .0) (passed-more _ _ _ _ _ (row (c .before .before .before)) (c .before .fields-test .taken) (c .if2 .taken) (k .inv .1)))
+    (omega arith, rw (v .0) (passed-more _ _ _ _ _ (row (c .before .before .before)) (omega arith) (c .if2 .taken) (k .inv .1)))
 
 add-f : tie.Need-add-f Inv-fields μ-fields Inv-places μ-places
 add-f c = search needs
