@@ -46,16 +46,19 @@ module _ (gone n : ℕ) (p : Pool) (h : p .count ≤ 256) (l : length (p .places
   all-wait = waiting-length p h l
 
   before : (i : ℕ) → i < gone → i < n → messageAt p i ≡ getD (leftOf p gone) i blank
+  unfolding placeOf
   before i a b =
       let e : placeOf gone i ≡ i = rw (lt-ltb i gone a) in
       sym (left-at p gone all-wait i (omega arith) ∙ ap (λ (k : ℕ). messageAt p k) e)
 
   behind : (i : ℕ) → gone ≤ i → i < n → messageAt p (i + 1) ≡ getD (leftOf p gone) i blank
+  unfolding placeOf
   behind i a b =
       let e : placeOf gone i ≡ i + 1 = rw (le-ltb i gone a) in
       sym (left-at p gone all-wait i (omega arith) ∙ ap (λ (k : ℕ). messageAt p k) e)
 
   pub next-low : (q : Pool) (at : ℕ) → at < n → Closed gone n p q at → at + 1 < 256
+  unfolding placeOf
   next-low q at b k = omega (arith, rw (le-ltb at gone (k .from)) at (place-low (p .count) gone at (omega arith)))
 
   pub closed-none : Closed gone n p p gone

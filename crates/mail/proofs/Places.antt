@@ -25,7 +25,7 @@ use Rattle.rules.specs.Actions.{joinWaits}
 use Rattle.rules.proofs.Pool as pool
 use Rattle.mail.specs.Sending.{leftOf, leftCount, placeOf}
 use Rattle.mail.specs.Equal.{first-equal-at, first-equal-none}
-use Rattle.mail.specs.Laid.{waiting-length, place-low, left-at}
+use Rattle.mail.specs.Laid.{waiting-length, left-low, place-low, left-at}
 
 -- a pool by value has 256 places, so what waits has the pool's count
 pub places-length : (x : Pool) (vs : List Val) → Is pool.the-row x vs → length (x .places) ≡ 256
@@ -33,6 +33,9 @@ places-length x vs is = sym (length-map (x .places) _) ∙ is .1 .1 .1 .0 .1 .0 
 
 pub waiting-counted : (x : Pool) (vs : List Val) → Is pool.the-row x vs → x .count ≤ 256 → length (waiting x) ≡ x .count
 waiting-counted x vs is h = waiting-length x h (places-length x vs is)
+
+pub left-few : (r n gone : ℕ) → r ≡ leftCount n gone → r ≤ n
+left-few r n gone e = omega (arith, left-low n gone)
 
 -- what was read at a place is the message there of what is left
 module _ (p : Pool) (gone n at place : ℕ) (e : length (waiting p) ≡ p .count) (d : n ≡ leftCount (p .count) gone) (l : at < n)

@@ -68,6 +68,7 @@ removed-none xs i h = rw (take-all i xs h, drop-of-length-le xs {i = suc i} (ome
 -- ---- what is left of a pool
 
 pub left-low : (n gone : ℕ) → leftCount n gone ≤ n
+unfolding leftCount
 left-low n gone = go (ltb gone n)
   where
     go : (b : Bool) → cond b (n - 1) n ≤ n
@@ -75,6 +76,7 @@ left-low n gone = go (ltb gone n)
     go false = omega arith
 
 pub place-low : (n gone at : ℕ) → at < leftCount n gone → placeOf gone at < n
+unfolding leftCount placeOf
 place-low n gone at l = go (lt-or-le gone n) (lt-or-le at gone)
   where
     go : (gone < n) ⊎ (n ≤ gone) → (at < gone) ⊎ (gone ≤ at) → placeOf gone at < n
@@ -84,6 +86,7 @@ place-low n gone at l = go (lt-or-le gone n) (lt-or-le at gone)
 
 module _ (p : Pool) (gone : ℕ) (e : length (waiting p) ≡ p .count) where
   pub left-length : length (leftOf p gone) ≡ leftCount (p .count) gone
+  unfolding leftCount
   left-length = go (lt-or-le gone (p .count))
     where
       go : (gone < p .count) ⊎ (p .count ≤ gone) → length (leftOf p gone) ≡ leftCount (p .count) gone
@@ -92,6 +95,7 @@ module _ (p : Pool) (gone : ℕ) (e : length (waiting p) ≡ p .count) where
 
   -- what is left stands at its places
   pub left-at : (at : ℕ) → at < leftCount (p .count) gone → getD (leftOf p gone) at blank ≡ messageAt p (placeOf gone at)
+  unfolding leftCount placeOf
   left-at at l = go (lt-or-le gone (p .count)) (lt-or-le at gone)
     where
       go : (gone < p .count) ⊎ (p .count ≤ gone) → (at < gone) ⊎ (gone ≤ at) → getD (leftOf p gone) at blank ≡ messageAt p (placeOf gone at)

@@ -24,11 +24,11 @@ abbrev pub leftOf : Pool → ℕ → List Message
 leftOf p gone = removedAt (waiting p) gone
 
 -- how many are left of n
-abbrev pub leftCount : ℕ → ℕ → ℕ
+unfoldable pub leftCount : ℕ → ℕ → ℕ
 leftCount n gone = cond (ltb gone n) (n - 1) n
 
 -- the place in the pool of the message at place `at` of what is left
-abbrev pub placeOf : ℕ → ℕ → ℕ
+unfoldable pub placeOf : ℕ → ℕ → ℕ
 placeOf gone at = cond (ltb at gone) at (at + 1)
 
 -- ---- the slots to which a message is sent

@@ -144,7 +144,7 @@ loop-less c = search needs
 loop-again : tie.Need-loop-again Inv-slots μ-slots Inv-loop μ-loop
 loop-again c =
     let b = c .before .before .before .before .before .before .before .before in
-    rw (b .blank-message .ensures) (blanked-more _ _ _ _ (c .before .loop-test .taken) (c .before .before .loop .inv))
+    rw (b .blank-message .ensures) (blanked-more _ _ _ _ (omega arith) (c .before .before .loop .inv))
 
 returns : tie.Need-returns Inv-slots μ-slots Inv-loop μ-loop
 returns c =
@@ -152,7 +152,7 @@ returns c =
     let k = o .before .before .before in
     let s = k .before .before .before in
     let none = sym (o .before .before .lowest .ensures) ∙ o .enum-told2 .given .1 in
-    blanked-end _ _ _ (omega (arith, k .slots .inv .room)) (k .slots .inv .long) (c .loop-test .left) (c .before .loop .inv)
+    blanked-end _ _ _ (omega (arith, k .slots .inv .room)) (k .slots .inv .long) (omega arith) (c .before .loop .inv)
     ∙ ap laid (filling-end _ _ _ _ _ none (k .slots .inv) ∙ ap (λ (l : List Message). l ++ copies (s .args .each) (s .args .new .all)) (begun (k .before) .head))
 
 pub filled-spec : {M : Type 1} → statement M

@@ -9,8 +9,8 @@ use lib.ListN.{getD, length}
 use Rattle.rules.specs.Mail.{fieldsOf}
 use Rattle.rules.specs.Pool.{blank, waiting}
 use Rattle.mail.specs.Sending.{leftOf}
-use Rattle.mail.specs.Laid.{left-length, left-low}
-use Rattle.mail.proofs.Places.{waiting-counted, left-low-at, left-read}
+use Rattle.mail.specs.Laid.{left-length}
+use Rattle.mail.proofs.Places.{waiting-counted, left-few, left-low-at, left-read}
 use Rattle.mail.proofs.Places.{Same, none-same, same-more, Passed, none-passed, passed-more, missed, met}
 use Rattle.mail.proofs.first_equal.Statement.{statement}
 use Rattle.mail.proofs.first_equal.Tie as tie
@@ -40,7 +40,7 @@ places-holds : tie.Need-places-holds Inv-fields μ-fields Inv-places μ-places
 places-holds c = (omega arith, none-passed _ _)
 
 place-of-requires : tie.Need-place-of-requires Inv-fields μ-fields Inv-places μ-places
-place-of-requires c κs = let s = c .before .before .before .before in omega (arith, left-low (s .args .t1 .count) (s .args .gone))
+place-of-requires c κs = omega (arith, left-few _ _ _ (c .before .before .before .left .ensures))
 
 low : (c : tie.After-place-of Inv-fields μ-fields Inv-places μ-places) → c .place-of .result < 256
 low c =
@@ -94,7 +94,7 @@ places-again : tie.Need-places-again Inv-fields μ-fields Inv-places μ-places
 places-again c =
     let k = c .before .before .before .before .before .before .before .places in
     let v = c .before .before .fields .inv in
-    (omega arith, rw (v .0) (passed-more _ _ _ _ _ (row (c .before .before .before)) (c .before .fields-test .taken) (c .if2 .taken) (k .inv .1)))
+    (omega arith, rw (v .0) (passed-more _ _ _ _ _ (row (c .before .before .before)) (omega arith) (c .if2 .taken) (k .inv .1)))
 
 add-f : tie.Need-add-f Inv-fields μ-fields Inv-places μ-places
 add-f c = search needs

@@ -8,9 +8,9 @@ use lib.ListN.{take, length}
 use lib.Seq.{take-all}
 use Rattle.rules.specs.Pool.{messageAt, waiting}
 use Rattle.mail.specs.Sending.{leftOf, heldOf, heldWith}
-use Rattle.mail.specs.Laid.{left-length, left-low}
+use Rattle.mail.specs.Laid.{left-length}
 use Rattle.mail.specs.Sends.{held-nil, held-last}
-use Rattle.mail.proofs.Places.{waiting-counted, left-low-at, left-read, taken-more}
+use Rattle.mail.proofs.Places.{waiting-counted, left-few, left-low-at, left-read, taken-more}
 use Rattle.mail.proofs.held.Statement.{statement}
 use Rattle.mail.proofs.held.Tie as tie
 
@@ -30,7 +30,7 @@ loop-holds : tie.Need-loop-holds Inv-loop μ-loop
 loop-holds c = (omega arith, sym (held-nil _))
 
 place-of-requires : tie.Need-place-of-requires Inv-loop μ-loop
-place-of-requires c κs = let s = c .before .before .before in omega (arith, left-low (s .args .t1 .count) (s .args .gone))
+place-of-requires c κs = omega (arith, left-few _ _ _ (c .before .before .left .ensures))
 
 low : (c : tie.After-place-of Inv-loop μ-loop) → c .place-of .result < 256
 low c =

@@ -1,6 +1,7 @@
 -- `mail::left` meets its contract. Assumes nothing.
 use borrow.Author.Needs.{needs}
 use borrow.Author.Tests.{lt-ltb, le-ltb}
+use Rattle.mail.specs.Sending.{leftCount}
 use Rattle.mail.proofs.left.Statement.{statement}
 use Rattle.mail.proofs.left.Tie as tie
 
@@ -8,9 +9,11 @@ sub-result : tie.Need-sub-result
 sub-result c = search needs
 
 returns : tie.Need-returns
+unfolding leftCount
 returns c = rw (lt-ltb _ _ (c .if1 .taken))
 
 returns-2 : tie.Need-returns-2
+unfolding leftCount
 returns-2 c = rw (le-ltb _ _ (c .if1 .left))
 
 pub left-spec : {M : Type 1} → statement M

@@ -1,6 +1,7 @@
 -- `mail::place_of` meets its contract. Assumes nothing.
 use borrow.Author.Needs.{needs}
 use borrow.Author.Tests.{lt-ltb, le-ltb}
+use Rattle.mail.specs.Sending.{placeOf}
 use Rattle.mail.proofs.place_of.Statement.{statement}
 use Rattle.mail.proofs.place_of.Tie as tie
 
@@ -8,9 +9,11 @@ add-result : tie.Need-add-result
 add-result c = search needs
 
 returns : tie.Need-returns
+unfolding placeOf
 returns c = rw (lt-ltb _ _ (c .if1 .taken))
 
 returns-2 : tie.Need-returns-2
+unfolding placeOf
 returns-2 c = rw (le-ltb _ _ (c .if1 .left))
 
 pub place-of-spec : {M : Type 1} → statement M

@@ -5,7 +5,7 @@ use mathlib.Core.Logic.{⊎-elim}
 use Prim.Native.Nat.{_≤_}
 use native.Mathlib.Omega.{arith}
 use Rattle.mail.specs.Sending.{oneOrNone}
-use Rattle.mail.specs.Laid.{left-low}
+use Rattle.mail.proofs.Places.{left-few}
 use Rattle.mail.proofs.room.Statement.{statement}
 use Rattle.mail.proofs.room.Tie as tie
 
@@ -37,8 +37,7 @@ add-result c = omega (arith, few (c .before .before .before))
 
 add-result-2 : tie.Need-add-result-2
 add-result-2 c =
-    let s = c .before .before .before .before in
-    omega (arith, few (c .before .before .before), left-low (s .args .n) (s .args .gone))
+    omega (arith, few (c .before .before .before), left-few _ _ _ (c .before .before .left .ensures))
 
 returns : tie.Need-returns
 returns c = rw (c .before .before .left .ensures, more (c .before .before .before), c .before .count .ensures)
