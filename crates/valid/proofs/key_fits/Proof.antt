@@ -1,0 +1,15 @@
+-- `valid::key_fits` meets its contract: what the definition asks of a key alone. Assumes nothing.
+use borrow.Author.Needs.{needs}
+use Rattle.rules.specs.Fits.{fieldsFit, wordFits, flagFits, carriedFits, ownerFits, routingFits, failedFits}
+use Rattle.valid.proofs.key_fits.Statement.{statement}
+use Rattle.valid.proofs.key_fits.Tie as tie
+
+below-size-requires : tie.Need-below-size-requires
+below-size-requires c κs = search needs
+
+returns : tie.Need-returns
+unfolding fieldsFit wordFits flagFits carriedFits ownerFits routingFits failedFits
+returns c = rw (c .before .before .before .below-size .ensures)
+
+pub key-fits-spec : {M : Type 1} → statement M
+key-fits-spec = tie.close (tie.spec below-size-requires returns)
