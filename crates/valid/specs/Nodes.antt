@@ -17,7 +17,7 @@ use Rattle.rules.specs.Fits.{othersFit, sideFits}
 unfoldable pub allNodes : ℕ → ℕ
 allNodes n = gather n (λ s. true)
 
--- every member of the set is one of the others
+-- every member of the set is in the whole
 abbrev pub isPart : ℕ → ℕ → Bool
 isPart whole set = eqb (without set whole) 0
 

@@ -1,6 +1,6 @@
 -- The slots of a table in turn. Ids rise, so a listed node's id is at least one above the id before it: `lowAt` is the least that it may
 -- be, 0 at slot 0. Assumes nothing.
-use mathlib.Core.Path.{_≡_, ap}
+use mathlib.Core.Path.{_≡_}
 use mathlib.Core.List.{List}
 use mathlib.Core.Bool.{_&&_, _||_}
 use Prim.Native.Nat.{ℕ, zero, suc, pred, _+_, _^_, _<_, _≤_}

@@ -2,7 +2,7 @@
 ghost use mathlib.Core.Path.{_≡_};
 ghost use mathlib.Core.Bool.{_&&_};
 ghost use Prim.Native.Nat.{ℕ, _^_, _≤_, _<_};
-ghost use lib.Dec.{leb, ltb};
+ghost use lib.Dec.{eqb, leb, ltb};
 ghost use Rattle.marks.specs.Marks.{sizeOf};
 ghost use Rattle.rules.specs.Fits.{numbersFit, leafFits, nodeFits, isBlank, isKind, fieldsFit, messageFits};
 ghost use Rattle.rules.specs.Nodes.{carriedOf};
@@ -41,11 +41,11 @@ fn all_nodes(n: usize) -> u64
     }
 }
 
-// Is every member of the set one of the others?
-fn is_part(set: u64, others: u64) -> bool
-    ensures { λ r. ⌜ r ≡ isPart others set ⌝ }
+// Is every member of the set in the whole?
+fn is_part(set: u64, whole: u64) -> bool
+    ensures { λ r. ⌜ r ≡ isPart whole set ⌝ }
 {
-    marks::less(set, others) == 0
+    marks::less(set, whole) == 0
 }
 
 // Has the side at most L marks, all of them others?
@@ -121,23 +121,11 @@ fn nodes_fit(t: Table, all: u64) -> bool
     true
 }
 
-// A key, and nothing else.
-fn key_fits(g: Ring, m: Message) -> bool
-    requires { ⌜ g .m ≤ 32 ⌝ }
-    ensures { λ r. ⌜ r ≡ fieldsFit 1 g m ⌝ }
+// No leaf set is carried.
+fn carries_none(m: Message) -> bool
+    ensures { λ r. ⌜ r ≡ (eqb (m .owner) 0 && (eqb (m .left) 0 && eqb (m .right) 0)) ⌝ }
 {
-    let carried = (m.owner == 0) & ((m.left == 0) & (m.right == 0));
-    below_size(m.word, g.m) & ((m.flag == 0) & (carried & ((m.routing == 0) & (m.failed == 0))))
-}
-
-// A node and a routing set.
-fn join_request_fits(g: Ring, all: u64, m: Message) -> bool
-    requires { ⌜ all ≡ allNodes (g .n) ⌝ }
-    ensures { λ r. ⌜ r ≡ fieldsFit 2 g m ⌝ }
-{
-    let carried = (m.owner == 0) & ((m.left == 0) & (m.right == 0));
-    ((m.word as usize) < g.n)
-        & ((m.flag == 0) & (carried & (is_part(m.routing, all) & (m.failed == 0))))
+    (m.owner == 0) & ((m.left == 0) & (m.right == 0))
 }
 
 // A carried leaf set, with its owner.
@@ -147,6 +135,24 @@ fn carried_fits(g: Ring, all: u64, m: Message) -> bool
 {
     let owner = m.owner as usize;
     (owner < g.n) & leaf_fits(g, all, owner, parts::carried_of(m))
+}
+
+// A key, and nothing else.
+fn key_fits(g: Ring, m: Message) -> bool
+    requires { ⌜ g .m ≤ 32 ⌝ }
+    ensures { λ r. ⌜ r ≡ fieldsFit 1 g m ⌝ }
+{
+    below_size(m.word, g.m)
+        & ((m.flag == 0) & (carries_none(m) & ((m.routing == 0) & (m.failed == 0))))
+}
+
+// A node and a routing set.
+fn join_request_fits(g: Ring, all: u64, m: Message) -> bool
+    requires { ⌜ all ≡ allNodes (g .n) ⌝ }
+    ensures { λ r. ⌜ r ≡ fieldsFit 2 g m ⌝ }
+{
+    ((m.word as usize) < g.n)
+        & ((m.flag == 0) & (carries_none(m) & (is_part(m.routing, all) & (m.failed == 0))))
 }
 
 // A routing set, and a leaf set with its owner.
@@ -172,8 +178,8 @@ fn probe_fits(g: Ring, all: u64, m: Message) -> bool
 fn lease_request_fits(g: Ring, m: Message) -> bool
     ensures { λ r. ⌜ r ≡ fieldsFit 7 g m ⌝ }
 {
-    let carried = (m.owner == 0) & ((m.left == 0) & (m.right == 0));
-    ((m.word as usize) < g.n) & ((m.flag == 0) & (carried & ((m.routing == 0) & (m.failed == 0))))
+    ((m.word as usize) < g.n)
+        & ((m.flag == 0) & (carries_none(m) & ((m.routing == 0) & (m.failed == 0))))
 }
 
 // A leaf set with its owner, and a flag.

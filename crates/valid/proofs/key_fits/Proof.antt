@@ -7,9 +7,14 @@ use Rattle.valid.proofs.key_fits.Tie as tie
 below-size-requires : tie.Need-below-size-requires
 below-size-requires c κs = search needs
 
+carries-none-requires : tie.Need-carries-none-requires
+carries-none-requires c κs = search needs
+
 returns : tie.Need-returns
 unfolding fieldsFit wordFits flagFits carriedFits ownerFits routingFits failedFits
-returns c = rw (c .before .before .before .below-size .ensures)
+returns c =
+    let n = c .before .before in
+    rw (n .carries-none .ensures, n .before .before .below-size .ensures)
 
 pub key-fits-spec : {M : Type 1} → statement M
-key-fits-spec = tie.close (tie.spec below-size-requires returns)
+key-fits-spec = tie.close (tie.spec below-size-requires carries-none-requires returns)

@@ -1,6 +1,5 @@
 -- `valid::lease_request_fits` meets its contract: what the definition asks of kind 7. Assumes nothing.
 use borrow.Author.Needs.{needs}
-use mathlib.Core.Path.{refl}
 use Rattle.rules.specs.Fits.{fieldsFit, wordFits, flagFits, carriedFits, ownerFits, routingFits, failedFits}
 use Rattle.valid.proofs.lease_request_fits.Statement.{statement}
 use Rattle.valid.proofs.lease_request_fits.Tie as tie
@@ -8,9 +7,12 @@ use Rattle.valid.proofs.lease_request_fits.Tie as tie
 cast-result : tie.Need-cast-result
 cast-result c = search needs
 
+carries-none-requires : tie.Need-carries-none-requires
+carries-none-requires c κs = search needs
+
 returns : tie.Need-returns
 unfolding fieldsFit wordFits flagFits carriedFits ownerFits routingFits failedFits
-returns c = refl
+returns c = rw (c .before .before .carries-none .ensures)
 
 pub lease-request-fits-spec : {M : Type 1} → statement M
-lease-request-fits-spec = tie.close (tie.spec cast-result returns)
+lease-request-fits-spec = tie.close (tie.spec cast-result carries-none-requires returns)
