@@ -2,11 +2,12 @@
 ghost use mathlib.Core.Path.{_≡_};
 ghost use mathlib.Core.Bool.{_&&_};
 ghost use Prim.Native.Nat.{ℕ, _^_, _≤_, _<_};
-ghost use lib.Dec.{eqb, leb, ltb};
+ghost use lib.Dec.{leb, ltb};
 ghost use Rattle.marks.specs.Marks.{sizeOf};
 ghost use Rattle.rules.specs.Fits.{numbersFit, leafFits, nodeFits, isBlank, isKind, fieldsFit, messageFits};
 ghost use Rattle.rules.specs.Nodes.{carriedOf};
 ghost use Rattle.table.specs.Valid.{nodesFit, messagesFit, poolFits, validOf};
+ghost use Rattle.valid.specs.Alone.{carriesNone, wordAlone};
 ghost use Rattle.valid.specs.Nodes.{allNodes, isPart};
 use rules::Message;
 use rules::Node;
@@ -123,9 +124,16 @@ fn nodes_fit(t: Table, all: u64) -> bool
 
 // No leaf set is carried.
 fn carries_none(m: Message) -> bool
-    ensures { λ r. ⌜ r ≡ (eqb (m .owner) 0 && (eqb (m .left) 0 && eqb (m .right) 0)) ⌝ }
+    ensures { λ r. ⌜ r ≡ carriesNone m ⌝ }
 {
     (m.owner == 0) & ((m.left == 0) & (m.right == 0))
+}
+
+// Nothing but the word.
+fn word_alone(m: Message) -> bool
+    ensures { λ r. ⌜ r ≡ wordAlone m ⌝ }
+{
+    (m.flag == 0) & (carries_none(m) & ((m.routing == 0) & (m.failed == 0)))
 }
 
 // A carried leaf set, with its owner.
@@ -137,13 +145,12 @@ fn carried_fits(g: Ring, all: u64, m: Message) -> bool
     (owner < g.n) & leaf_fits(g, all, owner, parts::carried_of(m))
 }
 
-// A key, and nothing else.
+// A key.
 fn key_fits(g: Ring, m: Message) -> bool
     requires { ⌜ g .m ≤ 32 ⌝ }
     ensures { λ r. ⌜ r ≡ fieldsFit 1 g m ⌝ }
 {
-    below_size(m.word, g.m)
-        & ((m.flag == 0) & (carries_none(m) & ((m.routing == 0) & (m.failed == 0))))
+    below_size(m.word, g.m) & word_alone(m)
 }
 
 // A node and a routing set.
@@ -174,12 +181,11 @@ fn probe_fits(g: Ring, all: u64, m: Message) -> bool
         & ((m.flag == 0) & (carried_fits(g, all, m) & ((m.owner == m.word) & sets)))
 }
 
-// A node, and nothing else.
+// A node.
 fn lease_request_fits(g: Ring, m: Message) -> bool
     ensures { λ r. ⌜ r ≡ fieldsFit 7 g m ⌝ }
 {
-    ((m.word as usize) < g.n)
-        & ((m.flag == 0) & (carries_none(m) & ((m.routing == 0) & (m.failed == 0))))
+    ((m.word as usize) < g.n) & word_alone(m)
 }
 
 // A leaf set with its owner, and a flag.

@@ -7,14 +7,12 @@ use Rattle.valid.proofs.key_fits.Tie as tie
 below-size-requires : tie.Need-below-size-requires
 below-size-requires c κs = search needs
 
-carries-none-requires : tie.Need-carries-none-requires
-carries-none-requires c κs = search needs
+word-alone-requires : tie.Need-word-alone-requires
+word-alone-requires c κs = search needs
 
 returns : tie.Need-returns
 unfolding fieldsFit wordFits flagFits carriedFits ownerFits routingFits failedFits
-returns c =
-    let n = c .before .before in
-    rw (n .carries-none .ensures, n .before .before .below-size .ensures)
+returns c = rw (c .word-alone .ensures, c .before .below-size .ensures)
 
 pub key-fits-spec : {M : Type 1} → statement M
-key-fits-spec = tie.close (tie.spec below-size-requires carries-none-requires returns)
+key-fits-spec = tie.close (tie.spec below-size-requires word-alone-requires returns)

@@ -7,12 +7,12 @@ use Rattle.valid.proofs.lease_request_fits.Tie as tie
 cast-result : tie.Need-cast-result
 cast-result c = search needs
 
-carries-none-requires : tie.Need-carries-none-requires
-carries-none-requires c κs = search needs
+word-alone-requires : tie.Need-word-alone-requires
+word-alone-requires c κs = search needs
 
 returns : tie.Need-returns
 unfolding fieldsFit wordFits flagFits carriedFits ownerFits routingFits failedFits
-returns c = rw (c .before .before .carries-none .ensures)
+returns c = rw (c .word-alone .ensures)
 
 pub lease-request-fits-spec : {M : Type 1} → statement M
-lease-request-fits-spec = tie.close (tie.spec cast-result carries-none-requires returns)
+lease-request-fits-spec = tie.close (tie.spec cast-result word-alone-requires returns)
