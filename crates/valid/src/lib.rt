@@ -1,10 +1,14 @@
 // Validity, decided: true exactly for a valid table and pool.
 ghost use mathlib.Core.Path.{_≡_};
+ghost use mathlib.Core.Bool.{_&&_};
 ghost use Prim.Native.Nat.{ℕ, _^_, _≤_, _<_};
-ghost use lib.Dec.{ltb};
-ghost use Rattle.rules.specs.Fits.{numbersFit, idFits, sideFits, leafFits, othersFit, nodeFits, isBlank, slotFits};
-ghost use Rattle.rules.specs.Fits.{wordFits, flagFits, carriedFits, ownerFits, routingFits, failedFits, fieldsFit, messageFits};
+ghost use lib.Dec.{leb, ltb};
+ghost use Rattle.marks.specs.Marks.{sizeOf};
+ghost use Rattle.rules.specs.Fits.{numbersFit, leafFits, nodeFits, isBlank, isKind, fieldsFit, messageFits};
+ghost use Rattle.rules.specs.Nodes.{carriedOf};
 ghost use Rattle.table.specs.Valid.{nodesFit, messagesFit, poolFits, validOf};
+ghost use Rattle.valid.specs.Alone.{carriesNone, wordAlone};
+ghost use Rattle.valid.specs.Nodes.{allNodes, isPart};
 use rules::Message;
 use rules::Node;
 use rules::Pool;
@@ -12,7 +16,7 @@ use rules::Ring;
 use rules::Sides;
 use table::Table;
 
-pub fn numbers_fit(g: Ring) -> bool
+fn numbers_fit(g: Ring) -> bool
     ensures { λ r. ⌜ r ≡ numbersFit g ⌝ }
 {
     (2 <= g.m) & (g.m <= 32) & ((1 <= g.l) & (g.l <= 8) & ((1 <= g.n) & (g.n <= 64)))
@@ -26,47 +30,51 @@ fn below_size(x: u32, m: u32) -> bool
     (x as u64) < (1u64 << m)
 }
 
-// Is the id of slot s below 2^m, and above the one before it?
-fn id_fits(g: Ring, ids: &[u32; 64], s: usize) -> bool
-    requires { ⌜ (g .m ≤ 32) × (s < 64) ⌝ }
-    ensures { λ r. ⌜ r ≡ idFits g (now (ids .entry)) s ⌝ }
+// The set of all listed nodes.
+fn all_nodes(n: usize) -> u64
+    requires { ⌜ n ≤ 64 ⌝ }
+    ensures { λ r. ⌜ r ≡ allNodes n ⌝ }
 {
-    let x = ids[s];
-    let below = below_size(x, g.m);
-    if s == 0 {
-        return below;
+    if n < 64 {
+        (1u64 << (n as u32)) - 1
+    } else {
+        u64::MAX
     }
-    below & (ids[s - 1] < x)
 }
 
-pub fn side_fits(g: Ring, owner: usize, side: u64) -> bool
-    ensures { λ r. ⌜ r ≡ sideFits g owner side ⌝ }
+// Is every member of the set in the whole?
+fn is_part(set: u64, whole: u64) -> bool
+    ensures { λ r. ⌜ r ≡ isPart whole set ⌝ }
 {
-    marks::all_below(side, g.n) & ((marks::count(side) <= g.l) & !marks::is_in(side, owner))
+    marks::less(set, whole) == 0
 }
 
-pub fn leaf_fits(g: Ring, owner: usize, s: Sides) -> bool
+// Has the side at most L marks, all of them others?
+fn side_fits(g: Ring, others: u64, side: u64) -> bool
+    ensures { λ r. ⌜ r ≡ (isPart others side && leb (sizeOf side) (g .l)) ⌝ }
+{
+    is_part(side, others) & (marks::count(side) <= g.l)
+}
+
+fn leaf_fits(g: Ring, all: u64, owner: usize, s: Sides) -> bool
+    requires { ⌜ all ≡ allNodes (g .n) ⌝ }
     ensures { λ r. ⌜ r ≡ leafFits g owner s ⌝ }
 {
-    side_fits(g, owner, s.left) & side_fits(g, owner, s.right)
+    let others = marks::removed(all, owner);
+    side_fits(g, others, s.left) & side_fits(g, others, s.right)
 }
 
-pub fn others_fit(g: Ring, i: usize, set: u64) -> bool
-    ensures { λ r. ⌜ r ≡ othersFit g i set ⌝ }
-{
-    marks::all_below(set, g.n) & !marks::is_in(set, i)
-}
-
-pub fn node_fits(g: Ring, i: usize, v: Node) -> bool
+fn node_fits(g: Ring, all: u64, i: usize, v: Node) -> bool
+    requires { ⌜ all ≡ allNodes (g .n) ⌝ }
     ensures { λ r. ⌜ r ≡ nodeFits g i v ⌝ }
 {
-    let known = marks::all_below(v.routing, g.n)
-        & (marks::all_below(v.lease, g.n) & marks::all_below(v.grant, g.n));
-    leaf_fits(g, i, parts::sides_of(v))
-        & (others_fit(g, i, v.probing) & (others_fit(g, i, v.failed) & known))
+    let others = marks::removed(all, i);
+    let known = is_part(v.routing, all) & (is_part(v.lease, all) & is_part(v.grant, all));
+    leaf_fits(g, all, i, parts::sides_of(v))
+        & (is_part(v.probing, others) & (is_part(v.failed, others) & known))
 }
 
-pub fn is_blank_node(v: Node) -> bool
+fn is_blank_node(v: Node) -> bool
     ensures { λ r. ⌜ r ≡ isBlank v ⌝ }
 {
     let st = v.status;
@@ -80,27 +88,33 @@ pub fn is_blank_node(v: Node) -> bool
                             & ((v.routing == 0) & ((v.lease == 0) & (v.grant == 0))))))))
 }
 
-fn slot_fits(g: Ring, ids: &[u32; 64], s: usize, v: Node) -> bool
-    requires { ⌜ (g .m ≤ 32) × (s < 64) ⌝ }
-    ensures { λ r. ⌜ r ≡ slotFits g (now (ids .entry)) s v ⌝ }
+// Is the id at least low and below 2^m?
+fn id_fits(g: Ring, low: u64, id: u32) -> bool
+    requires { ⌜ g .m ≤ 32 ⌝ }
+    ensures { λ r. ⌜ r ≡ (ltb id (2 ^ g .m) && leb low id) ⌝ }
 {
-    if s < g.n {
-        id_fits(g, ids, s) & node_fits(g, s, v)
-    } else {
-        is_blank_node(v)
-    }
+    below_size(id, g.m) & (low <= (id as u64))
 }
 
-fn nodes_fit(t: Table) -> bool
-    requires { ⌜ t .m ≤ 32 ⌝ }
+// Each id is above the one before it: low is the least that the next may be.
+fn nodes_fit(t: Table, all: u64) -> bool
+    requires { ⌜ (t .m ≤ 32) × (t .n ≤ 64) × (all ≡ allNodes (t .n)) ⌝ }
     ensures { λ r. ⌜ r ≡ nodesFit t ⌝ }
 {
     let g = table::ring_of(t);
-    let ids = table::ids(t);
+    let mut low: u64 = 0;
     let mut s: usize = 0;
+    while s < g.n {
+        let v = t.nodes[s];
+        if !(id_fits(g, low, v.id) & node_fits(g, all, s, v)) {
+            return false;
+        }
+        low = (v.id as u64) + 1;
+        s += 1;
+    }
     while s < 64 {
         let v = t.nodes[s];
-        if !slot_fits(g, &ids, s, v) {
+        if !is_blank_node(v) {
             return false;
         }
         s += 1;
@@ -108,96 +122,115 @@ fn nodes_fit(t: Table) -> bool
     true
 }
 
-// Is the word a key, a node, or 0, as the kind asks?
-fn word_fits(kind: u32, g: Ring, word: u32) -> bool
+// No leaf set is carried.
+fn carries_none(m: Message) -> bool
+    ensures { λ r. ⌜ r ≡ carriesNone m ⌝ }
+{
+    (m.owner == 0) & ((m.left == 0) & (m.right == 0))
+}
+
+// Nothing but the word.
+fn word_alone(m: Message) -> bool
+    ensures { λ r. ⌜ r ≡ wordAlone m ⌝ }
+{
+    (m.flag == 0) & (carries_none(m) & ((m.routing == 0) & (m.failed == 0)))
+}
+
+// A carried leaf set, with its owner.
+fn carried_fits(g: Ring, all: u64, m: Message) -> bool
+    requires { ⌜ all ≡ allNodes (g .n) ⌝ }
+    ensures { λ r. ⌜ r ≡ (ltb (m .owner) (g .n) && leafFits g (m .owner) (carriedOf m)) ⌝ }
+{
+    let owner = m.owner as usize;
+    (owner < g.n) & leaf_fits(g, all, owner, parts::carried_of(m))
+}
+
+// A key.
+fn key_fits(g: Ring, m: Message) -> bool
     requires { ⌜ g .m ≤ 32 ⌝ }
-    ensures { λ r. ⌜ r ≡ wordFits kind g word ⌝ }
+    ensures { λ r. ⌜ r ≡ fieldsFit 1 g m ⌝ }
 {
-    if (kind == 1) | (kind == 6) {
-        return below_size(word, g.m);
-    }
-    if (kind == 2) | (((kind == 4) | (kind == 5)) | (kind == 7)) {
-        (word as usize) < g.n
-    } else {
-        word == 0
-    }
+    below_size(m.word, g.m) & word_alone(m)
 }
 
-pub fn flag_fits(kind: u32, flag: u32) -> bool
-    ensures { λ r. ⌜ r ≡ flagFits kind flag ⌝ }
+// A node and a routing set.
+fn join_request_fits(g: Ring, all: u64, m: Message) -> bool
+    requires { ⌜ all ≡ allNodes (g .n) ⌝ }
+    ensures { λ r. ⌜ r ≡ fieldsFit 2 g m ⌝ }
 {
-    if kind == 8 { flag <= 1 } else { flag == 0 }
+    ((m.word as usize) < g.n)
+        & ((m.flag == 0) & (carries_none(m) & (is_part(m.routing, all) & (m.failed == 0))))
 }
 
-// Does the carried leaf set obey the node rules for its owner, or is there none, as the kind asks?
-pub fn carried_fits(kind: u32, g: Ring, owner: u32, s: Sides) -> bool
-    ensures { λ r. ⌜ r ≡ carriedFits kind g owner s ⌝ }
+// A routing set, and a leaf set with its owner.
+fn join_reply_fits(g: Ring, all: u64, m: Message) -> bool
+    requires { ⌜ all ≡ allNodes (g .n) ⌝ }
+    ensures { λ r. ⌜ r ≡ fieldsFit 3 g m ⌝ }
 {
-    if (kind == 3) | (((kind == 4) | (kind == 5)) | (kind == 8)) {
-        ((owner as usize) < g.n) & leaf_fits(g, owner as usize, s)
-    } else {
-        (owner == 0) & ((s.left == 0) & (s.right == 0))
+    let sets = is_part(m.routing, all) & (m.failed == 0);
+    (m.word == 0) & ((m.flag == 0) & (carried_fits(g, all, m) & sets))
+}
+
+// A node, a leaf set whose owner is that node, and a failed set.
+fn probe_fits(g: Ring, all: u64, m: Message) -> bool
+    requires { ⌜ all ≡ allNodes (g .n) ⌝ }
+    ensures { λ r. ⌜ r ≡ fieldsFit 4 g m ⌝ }
+{
+    let sets = (m.routing == 0) & is_part(m.failed, all);
+    ((m.word as usize) < g.n)
+        & ((m.flag == 0) & (carried_fits(g, all, m) & ((m.owner == m.word) & sets)))
+}
+
+// A node.
+fn lease_request_fits(g: Ring, m: Message) -> bool
+    ensures { λ r. ⌜ r ≡ fieldsFit 7 g m ⌝ }
+{
+    ((m.word as usize) < g.n) & word_alone(m)
+}
+
+// A leaf set with its owner, and a flag.
+fn broadcast_fits(g: Ring, all: u64, m: Message) -> bool
+    requires { ⌜ all ≡ allNodes (g .n) ⌝ }
+    ensures { λ r. ⌜ r ≡ fieldsFit 8 g m ⌝ }
+{
+    let sets = (m.routing == 0) & (m.failed == 0);
+    (m.word == 0) & ((m.flag <= 1) & (carried_fits(g, all, m) & sets))
+}
+
+// Are the fields as the kind asks, and is it one of 01's eight?
+fn kind_fits(kind: u32, g: Ring, all: u64, m: Message) -> bool
+    requires { ⌜ (g .m ≤ 32) × (all ≡ allNodes (g .n)) ⌝ }
+    ensures { λ r. ⌜ r ≡ (isKind kind && fieldsFit kind g m) ⌝ }
+{
+    match kind {
+        1 | 6 => key_fits(g, m),
+        2 => join_request_fits(g, all, m),
+        3 => join_reply_fits(g, all, m),
+        4 => probe_fits(g, all, m),
+        5 => probe_fits(g, all, m),
+        7 => lease_request_fits(g, m),
+        8 => broadcast_fits(g, all, m),
+        _ => false,
     }
-}
-
-pub fn owner_fits(kind: u32, word: u32, owner: u32) -> bool
-    ensures { λ r. ⌜ r ≡ ownerFits kind word owner ⌝ }
-{
-    if (kind == 4) | (kind == 5) {
-        owner == word
-    } else {
-        true
-    }
-}
-
-pub fn routing_fits(kind: u32, g: Ring, routing: u64) -> bool
-    ensures { λ r. ⌜ r ≡ routingFits kind g routing ⌝ }
-{
-    if (kind == 2) | (kind == 3) {
-        marks::all_below(routing, g.n)
-    } else {
-        routing == 0
-    }
-}
-
-pub fn failed_fits(kind: u32, g: Ring, failed: u64) -> bool
-    ensures { λ r. ⌜ r ≡ failedFits kind g failed ⌝ }
-{
-    if (kind == 4) | (kind == 5) {
-        marks::all_below(failed, g.n)
-    } else {
-        failed == 0
-    }
-}
-
-fn fields_fit(kind: u32, g: Ring, m: Message) -> bool
-    requires { ⌜ g .m ≤ 32 ⌝ }
-    ensures { λ r. ⌜ r ≡ fieldsFit kind g m ⌝ }
-{
-    let sets = routing_fits(kind, g, m.routing) & failed_fits(kind, g, m.failed);
-    let leaf = carried_fits(kind, g, m.owner, parts::carried_of(m));
-    word_fits(kind, g, m.word)
-        & (flag_fits(kind, m.flag) & (leaf & (owner_fits(kind, m.word, m.owner) & sets)))
 }
 
 // Does the message obey its kind?
-fn message_fits(g: Ring, m: Message) -> bool
-    requires { ⌜ g .m ≤ 32 ⌝ }
+fn message_fits(g: Ring, all: u64, m: Message) -> bool
+    requires { ⌜ (g .m ≤ 32) × (all ≡ allNodes (g .n)) ⌝ }
     ensures { λ r. ⌜ r ≡ messageFits g m ⌝ }
 {
-    let kind = (1 <= m.kind) & (m.kind <= 8);
-    kind & (((m.dest as usize) < g.n) & ((m.hops == 0) & fields_fit(m.kind, g, m)))
+    ((m.dest as usize) < g.n) & ((m.hops == 0) & kind_fits(m.kind, g, all, m))
 }
 
-fn messages_fit(g: Ring, p: Pool) -> bool
-    requires { ⌜ (g .m ≤ 32) × (p .count ≤ 256) ⌝ }
+fn messages_fit(g: Ring, all: u64, p: Pool) -> bool
+    requires { ⌜ (g .m ≤ 32) × (all ≡ allNodes (g .n)) × (p .count ≤ 256) ⌝ }
     ensures { λ r. ⌜ r ≡ messagesFit g p ⌝ }
 {
     let n = p.count;
     let mut at: usize = 0;
     while at < n {
         let m = p.places[at];
-        if !message_fits(g, m) {
+        if !message_fits(g, all, m) {
             return false;
         }
         at += 1;
@@ -205,14 +238,14 @@ fn messages_fit(g: Ring, p: Pool) -> bool
     true
 }
 
-fn pool_fits(g: Ring, p: Pool) -> bool
-    requires { ⌜ g .m ≤ 32 ⌝ }
+fn pool_fits(g: Ring, all: u64, p: Pool) -> bool
+    requires { ⌜ (g .m ≤ 32) × (all ≡ allNodes (g .n)) ⌝ }
     ensures { λ r. ⌜ r ≡ poolFits g p ⌝ }
 {
     if 256 < p.count {
         return false;
     }
-    if !messages_fit(g, p) {
+    if !messages_fit(g, all, p) {
         return false;
     }
     mail::all_different(p)
@@ -226,8 +259,9 @@ pub fn is_valid(t: Table, p: Pool) -> bool
     if !numbers_fit(g) {
         return false;
     }
-    if !nodes_fit(t) {
+    let all = all_nodes(g.n);
+    if !nodes_fit(t, all) {
         return false;
     }
-    pool_fits(g, p)
+    pool_fits(g, all, p)
 }

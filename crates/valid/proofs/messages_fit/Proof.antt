@@ -1,5 +1,6 @@
 -- `valid::messages_fit` meets its contract. The invariant: the messages passed obey their kinds. The measure: the places left.
 -- Assumes nothing.
+use borrow.Author.Needs.{needs}
 use borrow.Author.Tests.{not-true, not-false}
 use mathlib.Core.Path.{_≡_, refl, sym, _∙_}
 use mathlib.Core.Bool.{Bool, true}
@@ -19,10 +20,10 @@ abbrev fitsAt : Ring → Pool → ℕ → Bool
 fitsAt g p q = messageFits g (messageAt p q)
 
 abbrev Inv-loop : tie.InvT-loop
-Inv-loop g p n at₀ at = (at ≤ n) × (allTo at (fitsAt g p) ≡ true)
+Inv-loop g all p n at₀ at = (at ≤ n) × (allTo at (fitsAt g p) ≡ true)
 
 abbrev μ-loop : tie.MeasureT-loop
-μ-loop g p n at₀ at = n - at
+μ-loop g all p n at₀ at = n - at
 
 loop-holds : tie.Need-loop-holds Inv-loop μ-loop
 unfolding allTo
@@ -35,14 +36,14 @@ element-copy-out-m : tie.Need-element-copy-out-m Inv-loop μ-loop
 element-copy-out-m c = omega arith
 
 message-fits-requires : tie.Need-message-fits-requires Inv-loop μ-loop
-message-fits-requires c κs = omega arith
+message-fits-requires c κs = search needs
 
 returns : tie.Need-returns Inv-loop μ-loop
 unfolding messagesFit
 returns c =
     let l = c .before .before .before .before in
     let a = l .before .args in
-    sym (fails (a .t2 .count) (fitsAt (a .g) (a .t2)) (l .loop .at) (omega arith)
+    sym (fails (a .t3 .count) (fitsAt (a .g) (a .t3)) (l .loop .at) (omega arith)
     (sym (c .before .message-fits .ensures) ∙ not-true _ (c .if1 .taken)))
 
 add-at : tie.Need-add-at Inv-loop μ-loop
@@ -56,14 +57,14 @@ loop-again c =
     let l = c .before .before .before .before in
     let a = l .before .args in (
       omega arith,
-      more (l .loop .at) (fitsAt (a .g) (a .t2)) (l .loop .inv .1) (sym (c .before .message-fits .ensures) ∙ not-false _ (c .if1 .left)),
+      more (l .loop .at) (fitsAt (a .g) (a .t3)) (l .loop .inv .1) (sym (c .before .message-fits .ensures) ∙ not-false _ (c .if1 .left)),
     )
 
 returns-2 : tie.Need-returns-2 Inv-loop μ-loop
 unfolding messagesFit
 returns-2 c =
     let l = c .before in
-    let e : l .before .args .t2 .count ≡ l .loop .at = omega arith in
+    let e : l .before .args .t3 .count ≡ l .loop .at = omega arith in
     rw e (sym (l .loop .inv .1))
 
 pub messages-fit-spec : {M : Type 1} → statement M
