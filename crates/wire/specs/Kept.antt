@@ -19,6 +19,7 @@ use Rattle.rules.specs.declared.Pool.{Pool}
 use Rattle.rules.specs.declared.Refusal.{Refusal}
 use Rattle.rules.specs.declared.Refusal.the-variants as no
 use Rattle.rules.specs.Numbers.{answerNumber}
+use Rattle.rules.specs.Plans.{mailed}
 use Rattle.rules.specs.Pool.{waiting, laid}
 use Rattle.table.specs.declared.Table.{Table}
 use Rattle.table.specs.declared.Stepped.{Stepped}
@@ -26,11 +27,12 @@ use Rattle.table.specs.Settle.{refusedOf, doneOf}
 use Rattle.table.specs.Start.{noTable, startOf}
 use Rattle.table.specs.Step.{isSound, stepOf}
 use Rattle.table.specs.Valid.{validOf}
-use Rattle.keeps.specs.By.{step-done}
+use Rattle.keeps.specs.By.{leftOf, step-done}
 use Rattle.format.specs.declared.Wrote.{Wrote}
+use Rattle.format.specs.Bytes.{decodeAll}
 use Rattle.format.specs.Exactly.{noRoom, load-makes, write-exactly, write-leaves}
 use Rattle.format.specs.Format.{totalOf, messageWidths, messagesAt, messageFrom}
-use Rattle.format.specs.Load.{fileTable, filePool, partPool, loadOf}
+use Rattle.format.specs.Load.{fileN, fileCount, filePool, partPool, loadOf}
 use Rattle.format.specs.Rows.{Held}
 use Rattle.format.specs.Theorems.{read-of-write}
 use Rattle.format.specs.Write.{notWritten, wroteOf, writtenOf}
@@ -82,7 +84,7 @@ module _ (t : Table) (p : Pool) (out : List ℕ) (e : wroteOf t p 256 out .answe
 -- ---- pools that are laid out
 
 -- the places past the count are blank
-Neat : Stepped → Type 0
+abbrev Neat : Stepped → Type 0
 Neat s = s .answer ≡ Done → s .pool ≡ laid (waiting (s .pool))
 
 neat-laid : (xs : List Message) → laid xs ≡ laid (waiting (laid xs))
@@ -90,22 +92,22 @@ neat-laid xs = ap laid (sym (take-append-seam xs _))
 
 neat-file : (bs : List ℕ) → filePool bs ≡ laid (waiting (filePool bs))
 unfolding filePool partPool
-neat-file bs = neat-laid _
+neat-file bs = neat-laid (map messageFrom (decodeAll messageWidths 56 (fileCount bs) (drop (messagesAt (fileN bs)) bs)))
 
-module _ (file : List ℕ) where
-  loaded-neat : Neat (loadedOf file)
-  unfolding loadedOf
-  loaded-neat e = rw (load-makes file noTable (laid []) 256 (ap answerNumber e)) (neat-file file)
+loaded-neat : (file : List ℕ) → Neat (loadedOf file)
+unfolding loadedOf
+loaded-neat file e = rw (load-makes file noTable (laid []) 256 (ap answerNumber e)) (neat-file file)
 
-  next-neat : (a : Action) → Neat (nextOf (loadedOf file) a)
-  unfolding nextOf
-  next-neat a = go (loadedOf file .answer) refl
-    where
-      s = loadedOf file
+step-neat : (t : Table) (p : Pool) (a : Action) → Neat (stepOf t p 256 a)
+step-neat t p a e = let d = step-done t p 256 a e in rw (d .2) (neat-laid (mailed (d .0) (leftOf p a)))
 
-      go : (w : Answer) → s .answer ≡ w → Neat (nextOf s a)
-      go Done e = rw e (λ d. rw (step-done (s .table) (s .pool) 256 a d .2) (neat-laid _))
-      go (Refused why) e = rw e (λ d. absurd (not-done why d))
+next-neat : (s : Stepped) (a : Action) → Neat (nextOf s a)
+unfolding nextOf
+next-neat s a = go (s .answer) refl
+  where
+    go : (w : Answer) → s .answer ≡ w → Neat (nextOf s a)
+    go Done e = rw e (step-neat (s .table) (s .pool) a)
+    go (Refused why) e = rw e (λ d. absurd (not-done why d))
 
 begun-neat : (m l a : ℕ) (ids : List ℕ) → Neat (begunOf m l a ids)
 unfolding begunOf startStep
@@ -138,7 +140,7 @@ module _ (out cs : List ℕ) (r : Wrote) where
 
   pub step-file-kept : (file : List ℕ) (a : Action) → let s = nextOf (loadedOf file) a in Held (s .table) (s .pool) → Filed s out cs r → r .answer ≡ Done
       → loadedOf (take (r .count) cs) ≡ s
-  step-file-kept file a = reads-back (nextOf (loadedOf file) a) (next-neat file a)
+  step-file-kept file a = reads-back (nextOf (loadedOf file) a) (next-neat (loadedOf file) a)
 
   pub start-file-kept : (m l a : ℕ) (ids : List ℕ) → let s = begunOf m l a ids in Held (s .table) (s .pool) → Filed s out cs r → r .answer ≡ Done
       → loadedOf (take (r .count) cs) ≡ s
