@@ -2,7 +2,7 @@
 -- what is done leaves the same 256 places. The idea: the definitions look at a pool through its count and its waiting messages alone. What a refusal leaves,
 -- and lists without 256 places, are in Kept. Assumes nothing.
 use mathlib.Core.Path.{_≡_, refl, sym, _∙_, ap}
-use mathlib.Core.Bool.{Bool, true, false, cond}
+use mathlib.Core.Bool.{Bool, true, false, cond, _&&_, not}
 use mathlib.Core.List.{List}
 use Prim.Native.Nat.{ℕ, _<_}
 use native.Mathlib.Omega.{arith}
@@ -33,7 +33,7 @@ use Rattle.table.specs.Table.{ringOf, withNode}
 use Rattle.table.specs.Valid.{messagesFit, poolFits, validOf}
 use Rattle.format.specs.declared.Wrote.{Wrote}
 use Rattle.format.specs.Format.{fileOf}
-use Rattle.format.specs.Load.{loadOf}
+use Rattle.format.specs.Load.{headerFits, offsetsFit, statusesFit, fileTable, filePool, loadOf}
 use Rattle.format.specs.Write.{wroteOf, writtenOf}
 use Rattle.entry.specs.declared.Rest.{Rest}
 use Rattle.entry.specs.Entry.{began, startStep, restOf}
@@ -46,6 +46,9 @@ use Rattle.bench.specs.Lent.{poolOf, takenOf, givenOf, lentStep, lentSta
 record Alike (g h : Stepped) : Type 0 where
   reply : replyOf g ≡ replyOf h
   places : g .answer ≡ Done → g .pool .places ≡ h .pool .places
+
+same-alike : (g : Stepped) → Alike g g
+same-alike g = record { reply = refl; places = λ e. refl }
 
 cond-alike : (b : Bool) {g h g′ h′ : Stepped} → (b ≡ true → Alike g h) → Alike g′ h′ → Alike (cond b g g′) (cond b h h′)
 cond-alike true k k′ = k refl
@@ -73,7 +76,7 @@ module _ (t : Table) (n : ℕ) (xs ys : List Message) (same : take n xs ≡ take
   settle-alike : (ws : List Message) (i : ℕ) (x : Planned) → Alike (settle t (poolOf n xs) ws i x) (settle t (poolOf n ys) ws i x)
   unfolding settle carriedOut
   settle-alike ws i (No why) = refused-alike why
-  settle-alike ws i (Go x) = cond-alike (leb (length (mailed x ws)) 256) (λ e. record { reply = refl; places = λ d. refl }) (refused-alike no.Full)
+  settle-alike ws i (Go x) = cond-alike (leb (length (mailed x ws)) 256) (λ e. same-alike _) (refused-alike no.Full)
 
   act-alike : (a : Action) → inRange t (poolOf n xs) a ≡ true → Alike (actOf t (poolOf n xs) a) (actOf t (poolOf n ys) a)
   act-alike (Lookup i k) e = rw same (settle-alike (take n ys) i _)
@@ -104,17 +107,18 @@ module _ (t : Table) (n : ℕ) (xs ys : List Message) (same : take n xs ≡ take
   start-alike len m l ids a = cond-alike (eqb len 256) (λ e. go (startOf m l ids a .answer)) (refused-alike no.Invalid)
     where
       go : (w : Answer) → Alike (began w (startOf m l ids a .table) t (poolOf n xs)) (began w (startOf m l ids a .table) t (poolOf n ys))
-      go Done = record { reply = refl; places = λ d. refl }
+      go Done = same-alike _
       go (Refused why) = refused-alike why
 
   load-alike : (bs : List ℕ) (len : ℕ) → Alike (loadOf bs t (poolOf n xs) len) (loadOf bs t (poolOf n ys) len)
   unfolding loadOf
   load-alike bs len =
-      cond-alike _ (λ e. refused-alike no.Short)
-      (cond-alike _ (λ e. refused-alike no.Header)
-      (cond-alike _ (λ e. refused-alike no.Offsets)
-      (cond-alike _ (λ e. refused-alike no.Invalid)
-      (cond-alike _ (λ e. record { reply = refl; places = λ d. refl }) (refused-alike no.Invalid)))))
+      cond-alike (ltb (length bs) 32) (λ e. refused-alike no.Short)
+      (cond-alike (not (headerFits bs)) (λ e. refused-alike no.Header)
+      (cond-alike (not (offsetsFit bs)) (λ e. refused-alike no.Offsets)
+      (cond-alike (not (eqb len 256)) (λ e. refused-alike no.Invalid)
+      (cond-alike (statusesFit bs && validOf (fileTable bs) (filePool bs)) (λ e. same-alike (doneOf (fileTable bs) (filePool bs)))
+      (refused-alike no.Invalid)))))
 
   rest-same : (len : ℕ) → restOf t (poolOf n xs) len ≡ restOf t (poolOf n ys) len
   unfolding restOf
