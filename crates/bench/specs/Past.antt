@@ -16,20 +16,19 @@ use Rattle.rules.specs.declared.Action.the-variants.{Lookup, Join, RequestLease
 use Rattle.rules.specs.declared.Answer.{Answer}
 use Rattle.rules.specs.declared.Answer.the-variants.{Done, Refused}
 use Rattle.rules.specs.declared.Message.{Message}
-use Rattle.rules.specs.declared.Plan.{Plan}
 use Rattle.rules.specs.declared.Planned.{Planned}
 use Rattle.rules.specs.declared.Planned.the-variants.{No, Go}
 use Rattle.rules.specs.declared.Refusal.{Refusal}
 use Rattle.rules.specs.declared.Refusal.the-variants as no
 use Rattle.rules.specs.Fits.{messageFits}
 use Rattle.rules.specs.Plans.{mailed}
-use Rattle.rules.specs.Pool.{blank, messageAt, laid}
+use Rattle.rules.specs.Pool.{blank, messageAt}
 use Rattle.table.specs.declared.Stepped.{Stepped}
 use Rattle.table.specs.declared.Table.{Table}
 use Rattle.table.specs.Settle.{refusedOf, doneOf, carriedOut, settle}
 use Rattle.table.specs.Start.{startOf}
 use Rattle.table.specs.Step.{inRange, actOf, isSound, stepOf}
-use Rattle.table.specs.Table.{ringOf, withNode}
+use Rattle.table.specs.Table.{ringOf}
 use Rattle.table.specs.Valid.{messagesFit, poolFits, validOf}
 use Rattle.format.specs.declared.Wrote.{Wrote}
 use Rattle.format.specs.Format.{fileOf}
@@ -149,13 +148,12 @@ module _ (t : Table) (n : ℕ) (ys zs : List Message) (long : length ys ≡ 256)
   -- what held ys and zs holds ys′ and zs′, and the replies are r and r′
   module _ (ys′ zs′ : List Message) (r r′ : Reply) where
     alike : {g h : Stepped} → Alike g h → Handed g ys ys′ r → Handed h zs zs′ r′ → (r ≡ r′) × (r .answer ≡ Done → ys′ ≡ zs′)
-    alike {g} {h} k f f′ =
-        (
-          f .0 ∙ k .reply ∙ sym (f′ .0),
-          λ d.
+    alike {g} {h} k f f′ = (
+      f .0 ∙ k .reply ∙ sym (f′ .0),
+      λ d.
           f .1 ∙ given ys _ long ∙ k .places (ap (λ (x : Reply). x .answer) (sym (f .0)) ∙ d)
           ∙ sym (given zs _ long′) ∙ sym (f′ .1),
-        )
+    )
 
     pub step-past : (a : Action) → Handed (lentStep t ys n a) ys ys′ r → Handed (lentStep t zs n a) zs zs′ r′
         → (r ≡ r′) × (r .answer ≡ Done → ys′ ≡ zs′)
@@ -173,8 +171,7 @@ module _ (t : Table) (n : ℕ) (ys zs : List Message) (long : length ys ≡ 256)
   settled-past r r′ h h′ = h ∙ rw (long, long′) (rest-same t n (takenOf ys) (takenOf zs) agree 256) ∙ sym h′
 
   pub write-past : (bs cs cs′ : List ℕ) (r r′ : Wrote) → Filed t ys n bs cs r → Filed t zs n bs cs′ r′ → (r ≡ r′) × (cs ≡ cs′)
-  write-past bs cs cs′ r r′ h h′ =
-      (
-        h .0 ∙ rw (long, long′) (wrote-same t n (takenOf ys) (takenOf zs) agree 256 bs) ∙ sym (h′ .0),
-        h .1 ∙ rw (long, long′) (written-same t n (takenOf ys) (takenOf zs) agree 256 bs) ∙ sym (h′ .1),
-      )
+  write-past bs cs cs′ r r′ h h′ = (
+    h .0 ∙ rw (long, long′) (wrote-same t n (takenOf ys) (takenOf zs) agree 256 bs) ∙ sym (h′ .0),
+    h .1 ∙ rw (long, long′) (written-same t n (takenOf ys) (takenOf zs) agree 256 bs) ∙ sym (h′ .1),
+  )
