@@ -1,7 +1,7 @@
 -- What a refusal leaves, told by the contracts of the public functions: the caller's table, its count and all the places of its list, or its buffer; and
 -- a list without 256 places is refused with 10, of reading after 7 to 9, and left as it is. Assumes nothing.
 use mathlib.Core.Path.{_≡_, refl, sym, _∙_, ap}
-use mathlib.Core.Bool.{Bool, true, false, cond, _&&_}
+use mathlib.Core.Bool.{Bool, true, false, cond}
 use mathlib.Core.List.{List}
 use Prim.Native.Nat.{ℕ}
 use native.Mathlib.Omega.{arith}
@@ -25,11 +25,10 @@ use Rattle.format.specs.declared.Wrote.{Wrote}
 use Rattle.format.specs.Exactly.{load-leaves, write-leaves}
 use Rattle.format.specs.Load.{headerFits, offsetsFit, loadOf}
 use Rattle.format.specs.Write.{notWritten, wroteOf}
-use Rattle.entry.specs.declared.Rest.{Rest}
 use Rattle.entry.specs.declared.Rest.the-variants.{NotAsked}
 use Rattle.entry.specs.Entry.{began, startStep, restOf}
 use Rattle.bench.specs.declared.Reply.{Reply}
-use Rattle.bench.specs.Lent.{blanks, takenOf, givenOf, lent, lentStep, lentStart, lentLoad, lentRest, replyOf, Handed, Filed}
+use Rattle.bench.specs.Lent.{blanks, takenOf, givenOf, lent, lentStep, lentStart, lentLoad, lentRest, Handed, Filed}
 
 -- the list held ys and holds zs, and the reply is r
 pub record Kept (t : Table) (ys : List Message) (n : ℕ) (zs : List Message) (r : Reply) : Type 0 where

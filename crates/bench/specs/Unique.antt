@@ -1,12 +1,17 @@
 -- Each public function has one reply for every input, and leaves one content of the list or buffer lent to it: any two that its contract allows are
--- equal. Assumes nothing.
+-- equal. The same of the functions by value that these call, `step::step`, `reader::load` and `writer::write`. Assumes nothing.
 use mathlib.Core.Path.{_≡_, sym, _∙_}
 use mathlib.Core.List.{List}
 use Prim.Native.Nat.{ℕ}
 use Rattle.rules.specs.declared.Action.{Action}
 use Rattle.rules.specs.declared.Message.{Message}
+use Rattle.rules.specs.declared.Pool.{Pool}
+use Rattle.table.specs.declared.Stepped.{Stepped}
 use Rattle.table.specs.declared.Table.{Table}
+use Rattle.table.specs.Step.{stepOf}
 use Rattle.format.specs.declared.Wrote.{Wrote}
+use Rattle.format.specs.Load.{loadOf}
+use Rattle.format.specs.Write.{wroteOf, writtenOf}
 use Rattle.entry.specs.declared.Rest.{Rest}
 use Rattle.bench.specs.declared.Reply.{Reply}
 use Rattle.bench.specs.Lent.{lentStep, lentStart, lentLoad, lentRest, Handed, Filed}
@@ -32,3 +37,16 @@ module _ (t : Table) (ys : List Message) (n : ℕ) where
 
   pub write-unique : (bs cs cs′ : List ℕ) (r r′ : Wrote) → Filed t ys n bs cs r → Filed t ys n bs cs′ r′ → (r ≡ r′) × (cs ≡ cs′)
   write-unique bs cs cs′ r r′ h h′ = both-same h h′
+
+-- ---- by value
+
+module _ (t : Table) (p : Pool) (len : ℕ) where
+  pub step-value-unique : (a : Action) (r r′ : Stepped) → r ≡ stepOf t p len a → r′ ≡ stepOf t p len a → r ≡ r′
+  step-value-unique a r r′ h h′ = h ∙ sym h′
+
+  pub load-value-unique : (bs : List ℕ) (r r′ : Stepped) → r ≡ loadOf bs t p len → r′ ≡ loadOf bs t p len → r ≡ r′
+  load-value-unique bs r r′ h h′ = h ∙ sym h′
+
+  pub write-value-unique : (bs cs cs′ : List ℕ) (r r′ : Wrote) → (r ≡ wroteOf t p len bs) × (cs ≡ writtenOf t p len bs)
+      → (r′ ≡ wroteOf t p len bs) × (cs′ ≡ writtenOf t p len bs) → (r ≡ r′) × (cs ≡ cs′)
+  write-value-unique bs cs cs′ r r′ h h′ = both-same h h′

@@ -6,3 +6,4 @@ pub mod Text
 pub mod List
 pub mod Cut
 pub mod Worked
+pub mod Unique

@@ -41,7 +41,7 @@ pub enum Turn {
 }
 
 // What node i does with a lookup of k.
-pub fn turn_at(g: Ring, ids: &[u32; 64], dead: u64, i: usize, v: Node, k: u32) -> Turn
+fn turn_at(g: Ring, ids: &[u32; 64], dead: u64, i: usize, v: Node, k: u32) -> Turn
     requires { ⌜ Listed g (now ids) × (i < 64) × (k < 2 ^ g .m) ⌝ }
     ensures { λ r. ⌜ r ≡ turnOf g (now (ids .entry)) dead i v k ⌝ }
 {
@@ -61,7 +61,7 @@ pub fn turn_at(g: Ring, ids: &[u32; 64], dead: u64, i: usize, v: Node, k: u32) -
 
 // Follows a lookup as the only message of the table, with no other step: by the rules alone, with no pool and no test of validity at each
 // hop.
-pub fn follow(t: Table, m: Message) -> Trip
+fn follow(t: Table, m: Message) -> Trip
     requires { ⌜ Lone t m ⌝ }
     ensures { λ r. ⌜ r ≡ followOf t m ⌝ }
 {
@@ -170,7 +170,7 @@ fn put_line(b: &mut [u8], at: usize, t: Table, m: Message) -> usize
 }
 
 // Writes the listing of a loaded table: the header line, and the line of each waiting lookup, in pool order.
-pub fn print(t: Table, p: Pool, out: &mut [u8]) -> usize
+fn print(t: Table, p: Pool, out: &mut [u8]) -> usize
     requires { ⌜ (validOf t p ≡ true) × (16384 ≤ length (now out)) ⌝ }
     ensures { λ r. ⌜ Prints (now (out .entry)) 0 (headline ++ linesOf t (waiting p)) r (now (out .exit)) ⌝ }
 {

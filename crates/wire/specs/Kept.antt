@@ -1,0 +1,157 @@
+-- What is written is what was made: the bytes that a done call counts, read again, are the table and the pool of its load, its step or its start, exactly;
+-- and a refusal leaves the buffer. The idea: the writer refuses what is not valid, so its answer tells validity, and a load, a step or a start that is done
+-- leaves a pool that is laid out. Assumes nothing: Held is what the machine's types hold of every value.
+use mathlib.Core.Path.{_≡_, refl, sym, _∙_, ap}
+use mathlib.Core.Bool.{Bool, true, false, cond, _&&_, not}
+use mathlib.Core.List.{List, [], map}
+use Prim.Native.Nat.{ℕ, _^_}
+use native.Mathlib.Omega.{arith}
+use borrow.Author.Tests.{ltb-false}
+use lib.Dec.{ltb}
+use lib.ListN.{length, take, drop}
+use lib.Seq.{take-append-seam}
+use Rattle.marks.specs.Bools.{and-left, and-right, bool-false, opposed, true-not}
+use Rattle.rules.specs.declared.Action.{Action}
+use Rattle.rules.specs.declared.Answer.{Answer}
+use Rattle.rules.specs.declared.Answer.the-variants.{Done, Refused}
+use Rattle.rules.specs.declared.Message.{Message}
+use Rattle.rules.specs.declared.Pool.{Pool}
+use Rattle.rules.specs.declared.Refusal.{Refusal}
+use Rattle.rules.specs.declared.Refusal.the-variants as no
+use Rattle.rules.specs.Numbers.{answerNumber}
+use Rattle.rules.specs.Plans.{mailed}
+use Rattle.rules.specs.Pool.{waiting, laid}
+use Rattle.table.specs.declared.Table.{Table}
+use Rattle.table.specs.declared.Stepped.{Stepped}
+use Rattle.table.specs.Settle.{refusedOf, doneOf}
+use Rattle.table.specs.Start.{noTable, startOf}
+use Rattle.table.specs.Step.{isSound, stepOf}
+use Rattle.table.specs.Valid.{validOf}
+use Rattle.keeps.specs.By.{leftOf, step-done}
+use Rattle.format.specs.declared.Wrote.{Wrote}
+use Rattle.format.specs.Bytes.{decodeAll}
+use Rattle.format.specs.Exactly.{noRoom, load-makes, write-exactly, write-leaves}
+use Rattle.format.specs.Format.{totalOf, messageWidths, messagesAt, messageFrom}
+use Rattle.format.specs.Load.{fileN, fileCount, filePool, partPool, loadOf}
+use Rattle.format.specs.Rows.{Held}
+use Rattle.format.specs.Theorems.{read-of-write}
+use Rattle.format.specs.Write.{notWritten, wroteOf, writtenOf}
+use Rattle.entry.specs.Entry.{began, startStep}
+use Rattle.wire.specs.Wire.{loadedOf, nextOf, begunOf, wroteBy, leftBy}
+use Rattle.wire.specs.Unique.{Filed}
+
+not-done : (why : Refusal) → Refused why ≡ Done → ⊥
+not-done why e = let z : _≡_ {A = ℕ} 0 1 = cc in omega arith
+
+-- ---- what is written
+
+module _ (s : Stepped) (out : List ℕ) where
+  wrote-done : s .answer ≡ Done → wroteBy s out ≡ wroteOf (s .table) (s .pool) 256 out
+  unfolding wroteBy
+  wrote-done e = rw e
+
+  wrote-not : (why : Refusal) → s .answer ≡ Refused why → wroteBy s out ≡ notWritten why
+  unfolding wroteBy
+  wrote-not why e = rw e
+
+  left-done : s .answer ≡ Done → leftBy s out ≡ writtenOf (s .table) (s .pool) 256 out
+  unfolding leftBy
+  left-done e = rw e
+
+  left-not : (why : Refusal) → s .answer ≡ Refused why → leftBy s out ≡ out
+  unfolding leftBy
+  left-not why e = rw e
+
+-- a done write is of a valid table, and has room
+module _ (t : Table) (p : Pool) (out : List ℕ) (e : wroteOf t p 256 out .answer ≡ Done) where
+  fits : (isSound t p 256 && not (noRoom t p out)) ≡ true
+  fits = write-exactly t p 256 out .done .0 (ap answerNumber e)
+
+  valid : validOf t p ≡ true
+  unfolding isSound
+  valid = and-left (isSound t p 256) (not (noRoom t p out)) fits
+
+  roomy : noRoom t p out ≡ false
+  roomy = bool-false (noRoom t p out) (λ n. opposed (and-right (isSound t p 256) (not (noRoom t p out)) fits) (true-not n))
+
+  counts : wroteOf t p 256 out .count ≡ totalOf (t .n) (p .count)
+  unfolding wroteOf
+  counts = rw (and-left (isSound t p 256) (not (noRoom t p out)) fits, roomy)
+
+  back : Held t p → (t′ : Table) (p′ : Pool) → loadOf (take (wroteOf t p 256 out .count) (writtenOf t p 256 out)) t′ p′ 256 ≡ doneOf t (laid (waiting p))
+  back k t′ p′ = rw counts (read-of-write t p out t′ p′ k valid (ltb-false (length out) (totalOf (t .n) (p .count)) roomy))
+
+-- ---- pools that are laid out
+
+-- the places past the count are blank
+abbrev Neat : Stepped → Type 0
+Neat s = s .answer ≡ Done → s .pool ≡ laid (waiting (s .pool))
+
+neat-laid : (xs : List Message) → laid xs ≡ laid (waiting (laid xs))
+neat-laid xs = ap laid (sym (take-append-seam xs _))
+
+neat-file : (bs : List ℕ) → filePool bs ≡ laid (waiting (filePool bs))
+unfolding filePool partPool
+neat-file bs = neat-laid (map messageFrom (decodeAll messageWidths 56 (fileCount bs) (drop (messagesAt (fileN bs)) bs)))
+
+loaded-neat : (file : List ℕ) → Neat (loadedOf file)
+unfolding loadedOf
+loaded-neat file e = rw (load-makes file noTable (laid []) 256 (ap answerNumber e)) (neat-file file)
+
+step-neat : (t : Table) (p : Pool) (a : Action) → Neat (stepOf t p 256 a)
+step-neat t p a e = let d = step-done t p 256 a e in rw (d .2) (neat-laid (mailed (d .0) (leftOf p a)))
+
+next-neat : (s : Stepped) (a : Action) → Neat (nextOf s a)
+unfolding nextOf
+next-neat s a = go (s .answer) refl
+  where
+    go : (w : Answer) → s .answer ≡ w → Neat (nextOf s a)
+    go Done e = rw e (step-neat (s .table) (s .pool) a)
+    go (Refused why) e = rw e (λ d. absurd (not-done why d))
+
+begun-neat : (m l a : ℕ) (ids : List ℕ) → Neat (begunOf m l a ids)
+unfolding begunOf startStep
+begun-neat m l a ids = go (ltb m (2 ^ 32) && ltb l (2 ^ 32)) (startOf m l ids a .answer)
+  where
+    go : (b : Bool) (w : Answer) → Neat (cond b (began w (startOf m l ids a .table) noTable (laid [])) (refusedOf noTable (laid []) no.Header))
+    go true Done d = refl
+    go true (Refused why) d = refl
+    go false w d = refl
+
+-- ---- what is written is read again
+
+module _ (out cs : List ℕ) (r : Wrote) where
+  reads-back : (s : Stepped) → Neat s → Held (s .table) (s .pool) → Filed s out cs r → r .answer ≡ Done → loadedOf (take (r .count) cs) ≡ s
+  unfolding loadedOf
+  reads-back s neat k h e = go (s .answer) refl
+    where
+      go : (w : Answer) → s .answer ≡ w → loadOf (take (r .count) cs) noTable (laid []) 256 ≡ s
+      go Done q =
+          let f : r ≡ wroteOf (s .table) (s .pool) 256 out = h .0 ∙ wrote-done s out q in
+          let c : cs ≡ writtenOf (s .table) (s .pool) 256 out = h .1 ∙ left-done s out q in
+          rw (f, c) (back (s .table) (s .pool) out (ap (λ (x : Wrote). x .answer) (sym f) ∙ e) k noTable (laid []))
+          ∙ ap (doneOf (s .table)) (sym (neat q))
+          ∙ ap (λ (w : Answer). record { answer = w; table = s .table; pool = s .pool }) (sym q)
+      go (Refused why) q = absurd (not-done why (ap (λ (x : Wrote). x .answer) (sym (h .0 ∙ wrote-not s out why q)) ∙ e))
+
+  pub reload-kept : (file : List ℕ) → let s = loadedOf file in Held (s .table) (s .pool) → Filed s out cs r → r .answer ≡ Done
+      → loadedOf (take (r .count) cs) ≡ s
+  reload-kept file = reads-back (loadedOf file) (loaded-neat file)
+
+  pub step-file-kept : (file : List ℕ) (a : Action) → let s = nextOf (loadedOf file) a in Held (s .table) (s .pool) → Filed s out cs r → r .answer ≡ Done
+      → loadedOf (take (r .count) cs) ≡ s
+  step-file-kept file a = reads-back (nextOf (loadedOf file) a) (next-neat (loadedOf file) a)
+
+  pub start-file-kept : (m l a : ℕ) (ids : List ℕ) → let s = begunOf m l a ids in Held (s .table) (s .pool) → Filed s out cs r → r .answer ≡ Done
+      → loadedOf (take (r .count) cs) ≡ s
+  start-file-kept m l a ids = reads-back (begunOf m l a ids) (begun-neat m l a ids)
+
+  -- a refusal of the load, the step, the start or the write leaves the buffer
+  pub buffer-kept : (s : Stepped) (why : Refusal) → Filed s out cs r → r .answer ≡ Refused why → cs ≡ out
+  buffer-kept s why h e = go (s .answer) refl
+    where
+      go : (w : Answer) → s .answer ≡ w → cs ≡ out
+      go Done q =
+          let f : r ≡ wroteOf (s .table) (s .pool) 256 out = h .0 ∙ wrote-done s out q in
+          h .1 ∙ left-done s out q ∙ write-leaves (s .table) (s .pool) 256 out why (ap (λ (x : Wrote). x .answer) (sym f) ∙ e) .1
+      go (Refused w) q = h .1 ∙ left-not s out w q

@@ -1,0 +1,30 @@
+-- Each public function has one reply for every input, and leaves one content of the buffer lent to it: any two that its contract allows are equal. Assumes nothing.
+use mathlib.Core.Path.{_≡_, sym, _∙_}
+use mathlib.Core.List.{List}
+use Prim.Native.Nat.{ℕ}
+use Rattle.rules.specs.declared.Action.{Action}
+use Rattle.table.specs.declared.Stepped.{Stepped}
+use Rattle.format.specs.declared.Wrote.{Wrote}
+use Rattle.entry.specs.declared.Rest.{Rest}
+use Rattle.wire.specs.Wire.{loadedOf, nextOf, begunOf, wroteBy, leftBy, restBy}
+
+-- what the caller has of a result: the answer with the number of bytes, and the buffer that held out holds cs
+abbrev pub Filed : Stepped → List ℕ → List ℕ → Wrote → Type 0
+Filed s out cs r = (r ≡ wroteBy s out) × (cs ≡ leftBy s out)
+
+module _ (out cs cs′ : List ℕ) (r r′ : Wrote) where
+  filed-same : (s : Stepped) → Filed s out cs r → Filed s out cs′ r′ → (r ≡ r′) × (cs ≡ cs′)
+  filed-same s h h′ = (h .0 ∙ sym (h′ .0), h .1 ∙ sym (h′ .1))
+
+  pub reload-unique : (file : List ℕ) → Filed (loadedOf file) out cs r → Filed (loadedOf file) out cs′ r′ → (r ≡ r′) × (cs ≡ cs′)
+  reload-unique file h h′ = filed-same (loadedOf file) h h′
+
+  pub step-file-unique : (file : List ℕ) (a : Action) → Filed (nextOf (loadedOf file) a) out cs r → Filed (nextOf (loadedOf file) a) out cs′ r′
+      → (r ≡ r′) × (cs ≡ cs′)
+  step-file-unique file a h h′ = filed-same (nextOf (loadedOf file) a) h h′
+
+  pub start-file-unique : (m l a : ℕ) (ids : List ℕ) → Filed (begunOf m l a ids) out cs r → Filed (begunOf m l a ids) out cs′ r′ → (r ≡ r′) × (cs ≡ cs′)
+  start-file-unique m l a ids h h′ = filed-same (begunOf m l a ids) h h′
+
+pub settled-file-unique : (file : List ℕ) (r r′ : Rest) → r ≡ restBy (loadedOf file) → r′ ≡ restBy (loadedOf file) → r ≡ r′
+settled-file-unique file r r′ h h′ = h ∙ sym h′
