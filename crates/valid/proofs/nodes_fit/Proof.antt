@@ -1,5 +1,5 @@
--- `valid::nodes_fit` meets its contract. The invariants: the first s slots obey their rules, with s and low as the listed nodes go, then with
--- s past them. The measures: the slots left. Assumes nothing.
+-- `valid::nodes_fit` meets its contract. The invariants: the first s slots obey their rules; s is at most n and low the least id that slot s
+-- may have, then s is past the listed nodes. The measures: the slots left. Assumes nothing.
 use borrow.Author.Needs.{needs}
 use borrow.Author.Tests.{not-true, not-false}
 use mathlib.Core.Path.{_≡_, refl, sym, _∙_}
