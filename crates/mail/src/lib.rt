@@ -145,11 +145,11 @@ pub fn mix(m: Message) -> u64
         ^ ((m.failed << 47) ^ (m.failed >> 17))
 }
 
-// The bucket of a message, below 1021.
+// The bucket of a message, below 509.
 pub fn bucket(m: Message) -> usize
     ensures { λ r. ⌜ r ≡ bucketOf m ⌝ }
 {
-    (mix(m) % 1021) as usize
+    (mix(m) % 509) as usize
 }
 
 // Are no two waiting messages equal? A message is compared only with the earlier ones of its own bucket: `heads` has one more than the
@@ -159,7 +159,7 @@ pub fn all_different(p: Pool) -> bool
     ensures { λ r. ⌜ r ≡ allDifferent (waiting p) ⌝ }
 {
     let n = p.count;
-    let mut heads = [0u32; 1021];
+    let mut heads = [0u32; 509];
     let mut next = [0u32; 256];
     let mut j: usize = 0;
     let different = 'places: loop {
