@@ -25,7 +25,7 @@ nth xs i = getD xs i blank
 
 alike-bucket : (a b : Message) → alike a b ≡ true → bucketOf a ≡ bucketOf b
 unfolding mixOf
-alike-bucket a b e = ap (λ (r : List ℕ). mixRow r % 1021) (alike-same a b e)
+alike-bucket a b e = ap (λ (r : List ℕ). mixRow r % 509) (alike-same a b e)
 
 alike-not : (a b : Message) → (bucketOf a ≡ bucketOf b → ⊥) → alike a b ≡ false
 alike-not a b d = bool-false (alike a b) (λ e. d (alike-bucket a b e))
@@ -72,9 +72,9 @@ pub record Link (xs : List Message) (h j v : ℕ) : Type 0 where
   pub last : (i : ℕ) → i < j → bucketOf (nth xs i) ≡ h → i < v
 
 pub record Chained (xs : List Message) (j : ℕ) (heads next : List ℕ) : Type 0 where
-  pub heads-length : length heads ≡ 1021
+  pub heads-length : length heads ≡ 509
   pub next-length : length next ≡ 256
-  pub head : (h : ℕ) → h < 1021 → Link xs h j (getD heads h 0)
+  pub head : (h : ℕ) → h < 509 → Link xs h j (getD heads h 0)
   pub link : (p : ℕ) → p < j → Link xs (bucketOf (nth xs p)) p (getD next p 0)
 
 -- at v on the way down j's chain: what lies at v or above differs from j's message
@@ -86,12 +86,12 @@ pub record Walk (xs : List Message) (j v : ℕ) : Type 0 where
 no-link : (xs : List Message) (h v : ℕ) → v ≡ 0 → Link xs h 0 v
 no-link xs h v e = record { low = omega arith; own = λ l. absurd (omega arith); last = λ i l q. absurd (omega arith) }
 
-pub none : (xs : List Message) (heads next : List ℕ) → heads ≡ replicate 1021 0 → next ≡ replicate 256 0 → Chained xs 0 heads next
+pub none : (xs : List Message) (heads next : List ℕ) → heads ≡ replicate 509 0 → next ≡ replicate 256 0 → Chained xs 0 heads next
 none xs heads next e f =
     record {
-      heads-length = ap length e ∙ length-replicate {A = ℕ} 1021 0;
+      heads-length = ap length e ∙ length-replicate {A = ℕ} 509 0;
       next-length = ap length f ∙ length-replicate {A = ℕ} 256 0;
-      head = λ h l. no-link xs h (getD heads h 0) (ap (λ (a : List ℕ). getD a h 0) e ∙ getD-replicate 1021 h 0 0 l);
+      head = λ h l. no-link xs h (getD heads h 0) (ap (λ (a : List ℕ). getD a h 0) e ∙ getD-replicate 509 h 0 0 l);
       link = λ p l. absurd (omega arith);
     }
 
@@ -127,7 +127,7 @@ differ-more xs j v d k z =
 
 -- one message more, at the head of its chain
 module _ (xs : List Message) (j : ℕ) (heads next : List ℕ) (t : Chained xs j heads next) (l : j < 256) (h : ℕ)
-    (e : h ≡ bucketOf (nth xs j)) (l′ : h < 1021) where
+    (e : h ≡ bucketOf (nth xs j)) (l′ : h < 509) where
   abbrev heads′ : List ℕ
   heads′ = set heads h (j + 1)
 
@@ -149,7 +149,7 @@ module _ (xs : List Message) (j : ℕ) (heads next : List ℕ) (t : Chained xs j
           let f : i ≡ j = omega arith in
           absurd (d (sym q ∙ ap (λ (i : ℕ). bucketOf (nth xs i)) f ∙ sym e))
 
-  head-of : (g : ℕ) → g < 1021 → Dec (g ≡ h) → Link xs g (j + 1) (getD heads′ g 0)
+  head-of : (g : ℕ) → g < 509 → Dec (g ≡ h) → Link xs g (j + 1) (getD heads′ g 0)
   head-of g b (yes q) = rw (q, getD-set-same heads h (j + 1) 0 (omega (arith, t .heads-length))) head-here
   head-of g b (no q) = rw (getD-set-other heads h g (j + 1) 0 q) (head-there g q (getD heads g 0) (t .head g b))
 

@@ -1,8 +1,8 @@
 -- The plan's new messages, as the functions come by them, and what makes the pool after it of what is left. Assumes nothing.
-use mathlib.Core.Path.{_≡_, refl, sym, _∙_, ap, ap₂}
+use mathlib.Core.Path.{_≡_, sym, _∙_, ap, ap₂}
 use mathlib.Core.Bool.{true, false, not}
 use mathlib.Core.List.{List, _++_, append-nil}
-use Prim.Native.Nat.{ℕ, _+_, _<_}
+use Prim.Native.Nat.{ℕ, _+_, _<_, _≤_}
 use native.Mathlib.Omega.{arith}
 use borrow.Author.Tests.{ltb-true, leb-true}
 use Rattle.marks.specs.declared.Found.{Found}
@@ -14,12 +14,12 @@ use Rattle.rules.specs.declared.Message.{Message}
 use Rattle.rules.specs.declared.Plan.{Plan}
 use Rattle.rules.specs.declared.Pool.{Pool}
 use Rattle.rules.specs.Nodes.{placed}
-use Rattle.rules.specs.Pool.{waiting, laid}
+use Rattle.rules.specs.Pool.{laid}
 use Rattle.rules.specs.Actions.{waits}
 use Rattle.rules.specs.Plans.{mailed}
 use Rattle.mail.specs.declared.New.{New}
 use Rattle.mail.specs.Sending.{leftOf, leftCount, slotted, heldOf, heldWith, copyTo, copies}
-use Rattle.mail.specs.Sending.{newTo, newOne, newAll, newsOf, oneOrNone, newCount, Roomy, Free, Left}
+use Rattle.mail.specs.Sending.{newTo, newOne, newAll, newsOf, oneOrNone, newCount, Roomy}
 use Rattle.mail.specs.Sends.{held-last}
 use Rattle.mail.specs.News.{new-slotted, mailed-news}
 
@@ -71,18 +71,17 @@ news-are x ys one all e f = rw (f, e)
 
 -- ---- the pool after the plan
 
-pub free-one : (p : Pool) (w : New) (s : ℕ) → Free p w → w .one ≡ At s → p .count < 256
-free-one p w s f e = let d : oneOrNone (w .one) ≡ 1 = ap oneOrNone e in omega (arith, f .room)
+module _ (p : Pool) (gone : ℕ) (x : Plan) (w : New) (r : Roomy p gone x w) where
+  pub new-slot : slotted (w .one) ≡ true
+  new-slot = ap (λ (v : New). slotted (v .one)) (r .told) ∙ new-slotted (x .first) (x .to) (leftOf p gone) (r .to-slot)
 
-module _ (p : Pool) (gone : ℕ) (x : Plan) (w : New) (q : Pool) (r : Roomy p gone x w) (l : Left p gone q) where
-  pub after-free : Free q w
-  after-free =
-      record {
-        to-slot = ap (λ (v : New). slotted (v .one)) (r .told) ∙ new-slotted (x .first) (x .to) (leftOf p gone) (r .to-slot);
-        room = omega (arith, l .count-is, leb-true (leftCount (p .count) gone + newCount w) 256 (r .room));
-      }
+  pub new-fit : (k : ℕ) → k ≡ leftCount (p .count) gone → k + newCount w ≤ 256
+  new-fit k e = omega (arith, leb-true (leftCount (p .count) gone + newCount w) 256 (r .room))
 
-  pub after-is : (t : Pool) → t ≡ laid ((waiting q ++ copyTo (x .first) (w .one)) ++ copies (x .each) (w .all))
+  pub one-fits : (k s : ℕ) → k ≡ leftCount (p .count) gone → w .one ≡ At s → k < 256
+  one-fits k s e f = let d : oneOrNone (w .one) ≡ 1 = ap oneOrNone f in omega (arith, new-fit k e)
+
+  pub after-is : (ys : List Message) (t : Pool) → ys ≡ leftOf p gone ++ copyTo (x .first) (w .one) → t ≡ laid (ys ++ copies (x .each) (w .all))
       → t ≡ laid (mailed x (leftOf p gone))
   unfolding newOne
-  after-is t e = e ∙ rw (l .waiting-is, r .told) (ap laid (sym (mailed-news x (leftOf p gone))))
+  after-is ys t d e = e ∙ rw (d, r .told) (ap laid (sym (mailed-news x (leftOf p gone))))

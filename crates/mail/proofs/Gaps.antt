@@ -18,7 +18,7 @@ use Rattle.rules.specs.declared.Message.{Message}
 use Rattle.rules.specs.declared.Pool.{Pool}
 use Rattle.rules.specs.Nodes.{placed}
 use Rattle.rules.specs.Pool.{blank, messageAt, waiting, laid}
-use Rattle.mail.specs.Sending.{leftOf, leftCount, placeOf, copyTo, copies, oneOrNone, Left}
+use Rattle.mail.specs.Sending.{leftOf, leftCount, placeOf, copyTo, copies, oneOrNone}
 use Rattle.mail.specs.Laid.{waiting-length, left-low, place-low, left-length, left-at}
 use Rattle.mail.specs.Sends.{copies-end, copies-more}
 
@@ -84,38 +84,34 @@ module _ (gone n : ℕ) (p : Pool) (h : p .count ≤ 256) (l : length (p .places
           (getD-set-same (q .places) at m blank (omega (arith, k .long, left-low (p .count) gone)) ∙ k .rest (at + 1) (omega arith)
           ∙ behind at (k .from) b)
 
-  pub closed-end : (q : Pool) (at : ℕ) → n ≤ at → Closed gone n p q at → Left p gone (pool n (q .places))
+  pub closed-end : (q : Pool) (at : ℕ) → n ≤ at → Closed gone n p q at → take n (q .places) ≡ leftOf p gone
   closed-end q at b k =
       let many : length (take n (q .places)) ≡ n = length-take-le n (q .places) (omega (arith, k .long, left-low (p .count) gone)) in
       let left : length (leftOf p gone) ≡ n = left-length p gone all-wait ∙ sym d in
-      record {
-        count-is = d;
-        waiting-is =
-            ext-getD blank (take n (q .places)) (leftOf p gone) (many ∙ sym left)
-            (λ i c. getD-take n (q .places) i blank (omega arith) ∙ k .head i (omega arith) (omega arith));
-      }
+      ext-getD blank (take n (q .places)) (leftOf p gone) (many ∙ sym left)
+      (λ i c. getD-take n (q .places) i blank (omega arith) ∙ k .head i (omega arith) (omega arith))
 
 -- ---- filling
 
--- the first new message is put, if there is one
-pub record Put (p : Pool) (m : Message) (to : Found) (n : ℕ) (q : Pool) : Type 0 where
-  pub count-is : n ≡ p .count + oneOrNone to
+-- behind the k messages zs the first new one is put, if there is one
+pub record Put (k : ℕ) (zs : List Message) (m : Message) (to : Found) (n : ℕ) (q : Pool) : Type 0 where
+  pub count-is : n ≡ k + oneOrNone to
   pub long : length (q .places) ≡ 256
-  pub head : take n (q .places) ≡ waiting p ++ copyTo m to
+  pub head : take n (q .places) ≡ zs ++ copyTo m to
 
-module _ (p : Pool) (m : Message) (to : Found) (l : length (p .places) ≡ 256) (n : ℕ) (q : Pool) where
-  pub put-one : (s : ℕ) (z : Message) → p .count < 256 → to ≡ At s → z ≡ placed m s → n ≡ p .count + 1 → q ≡ wrote p (p .count) z
-      → Put p m to n q
+module _ (k : ℕ) (zs : List Message) (m : Message) (to : Found) (p : Pool) (l : length (p .places) ≡ 256) (d : take k (p .places) ≡ zs)
+    (n : ℕ) (q : Pool) where
+  pub put-one : (s : ℕ) (z : Message) → k < 256 → to ≡ At s → z ≡ placed m s → n ≡ k + 1 → q ≡ wrote p k z → Put k zs m to n q
   put-one s z h e f c w =
-      rw (w, c, f, e)
+      rw (w, c, f, e, ← d)
       record {
         count-is = refl;
-        long = length-set (p .places) (p .count) (placed m s) ∙ l;
-        head = front (p .places) (p .count) (placed m s) (omega arith);
+        long = length-set (p .places) k (placed m s) ∙ l;
+        head = front (p .places) k (placed m s) (omega arith);
       }
 
-  pub put-none : to ≡ Nothing → n ≡ p .count → q ≡ p → Put p m to n q
-  put-none e c w = rw (w, c, e) record { count-is = omega arith; long = l; head = sym (append-nil (waiting p)) }
+  pub put-none : to ≡ Nothing → n ≡ k → q ≡ p → Put k zs m to n q
+  put-none e c w = rw (w, c, e) record { count-is = omega arith; long = l; head = d ∙ sym (append-nil zs) }
 
 pub record Filling (m : Message) (all : List Message) (rest n : ℕ) (q : Pool) : Type 0 where
   pub room : n + sizeOf rest ≤ 256

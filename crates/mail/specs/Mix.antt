@@ -32,4 +32,4 @@ mixOf m = mixRow (fieldsOf m)
 
 -- the bucket of a message
 abbrev pub bucketOf : Message → ℕ
-bucketOf m = mixOf m % 1021
+bucketOf m = mixOf m % 509

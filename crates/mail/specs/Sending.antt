@@ -98,13 +98,3 @@ pub record Roomy (p : Pool) (gone : ℕ) (x : Plan) (w : New) : Type 0 where
   pub to-slot : slotted (x .to) ≡ true
   pub told : w ≡ newsOf x (leftOf p gone)
   pub room : roomOf (p .count) gone w ≡ true
-
--- the same of a pool to which new messages are only to be put
-pub record Free (p : Pool) (w : New) : Type 0 where
-  pub to-slot : slotted (w .one) ≡ true
-  pub room : p .count + newCount w ≤ 256
-
--- the gap is closed: what is left waits
-pub record Left (p : Pool) (gone : ℕ) (r : Pool) : Type 0 where
-  pub count-is : r .count ≡ leftCount (p .count) gone
-  pub waiting-is : waiting r ≡ leftOf p gone

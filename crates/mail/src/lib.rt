@@ -11,8 +11,8 @@ ghost use Rattle.rules.specs.Actions.{waits as waitsOf};
 ghost use Rattle.rules.specs.Plans.{mailed};
 ghost use Rattle.rules.specs.Pool.{waiting, laid};
 ghost use Rattle.marks.specs.Marks.{without};
-ghost use Rattle.mail.specs.Sending.{leftOf, leftCount, placeOf, slotted, heldOf, heldWith, copyTo, copies};
-ghost use Rattle.mail.specs.Sending.{newTo, newAll, newsOf, newCount, roomOf, Roomy, Free, Left};
+ghost use Rattle.mail.specs.Sending.{leftOf, leftCount, placeOf, slotted, heldOf, heldWith, copyTo};
+ghost use Rattle.mail.specs.Sending.{newTo, newsOf, roomOf, Roomy};
 ghost use Rattle.mail.specs.Mix.{mixOf, bucketOf};
 use marks::Found;
 use rules::Message;
@@ -145,11 +145,11 @@ pub fn mix(m: Message) -> u64
         ^ ((m.failed << 47) ^ (m.failed >> 17))
 }
 
-// The bucket of a message, below 1021.
+// The bucket of a message, below 509.
 pub fn bucket(m: Message) -> usize
     ensures { λ r. ⌜ r ≡ bucketOf m ⌝ }
 {
-    (mix(m) % 1021) as usize
+    (mix(m) % 509) as usize
 }
 
 // Are no two waiting messages equal? A message is compared only with the earlier ones of its own bucket: `heads` has one more than the
@@ -159,7 +159,7 @@ pub fn all_different(p: Pool) -> bool
     ensures { λ r. ⌜ r ≡ allDifferent (waiting p) ⌝ }
 {
     let n = p.count;
-    let mut heads = [0u32; 1021];
+    let mut heads = [0u32; 509];
     let mut next = [0u32; 256];
     let mut j: usize = 0;
     let different = 'places: loop {
@@ -269,35 +269,24 @@ pub fn room(n: usize, gone: usize, new: New) -> bool
     left(n, gone) + (more + marks::count(new.all) as usize) <= 256
 }
 
-// The pool once place `gone` is away, with the gap closed; places past the count are whatever they are.
-fn removed(p: Pool, gone: usize) -> Pool
-    requires { ⌜ p .count ≤ 256 ⌝ }
-    ensures { λ r. ⌜ Left p gone r ⌝ }
-{
-    let n = left(p.count, gone);
-    let mut q = p;
-    let mut at = gone;
-    while at < n {
-        let x = q.places[at + 1];
-        q.places[at] = x;
-        at += 1;
-    }
-    q.count = n;
-    q
-}
-
-// The pool with the new messages at the end: `first` to its slot, then `each` to its slots in rising order; then blanks.
-fn filled(p: Pool, first: Message, each: Message, new: New) -> Pool
-    requires { ⌜ Free p new ⌝ }
-    ensures { λ r. ⌜ r ≡ laid ((waiting p ++ copyTo first (new .one)) ++ copies each (new .all)) ⌝ }
+// The pool after the plan: the gap at place `gone` is closed, the new messages are at the end, and places past the count are blank.
+pub fn after(p: Pool, gone: usize, plan: Plan, new: New) -> Pool
+    requires { ⌜ Roomy p gone plan new ⌝ }
+    ensures { λ r. ⌜ r ≡ laid (mailed plan (leftOf p gone)) ⌝ }
 {
     let none = parts::blank_message();
     let one = new.one;
     let mut rest = new.all;
-    let mut n = p.count;
+    let mut n = left(p.count, gone);
     let mut q = p;
+    let mut at = gone;
+    'gap: while at < n {
+        let x = q.places[at + 1];
+        q.places[at] = x;
+        at += 1;
+    }
     if let Found::At(s) = one {
-        q.places[n] = parts::to_slot(first, s as u32);
+        q.places[n] = parts::to_slot(plan.first, s as u32);
         n += 1;
     }
     'slots: loop {
@@ -305,23 +294,15 @@ fn filled(p: Pool, first: Message, each: Message, new: New) -> Pool
         let Found::At(s) = next else {
             break 'slots;
         };
-        q.places[n] = parts::to_slot(each, s as u32);
+        q.places[n] = parts::to_slot(plan.each, s as u32);
         n += 1;
         rest = marks::removed(rest, s);
     }
     q.count = n;
-    let mut at = n;
-    while at < 256 {
+    at = n;
+    'blanks: while at < 256 {
         q.places[at] = none;
         at += 1;
     }
     q
-}
-
-// The pool after the plan: the gap at place `gone` is closed, the new messages are at the end, and places past the count are blank.
-pub fn after(p: Pool, gone: usize, plan: Plan, new: New) -> Pool
-    requires { ⌜ Roomy p gone plan new ⌝ }
-    ensures { λ r. ⌜ r ≡ laid (mailed plan (leftOf p gone)) ⌝ }
-{
-    filled(removed(p, gone), plan.first, plan.each, new)
 }

@@ -61,11 +61,12 @@ loop-again c =
     let k = o .before .before .before in
     let s = k .before in
     let m = s .args .m in
+    let q = messageAt (s .args .t1) (o .place-of .result) in
     let xs = leftOf (s .args .t1) (s .args .gone) in
     let long = left-length (s .args .t1) (s .args .gone) (counted k) in
     let read = left-read (s .args .t1) (s .args .gone) _ _ _ (counted k) (k .left .ensures) (o .before .loop-test .taken) (o .place-of .ensures) in (
       omega arith,
-      c .held-with .ensures ∙ ap (λ (h : ℕ). heldWith m h (messageAt (s .args .t1) (o .place-of .result))) (l .inv .1) ∙ ap (heldWith m (heldOf m (take (l .at) xs))) read
+      c .held-with .ensures ∙ ap (λ (h : ℕ). heldWith m h q) (l .inv .1) ∙ ap (heldWith m (heldOf m (take (l .at) xs))) read
           ∙ sym (ap (heldOf m) (taken-more xs (l .at) (omega arith)) ∙ held-last m _ _),
     )
 
