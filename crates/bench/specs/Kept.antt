@@ -59,7 +59,8 @@ start-leaves t p len m l ids a why h = go (eqb len 256) (startOf m l ids a .answ
 module _ (t : Table) (ys : List Message) (n : ℕ) where
   module _ (zs : List Message) (r : Reply) where
     -- what is refused with the caller's own table and pool leaves both
-    leaves : (g : Stepped) (why : Refusal) → (g .answer ≡ Refused why → g ≡ refusedOf t (lent ys n) why) → Handed g ys zs r → r .answer ≡ Refused why → Kept t ys n zs r
+    leaves : (g : Stepped) (why : Refusal) → (g .answer ≡ Refused why → g ≡ refusedOf t (lent ys n) why) → Handed g ys zs r → r .answer ≡ Refused why
+        → Kept t ys n zs r
     leaves g why keeps h e =
         let is : g ≡ refusedOf t (lent ys n) why = keeps (sym (ap (λ (x : Reply). x .answer) (h .0)) ∙ e) in
         record {
@@ -71,7 +72,8 @@ module _ (t : Table) (ys : List Message) (n : ℕ) where
     pub step-keeps : (a : Action) (why : Refusal) → Handed (lentStep t ys n a) ys zs r → r .answer ≡ Refused why → Kept t ys n zs r
     step-keeps a why h e = leaves (lentStep t ys n a) why (refusal-keeps t (lent ys n) (length ys) a why) h e
 
-    pub start-keeps : (m l : ℕ) (ids : List ℕ) (a : ℕ) (why : Refusal) → Handed (lentStart t ys n m l ids a) ys zs r → r .answer ≡ Refused why → Kept t ys n zs r
+    pub start-keeps : (m l : ℕ) (ids : List ℕ) (a : ℕ) (why : Refusal) → Handed (lentStart t ys n m l ids a) ys zs r → r .answer ≡ Refused why
+        → Kept t ys n zs r
     start-keeps m l ids a why h e = leaves (lentStart t ys n m l ids a) why (start-leaves t (lent ys n) (length ys) m l ids a why) h e
 
     pub load-keeps : (bs : List ℕ) (why : Refusal) → Handed (lentLoad bs t ys n) ys zs r → r .answer ≡ Refused why → Kept t ys n zs r
@@ -90,7 +92,8 @@ module _ (t : Table) (ys : List Message) (n : ℕ) where
     unfolding startStep
     start-no-list m l ids a = rw (ne-eqb (length ys) 256 short)
 
-    pub load-no-list : (bs : List ℕ) → ltb (length bs) 32 ≡ false → headerFits bs ≡ true → offsetsFit bs ≡ true → lentLoad bs t ys n ≡ refusedOf t (lent ys n) no.Invalid
+    pub load-no-list : (bs : List ℕ) → ltb (length bs) 32 ≡ false → headerFits bs ≡ true → offsetsFit bs ≡ true
+        → lentLoad bs t ys n ≡ refusedOf t (lent ys n) no.Invalid
     unfolding loadOf
     load-no-list bs long header offsets = rw (long, header, offsets, ne-eqb (length ys) 256 short)
 

@@ -1,6 +1,6 @@
 -- What lies in the places past the count is not looked at: of two lists of 256 places that agree on the first count of them, each function says the same, and
--- what is done leaves the same 256 places. The idea: the definitions look at a pool through its count and its waiting messages alone. What a refusal leaves,
--- and lists without 256 places, are in Kept. Assumes nothing.
+-- what is done leaves the same 256 places. And what is done leaves blank places past the count that it tells. The idea: the definitions look at a pool through
+-- its count and its waiting messages alone. What a refusal leaves, and lists without 256 places, are in Kept. Assumes nothing.
 use mathlib.Core.Path.{_≡_, refl, sym, _∙_, ap}
 use mathlib.Core.Bool.{Bool, true, false, cond, _&&_, not}
 use mathlib.Core.List.{List}
@@ -16,13 +16,14 @@ use Rattle.rules.specs.declared.Action.the-variants.{Lookup, Join, RequestLease
 use Rattle.rules.specs.declared.Answer.{Answer}
 use Rattle.rules.specs.declared.Answer.the-variants.{Done, Refused}
 use Rattle.rules.specs.declared.Message.{Message}
+use Rattle.rules.specs.declared.Pool.{Pool}
 use Rattle.rules.specs.declared.Planned.{Planned}
 use Rattle.rules.specs.declared.Planned.the-variants.{No, Go}
 use Rattle.rules.specs.declared.Refusal.{Refusal}
 use Rattle.rules.specs.declared.Refusal.the-variants as no
 use Rattle.rules.specs.Fits.{messageFits}
 use Rattle.rules.specs.Plans.{mailed}
-use Rattle.rules.specs.Pool.{blank, messageAt}
+use Rattle.rules.specs.Pool.{blank, messageAt, lay}
 use Rattle.table.specs.declared.Stepped.{Stepped}
 use Rattle.table.specs.declared.Table.{Table}
 use Rattle.table.specs.Settle.{refusedOf, doneOf, carriedOut, settle}
@@ -36,8 +37,9 @@ use Rattle.format.specs.Load.{headerFits, offsetsFit, statusesFit, fileTable, f
 use Rattle.format.specs.Write.{wroteOf, writtenOf}
 use Rattle.entry.specs.declared.Rest.{Rest}
 use Rattle.entry.specs.Entry.{began, startStep, restOf}
+use Rattle.entry.specs.Laid.{Neat, step-neat, load-neat, start-neat}
 use Rattle.bench.specs.declared.Reply.{Reply}
-use Rattle.bench.specs.Lent.{poolOf, takenOf, givenOf, lentStep, lentStart, lentLoad, lentRest, replyOf, Handed, Filed}
+use Rattle.bench.specs.Lent.{poolOf, takenOf, givenOf, lent, lentStep, lentStart, lentLoad, lentRest, replyOf, Handed, Filed}
 
 -- ---- two pools
 
@@ -131,17 +133,36 @@ module _ (t : Table) (n : ℕ) (xs ys : List Message) (same : take n xs ≡ take
   unfolding writtenOf fileOf
   written-same len buf = rw (sound-same len, same)
 
--- ---- two lists of 256 places that agree on the first n
+-- ---- lists of 256 places
 
+taken : (xs : List Message) → length xs ≡ 256 → takenOf xs ≡ xs
+unfolding takenOf
+taken xs e = rw (eq-eqb (length xs) 256 e)
+
+given : (xs ws : List Message) → length xs ≡ 256 → givenOf xs ws ≡ ws
+unfolding givenOf
+given xs ws e = rw (eq-eqb (length xs) 256 e)
+
+-- what held ys holds zs, and the reply is r: the first places, as many as it counts, and then blank ones
+module _ (t : Table) (n : ℕ) (ys zs : List Message) (r : Reply) (long : length ys ≡ 256) where
+  blanks-past : {g : Stepped} → Neat g → Handed g ys zs r → r .answer ≡ Done → zs ≡ lay (take (r .count) zs)
+  blanks-past {g} neat f d =
+      let e : g .answer ≡ Done = ap (λ (x : Reply). x .answer) (sym (f .0)) ∙ d in
+      let z : zs ≡ g .pool .places = f .1 ∙ given ys _ long in
+      let c : r .count ≡ g .pool .count = ap (λ (x : Reply). x .count) (f .0) in
+      rw (c, z) (ap (λ (p : Pool). p .places) (neat e))
+
+  pub step-blank : (a : Action) → Handed (lentStep t ys n a) ys zs r → r .answer ≡ Done → zs ≡ lay (take (r .count) zs)
+  step-blank a = blanks-past (step-neat t (lent ys n) (length ys) a)
+
+  pub start-blank : (m l : ℕ) (ids : List ℕ) (a : ℕ) → Handed (lentStart t ys n m l ids a) ys zs r → r .answer ≡ Done → zs ≡ lay (take (r .count) zs)
+  start-blank m l ids a = blanks-past (start-neat t (lent ys n) (length ys) m l ids a)
+
+  pub load-blank : (bs : List ℕ) → Handed (lentLoad bs t ys n) ys zs r → r .answer ≡ Done → zs ≡ lay (take (r .count) zs)
+  load-blank bs = blanks-past (load-neat t (lent ys n) (length ys) bs)
+
+-- two that agree on the first n
 module _ (t : Table) (n : ℕ) (ys zs : List Message) (long : length ys ≡ 256) (long′ : length zs ≡ 256) (same : take n ys ≡ take n zs) where
-  taken : (xs : List Message) → length xs ≡ 256 → takenOf xs ≡ xs
-  unfolding takenOf
-  taken xs e = rw (eq-eqb (length xs) 256 e)
-
-  given : (xs ws : List Message) → length xs ≡ 256 → givenOf xs ws ≡ ws
-  unfolding givenOf
-  given xs ws e = rw (eq-eqb (length xs) 256 e)
-
   agree : take n (takenOf ys) ≡ take n (takenOf zs)
   agree = rw (taken ys long, taken zs long′) same
 

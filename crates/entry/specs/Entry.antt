@@ -1,5 +1,5 @@
--- The start and the question whether a table is settled, as a caller asks them: with a table, a pool and the number of places of the message list. Definitions only.
--- Assumes nothing.
+-- The start and the question whether a table is settled, as a caller asks them: with a table, a pool and the number of places of the message
+-- list. Definitions only. Assumes nothing.
 use mathlib.Core.Bool.{cond}
 use mathlib.Core.List.{List, []}
 use Prim.Native.Nat.{ℕ}

@@ -3,40 +3,36 @@
 -- leaves a pool that is laid out. Assumes nothing: Held is what the machine's types hold of every value.
 use mathlib.Core.Path.{_≡_, refl, sym, _∙_, ap}
 use mathlib.Core.Bool.{Bool, true, false, cond, _&&_, not}
-use mathlib.Core.List.{List, [], map}
+use mathlib.Core.List.{List, []}
 use Prim.Native.Nat.{ℕ, _^_}
 use native.Mathlib.Omega.{arith}
 use borrow.Author.Tests.{ltb-false}
 use lib.Dec.{ltb}
-use lib.ListN.{length, take, drop}
-use lib.Seq.{take-append-seam}
+use lib.ListN.{length, take}
 use Rattle.marks.specs.Bools.{and-left, and-right, bool-false, opposed, true-not}
 use Rattle.rules.specs.declared.Action.{Action}
 use Rattle.rules.specs.declared.Answer.{Answer}
 use Rattle.rules.specs.declared.Answer.the-variants.{Done, Refused}
-use Rattle.rules.specs.declared.Message.{Message}
 use Rattle.rules.specs.declared.Pool.{Pool}
 use Rattle.rules.specs.declared.Refusal.{Refusal}
 use Rattle.rules.specs.declared.Refusal.the-variants as no
 use Rattle.rules.specs.Numbers.{answerNumber}
-use Rattle.rules.specs.Plans.{mailed}
 use Rattle.rules.specs.Pool.{waiting, laid}
 use Rattle.table.specs.declared.Table.{Table}
 use Rattle.table.specs.declared.Stepped.{Stepped}
 use Rattle.table.specs.Settle.{refusedOf, doneOf}
-use Rattle.table.specs.Start.{noTable, startOf}
-use Rattle.table.specs.Step.{isSound, stepOf}
+use Rattle.table.specs.Start.{noTable}
+use Rattle.table.specs.Step.{isSound}
 use Rattle.table.specs.Valid.{validOf}
-use Rattle.keeps.specs.By.{leftOf, step-done}
 use Rattle.format.specs.declared.Wrote.{Wrote}
-use Rattle.format.specs.Bytes.{decodeAll}
-use Rattle.format.specs.Exactly.{noRoom, load-makes, write-exactly, write-leaves}
-use Rattle.format.specs.Format.{totalOf, messageWidths, messagesAt, messageFrom}
-use Rattle.format.specs.Load.{fileN, fileCount, filePool, partPool, loadOf}
+use Rattle.format.specs.Exactly.{noRoom, write-exactly, write-leaves}
+use Rattle.format.specs.Format.{totalOf}
+use Rattle.format.specs.Load.{loadOf}
 use Rattle.format.specs.Rows.{Held}
 use Rattle.format.specs.Theorems.{read-of-write}
 use Rattle.format.specs.Write.{notWritten, wroteOf, writtenOf}
-use Rattle.entry.specs.Entry.{began, startStep}
+use Rattle.entry.specs.Entry.{startStep}
+use Rattle.entry.specs.Laid.{Neat, refused-neat, step-neat, load-neat, start-neat}
 use Rattle.wire.specs.Wire.{loadedOf, nextOf, begunOf, wroteBy, leftBy}
 use Rattle.wire.specs.Unique.{Filed}
 
@@ -83,40 +79,21 @@ module _ (t : Table) (p : Pool) (out : List ℕ) (e : wroteOf t p 256 out .answe
 
 -- ---- pools that are laid out
 
--- the places past the count are blank
-abbrev Neat : Stepped → Type 0
-Neat s = s .answer ≡ Done → s .pool ≡ laid (waiting (s .pool))
-
-neat-laid : (xs : List Message) → laid xs ≡ laid (waiting (laid xs))
-neat-laid xs = ap laid (sym (take-append-seam xs _))
-
-neat-file : (bs : List ℕ) → filePool bs ≡ laid (waiting (filePool bs))
-unfolding filePool partPool
-neat-file bs = neat-laid (map messageFrom (decodeAll messageWidths 56 (fileCount bs) (drop (messagesAt (fileN bs)) bs)))
-
-loaded-neat : (file : List ℕ) → Neat (loadedOf file)
-unfolding loadedOf
-loaded-neat file e = rw (load-makes file noTable (laid []) 256 (ap answerNumber e)) (neat-file file)
-
-step-neat : (t : Table) (p : Pool) (a : Action) → Neat (stepOf t p 256 a)
-step-neat t p a e = let d = step-done t p 256 a e in rw (d .2) (neat-laid (mailed (d .0) (leftOf p a)))
-
 next-neat : (s : Stepped) (a : Action) → Neat (nextOf s a)
 unfolding nextOf
 next-neat s a = go (s .answer) refl
   where
     go : (w : Answer) → s .answer ≡ w → Neat (nextOf s a)
-    go Done e = rw e (step-neat (s .table) (s .pool) a)
-    go (Refused why) e = rw e (λ d. absurd (not-done why d))
+    go Done e = rw e (step-neat (s .table) (s .pool) 256 a)
+    go (Refused why) e = rw e (refused-neat (s .table) (s .pool) why)
 
 begun-neat : (m l a : ℕ) (ids : List ℕ) → Neat (begunOf m l a ids)
-unfolding begunOf startStep
-begun-neat m l a ids = go (ltb m (2 ^ 32) && ltb l (2 ^ 32)) (startOf m l ids a .answer)
+unfolding begunOf
+begun-neat m l a ids = go (ltb m (2 ^ 32) && ltb l (2 ^ 32))
   where
-    go : (b : Bool) (w : Answer) → Neat (cond b (began w (startOf m l ids a .table) noTable (laid [])) (refusedOf noTable (laid []) no.Header))
-    go true Done d = refl
-    go true (Refused why) d = refl
-    go false w d = refl
+    go : (b : Bool) → Neat (cond b (startStep noTable (laid []) 256 m l ids a) (refusedOf noTable (laid []) no.Header))
+    go true = start-neat noTable (laid []) 256 m l ids a
+    go false = refused-neat noTable (laid []) no.Header
 
 -- ---- what is written is read again
 
@@ -136,7 +113,8 @@ module _ (out cs : List ℕ) (r : Wrote) where
 
   pub reload-kept : (file : List ℕ) → let s = loadedOf file in Held (s .table) (s .pool) → Filed s out cs r → r .answer ≡ Done
       → loadedOf (take (r .count) cs) ≡ s
-  reload-kept file = reads-back (loadedOf file) (loaded-neat file)
+  unfolding loadedOf
+  reload-kept file = reads-back (loadedOf file) (load-neat noTable (laid []) 256 file)
 
   pub step-file-kept : (file : List ℕ) (a : Action) → let s = nextOf (loadedOf file) a in Held (s .table) (s .pool) → Filed s out cs r → r .answer ≡ Done
       → loadedOf (take (r .count) cs) ≡ s

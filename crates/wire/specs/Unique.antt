@@ -1,4 +1,5 @@
--- Each public function has one reply for every input, and leaves one content of the buffer lent to it: any two that its contract allows are equal. Assumes nothing.
+-- Each public function has one reply for every input, and leaves one content of the buffer lent to it: any two that its contract allows are
+-- equal. Assumes nothing.
 use mathlib.Core.Path.{_≡_, sym, _∙_}
 use mathlib.Core.List.{List}
 use Prim.Native.Nat.{ℕ}

@@ -1,0 +1,60 @@
+-- A step, a load or a start that is done leaves a pool that is laid out: its places past the count are blank. Assumes nothing.
+use mathlib.Core.Path.{_≡_, refl, sym, ap}
+use mathlib.Core.Bool.{Bool, true, false, cond}
+use mathlib.Core.List.{List, map}
+use Prim.Native.Nat.{ℕ}
+use native.Mathlib.Omega.{arith}
+use lib.Dec.{eqb}
+use lib.ListN.{drop}
+use lib.Seq.{take-append-seam}
+use Rattle.rules.specs.declared.Action.{Action}
+use Rattle.rules.specs.declared.Answer.{Answer}
+use Rattle.rules.specs.declared.Answer.the-variants.{Done, Refused}
+use Rattle.rules.specs.declared.Message.{Message}
+use Rattle.rules.specs.declared.Pool.{Pool}
+use Rattle.rules.specs.declared.Refusal.{Refusal}
+use Rattle.rules.specs.declared.Refusal.the-variants as no
+use Rattle.rules.specs.Numbers.{answerNumber}
+use Rattle.rules.specs.Plans.{mailed}
+use Rattle.rules.specs.Pool.{waiting, laid}
+use Rattle.table.specs.declared.Table.{Table}
+use Rattle.table.specs.declared.Stepped.{Stepped}
+use Rattle.table.specs.Settle.{refusedOf}
+use Rattle.table.specs.Start.{startOf}
+use Rattle.table.specs.Step.{stepOf}
+use Rattle.keeps.specs.By.{leftOf, step-done}
+use Rattle.format.specs.Bytes.{decodeAll}
+use Rattle.format.specs.Exactly.{load-makes}
+use Rattle.format.specs.Format.{messageWidths, messagesAt, messageFrom}
+use Rattle.format.specs.Load.{fileN, fileCount, filePool, partPool, loadOf}
+use Rattle.entry.specs.Entry.{began, startStep}
+
+-- what is done leaves the messages that wait, and blank places
+abbrev pub Neat : Stepped → Type 0
+Neat s = s .answer ≡ Done → s .pool ≡ laid (waiting (s .pool))
+
+pub refused-neat : (t : Table) (p : Pool) (why : Refusal) → Neat (refusedOf t p why)
+refused-neat t p why e = absurd (let z : _≡_ {A = ℕ} 0 1 = cc in omega arith)
+
+laid-again : (xs : List Message) → laid xs ≡ laid (waiting (laid xs))
+laid-again xs = ap laid (sym (take-append-seam xs _))
+
+file-neat : (bs : List ℕ) → filePool bs ≡ laid (waiting (filePool bs))
+unfolding filePool partPool
+file-neat bs = laid-again (map messageFrom (decodeAll messageWidths 56 (fileCount bs) (drop (messagesAt (fileN bs)) bs)))
+
+module _ (t : Table) (p : Pool) (len : ℕ) where
+  pub step-neat : (a : Action) → Neat (stepOf t p len a)
+  step-neat a e = let d = step-done t p len a e in rw (d .2) (laid-again (mailed (d .0) (leftOf p a)))
+
+  pub load-neat : (bs : List ℕ) → Neat (loadOf bs t p len)
+  load-neat bs e = rw (load-makes bs t p len (ap answerNumber e)) (file-neat bs)
+
+  pub start-neat : (m l : ℕ) (ids : List ℕ) (a : ℕ) → Neat (startStep t p len m l ids a)
+  unfolding startStep
+  start-neat m l ids a = go (eqb len 256) (startOf m l ids a .answer)
+    where
+      go : (b : Bool) (w : Answer) → Neat (cond b (began w (startOf m l ids a .table) t p) (refusedOf t p no.Invalid))
+      go true Done e = refl
+      go true (Refused why) e = refused-neat t p why e
+      go false w e = refused-neat t p no.Invalid e
