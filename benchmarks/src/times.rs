@@ -1,0 +1,74 @@
+//! CPU time of one round: the least of many short batches, the sides in turn, the lines gone through several times over.
+
+use benchmarks::lines::Line;
+use benchmarks::{measured, Side};
+use std::hint::black_box;
+
+const PASSES: usize = 6;
+const BATCHES: usize = 60;
+const BATCH_NANOSECONDS: f64 = 120_000.0;
+
+#[repr(C)]
+struct TimeSpec {
+    seconds: i64,
+    nanoseconds: i64,
+}
+
+extern "C" {
+    fn clock_gettime(clock: i32, time: *mut TimeSpec) -> i32;
+}
+
+/// Linux's number for the CPU time of this thread.
+const THREAD_CPU_TIME: i32 = 3;
+
+fn now() -> f64 {
+    let mut time = TimeSpec { seconds: 0, nanoseconds: 0 };
+    // The kernel fills the struct.
+    assert_eq!(unsafe { clock_gettime(THREAD_CPU_TIME, &mut time) }, 0);
+    time.seconds as f64 * 1e9 + time.nanoseconds as f64
+}
+
+fn spent(side: Side, line: &Line, times: u32) -> f64 {
+    let begun = now();
+    black_box(measured(side, black_box(line), times));
+    now() - begun
+}
+
+/// A side's least time for a batch, and for no round.
+#[derive(Clone, Copy)]
+struct Least {
+    rounds: u32,
+    batch: f64,
+    none: f64,
+}
+
+impl Least {
+    fn new(side: Side, line: &Line) -> Least {
+        let tried = (0..5).map(|_| spent(side, line, 32)).fold(f64::MAX, f64::min) / 32.0;
+        let rounds = (BATCH_NANOSECONDS / tried).clamp(16.0, 100_000.0) as u32;
+        Least { rounds, batch: f64::MAX, none: f64::MAX }
+    }
+
+    fn take(&mut self, side: Side, line: &Line) {
+        self.batch = self.batch.min(spent(side, line, self.rounds));
+        self.none = self.none.min(spent(side, line, 0));
+    }
+
+    fn microseconds(&self) -> f64 {
+        (self.batch - self.none) / f64::from(self.rounds) / 1000.0
+    }
+}
+
+/// For each line, the microseconds of one round of each side.
+pub fn of(lines: &[Line]) -> Vec<[f64; 3]> {
+    let mut least: Vec<[Least; 3]> =
+        lines.iter().map(|line| Side::ALL.map(|side| Least::new(side, line))).collect();
+    for _ in 0..PASSES {
+        for (line, least) in lines.iter().zip(&mut least) {
+            for _ in 0..BATCHES {
+                Side::ALL.iter().zip(least.iter_mut()).for_each(|(&side, least)| least.take(side, line));
+            }
+        }
+    }
+    least.iter().map(|sides| sides.map(|least| least.microseconds())).collect()
+}
