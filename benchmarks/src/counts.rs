@@ -1,9 +1,12 @@
 //! Instructions of one round, counted by callgrind on a second run of this program, and bytes moved, counted by the program `moved` beside it.
 
 use benchmarks::lines::Line;
-use benchmarks::{measured, Side};
+use benchmarks::{measured, room, Side};
 use std::fs;
 use std::process::{Command, Stdio};
+
+/// Callgrind counts each byte of a `rep movsb` as an instruction, so the C library is told to copy by vectors.
+const NO_REP: &str = "glibc.cpu.x86_rep_movsb_threshold=0x40000000:glibc.cpu.x86_rep_stosb_threshold=0x40000000";
 
 /// The argument that makes this program run what is counted, in order, and nothing else.
 pub const WORD: &str = "counted";
@@ -13,10 +16,11 @@ const ROUNDS: [u32; 3] = [0, 1, 11];
 pub type Each = [u64; 3];
 
 pub fn run_all(lines: &[Line]) {
+    let mut out = room();
     for line in lines {
         for side in Side::ALL {
             for times in ROUNDS {
-                measured(side, line, times);
+                measured(side, line, times, &mut out);
             }
         }
     }
@@ -28,6 +32,7 @@ pub fn of(lines: &[Line]) -> Option<Vec<Each>> {
     fs::create_dir_all(&folder).expect("a temporary folder");
     let out = folder.join("out");
     let ran = Command::new("valgrind")
+        .env("GLIBC_TUNABLES", NO_REP)
         .args(["--tool=callgrind", "--collect-atstart=no", "--toggle-collect=measured", "--dump-after=measured"])
         .arg(format!("--callgrind-out-file={}", out.display()))
         .arg(std::env::current_exe().expect("this program has a path"))

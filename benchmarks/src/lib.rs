@@ -22,13 +22,18 @@ impl Side {
     pub const ALL: [Side; 3] = [Side::Proved, Side::Model, Side::PutBack];
 }
 
-/// Runs a side's rounds. Its name is known to the profiler.
+/// Runs a side's rounds; a proved write or listing goes to `out`. Its name is known to the profiler.
 #[no_mangle]
 #[inline(never)]
-pub fn measured(side: Side, line: &Line, times: u32) -> u64 {
+pub fn measured(side: Side, line: &Line, times: u32, out: &mut [u8]) -> u64 {
     match side {
-        Side::Proved => proved_side::run(line, times),
+        Side::Proved => proved_side::run(line, times, out),
         Side::Model => model_side::run(line, times),
         Side::PutBack => model_side::put_back(line, times),
     }
+}
+
+/// Room for a table file or a listing.
+pub fn room() -> Vec<u8> {
+    vec![0; model::LARGEST]
 }

@@ -19,6 +19,8 @@ pub struct Line {
     pub file: Vec<u8>,
     /// The most that the goals allow for one round, in microseconds.
     pub most: Option<f64>,
+    /// For a step over a lent list, the line of the same step by value.
+    pub core: Option<usize>,
 }
 
 const NODES: usize = 64;
@@ -49,7 +51,7 @@ fn lookup(place: usize) -> Message {
 
 /// All kinds in turn; the places from 240 on have lookups.
 fn mixed(table: &Table, place: usize) -> Message {
-    let (to, node) = ((place * 29 % NODES) as u8, (place * 7 % NODES) as u8);
+    let (to, node) = ((place * 29 % NODES) as u8, ((place * 7 + place / 64) % NODES) as u8);
     let (sides, mark) = (table.nodes[usize::from(node)].sides, 1u64 << (place % NODES));
     match place % 8 {
         _ if place >= 240 => lookup(place),
@@ -88,8 +90,8 @@ pub fn all() -> Vec<Line> {
     let routed = Message::Lookup { to: 0, key: table.nodes[30].id & !1 };
     let delivered = Message::Lookup { to: 30, key: table.nodes[30].id & !1 };
     let told = ALONE + 1;
-    let probe = Message::LsProbe { to: ALONE as u8, node: told as u8, sides: table.nodes[told].sides, failed: 1 << told };
-    let line = |name, call, file| Line { name, call, file, most: None };
+    let probe = Message::LsProbe { to: ALONE as u8, node: told as u8, sides: table.nodes[told].sides, failed: 0 };
+    let line = |name, call, file| Line { name, call, file, most: None, core: None };
     let within = |most, line: Line| Line { most: Some(most), ..line };
     let lines = vec![
         line("Take of a routed lookup, 1 message", TAKE_OLDEST, lookups(routed, 1)),

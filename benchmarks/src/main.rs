@@ -6,14 +6,13 @@ mod table;
 mod times;
 
 use benchmarks::lines::{self, Call, Line};
-use benchmarks::{measured, proved_side, Side};
-use model::LARGEST;
+use benchmarks::{measured, room, Side};
 
-/// Both sides answer the same, and what they write is the same.
+/// Both sides answer the same, and what the proved one writes is what the model writes.
 fn check_same(line: &Line) {
-    let mut out = vec![0; LARGEST];
-    let sum = proved_side::run_into(line, 2, &mut out);
-    assert_eq!(sum, measured(Side::Model, line, 2), "{}", line.name);
+    let mut out = room();
+    let [proved, model] = [Side::Proved, Side::Model].map(|side| measured(side, line, 2, &mut out));
+    assert_eq!(proved, model, "{}", line.name);
     let expected = match line.call {
         Call::Write => line.file.clone(),
         Call::List => model::listing(&line.file),
@@ -29,5 +28,6 @@ fn main() {
     }
     lines.iter().for_each(check_same);
     let times = times::of(&lines);
-    table::print(&lines, &times, counts::of(&lines), counts::moved(), stack::of(&lines));
+    let (counts, moved, stack) = (counts::of(&lines), counts::moved(), stack::of(&lines));
+    table::Figures { times, counts, moved, stack }.print(&lines);
 }

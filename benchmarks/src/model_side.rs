@@ -8,13 +8,13 @@ fn number(answer: Result<(), Refusal>) -> u64 {
     answer.map_or_else(|refusal| u64::from(refusal.number()), |()| 0)
 }
 
-fn loaded(file: &[u8]) -> (Table, Pool) {
+pub fn loaded(file: &[u8]) -> (Table, Pool) {
     let (mut table, mut pool) = (Table::BLANK, EMPTY_POOL);
     load(file, &mut table, &mut pool).expect("the file is right");
     (table, pool)
 }
 
-fn action(kind: u64, x: u64, y: u64) -> Action {
+pub fn action(kind: u64, x: u64, y: u64) -> Action {
     let (i, j) = (x as usize, y as usize);
     match kind {
         1 => Action::Lookup { at: i, key: y },
@@ -95,6 +95,7 @@ fn listings(file: &[u8], times: u32) -> u64 {
     (0..times).map(|_| black_box(listing(black_box(file))).len() as u64).sum()
 }
 
+#[inline(never)]
 pub fn run(line: &Line, times: u32) -> u64 {
     let file = &line.file;
     match line.call {
@@ -107,6 +108,7 @@ pub fn run(line: &Line, times: u32) -> u64 {
 }
 
 /// The same rounds without the step; nothing for calls that change no table.
+#[inline(never)]
 pub fn put_back(line: &Line, times: u32) -> u64 {
     match line.call {
         Call::Step(kind, x, y) | Call::LentStep(kind, x, y) => {

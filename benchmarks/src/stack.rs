@@ -1,11 +1,24 @@
-//! Stack used by a call: paint the stack below, call, and see how deep the paint is gone.
+//! Stack used by a step: the stack below is painted, the call made, and then one looks how deep the paint is gone.
 
-use benchmarks::lines::Line;
-use benchmarks::{measured, Side};
+use benchmarks::lines::{Call, Line};
+use benchmarks::{measured, model_side, room, Side};
 use std::hint::black_box;
 
 const ROOM: usize = 1 << 20;
 const PAINT: u8 = 0xa5;
+
+/// Frames of the proved module's functions, as its compiler tells them: `file:function`, a tab, bytes.
+const FRAMES: &str = include_str!(concat!(env!("NATIVE"), "/timing.su"));
+
+/// Bytes of stack.
+pub struct Stack {
+    /// A step of the model.
+    pub model: usize,
+    /// A loop of crate `timing` that makes one step, with all that it calls.
+    pub whole: usize,
+    /// The part of it that the step takes; none where the compiler has put the step into the loop.
+    pub step: Option<usize>,
+}
 
 #[inline(never)]
 fn paint() -> *const u8 {
@@ -16,19 +29,39 @@ fn paint() -> *const u8 {
 
 /// Bytes below this frame that a call writes to.
 #[inline(never)]
-fn used(call: &dyn Fn()) -> usize {
+fn used(call: &mut dyn FnMut()) -> usize {
     let low = paint();
     call();
-    // The room is on this thread's stack, below this frame, and nothing else is there now.
+    // The room is on this thread's stack, below this frame, where nothing lives now.
     let touched = (0..ROOM).find(|&at| unsafe { low.add(at).read_volatile() } != PAINT);
     ROOM - touched.unwrap_or(ROOM)
 }
 
-/// Bytes of stack of one round of each side, by line, less those of a call that does nothing; beside them those of no round, which loads the file.
-pub fn of(lines: &[Line]) -> Vec<[[usize; 2]; 2]> {
-    let nothing = used(&|| {
+fn frame(function: &str) -> Option<usize> {
+    let line = FRAMES.lines().find(|line| line.split('\t').next().is_some_and(|at| at.ends_with(function)))?;
+    line.split('\t').nth(1)?.parse().ok()
+}
+
+fn of_line(line: &Line, nothing: usize) -> Option<Stack> {
+    let Call::Step(kind, x, y) = line.call else { return None };
+    let mut out = room();
+    let whole = used(&mut || {
+        black_box(measured(Side::Proved, line, 1, &mut out));
+    }) - nothing;
+    let action = model_side::action(kind, x, y);
+    let mut held = Box::new(model_side::loaded(&line.file));
+    let model = used(&mut || {
+        let (table, pool) = &mut *held;
+        black_box(model::step(table, pool, action)).expect("it is done");
+    }) - nothing;
+    let step = frame(":step::step").and_then(|_| Some(whole - frame(":tarpudhriv_steps")?));
+    Some(Stack { model, whole, step })
+}
+
+/// For each line that is a step, the stack that it uses, less that of a call that does nothing.
+pub fn of(lines: &[Line]) -> Vec<Option<Stack>> {
+    let nothing = used(&mut || {
         black_box(0);
     });
-    let of = |side, line, times| used(&|| drop(black_box(measured(side, line, times)))) - nothing;
-    lines.iter().map(|line| [Side::Proved, Side::Model].map(|side| [0, 1].map(|times| of(side, line, times)))).collect()
+    lines.iter().map(|line| of_line(line, nothing)).collect()
 }

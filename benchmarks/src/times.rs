@@ -1,10 +1,10 @@
 //! CPU time of one round: the least of many short batches, the sides in turn, the lines gone through several times over.
 
 use benchmarks::lines::Line;
-use benchmarks::{measured, Side};
+use benchmarks::{measured, room, Side};
 use std::hint::black_box;
 
-const PASSES: usize = 6;
+const PASSES: usize = 20;
 const BATCHES: usize = 60;
 const BATCH_NANOSECONDS: f64 = 120_000.0;
 
@@ -28,9 +28,9 @@ fn now() -> f64 {
     time.seconds as f64 * 1e9 + time.nanoseconds as f64
 }
 
-fn spent(side: Side, line: &Line, times: u32) -> f64 {
+fn spent(side: Side, line: &Line, times: u32, out: &mut [u8]) -> f64 {
     let begun = now();
-    black_box(measured(side, black_box(line), times));
+    black_box(measured(side, black_box(line), times, out));
     now() - begun
 }
 
@@ -43,15 +43,15 @@ struct Least {
 }
 
 impl Least {
-    fn new(side: Side, line: &Line) -> Least {
-        let tried = (0..5).map(|_| spent(side, line, 32)).fold(f64::MAX, f64::min) / 32.0;
+    fn new(side: Side, line: &Line, out: &mut [u8]) -> Least {
+        let tried = (0..5).map(|_| spent(side, line, 32, out)).fold(f64::MAX, f64::min) / 32.0;
         let rounds = (BATCH_NANOSECONDS / tried).clamp(16.0, 100_000.0) as u32;
         Least { rounds, batch: f64::MAX, none: f64::MAX }
     }
 
-    fn take(&mut self, side: Side, line: &Line) {
-        self.batch = self.batch.min(spent(side, line, self.rounds));
-        self.none = self.none.min(spent(side, line, 0));
+    fn take(&mut self, side: Side, line: &Line, out: &mut [u8]) {
+        self.batch = self.batch.min(spent(side, line, self.rounds, out));
+        self.none = self.none.min(spent(side, line, 0, out));
     }
 
     fn microseconds(&self) -> f64 {
@@ -61,12 +61,15 @@ impl Least {
 
 /// For each line, the microseconds of one round of each side.
 pub fn of(lines: &[Line]) -> Vec<[f64; 3]> {
+    let mut out = room();
     let mut least: Vec<[Least; 3]> =
-        lines.iter().map(|line| Side::ALL.map(|side| Least::new(side, line))).collect();
+        lines.iter().map(|line| Side::ALL.map(|side| Least::new(side, line, &mut out))).collect();
     for _ in 0..PASSES {
         for (line, least) in lines.iter().zip(&mut least) {
             for _ in 0..BATCHES {
-                Side::ALL.iter().zip(least.iter_mut()).for_each(|(&side, least)| least.take(side, line));
+                for (side, least) in Side::ALL.into_iter().zip(least.iter_mut()) {
+                    least.take(side, line, &mut out);
+                }
             }
         }
     }

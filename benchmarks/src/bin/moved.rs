@@ -2,7 +2,7 @@
 //! Copies that the compiler makes without a call are not counted.
 
 use benchmarks::lines::{self, Line};
-use benchmarks::{measured, Side};
+use benchmarks::{measured, room, Side};
 use std::ffi::c_void;
 use std::sync::atomic::{AtomicU64, Ordering::Relaxed};
 
@@ -39,8 +39,9 @@ pub unsafe extern "C" fn __wrap_memset(to: *mut c_void, byte: i32, n: usize) -> 
 }
 
 fn bytes(side: Side, line: &Line, times: u32) -> u64 {
+    let mut out = room();
     let before = BYTES.load(Relaxed);
-    measured(side, line, times);
+    measured(side, line, times, &mut out);
     BYTES.load(Relaxed) - before
 }
 
