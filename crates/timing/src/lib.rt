@@ -1,8 +1,12 @@
 // For measuring: one call again and again, on what a table file holds; the sum of what the rounds answer. Each round first turns the lowest bit of
 // the last node's grant and of the last place's word, so that no round is the one before it over again. A file of 64 nodes stays valid under that if
 // its place 255, where it is taken, has a lookup.
+ghost use mathlib.Core.Path.{_≡_};
+ghost use Rattle.bench.specs.Lent.{lentStep, replyOf};
+use bench::Reply;
 use format::Wrote;
 use rules::Action;
+use rules::Pool;
 use rules::Refusal;
 use table::Stepped;
 use table::Table;
@@ -51,6 +55,47 @@ fn steps(s: Stepped, a: Action, times: u32) -> u64 {
 #[no_mangle]
 pub extern "C" fn tarpudhriv_steps(file: &[u8], kind: u64, x: u64, y: u64, times: u32) -> u64 {
     steps(loaded(file), action_of(kind, x, y), times)
+}
+
+// A step over a list of its own, lent for the call.
+fn lent_step(t: Table, p: Pool, a: Action) -> Reply
+    ensures { λ r. ⌜ r ≡ replyOf (lentStep t (p .places) (p .count) a) ⌝ }
+{
+    let mut places = p.places;
+    bench::step(t, &mut places, p.count, a)
+}
+
+fn lent_steps(s: Stepped, a: Action, times: u32) -> u64 {
+    let mut t = s.table;
+    let mut p = s.pool;
+    let mut sum: u64 = 0;
+    let mut i: u32 = 0;
+    while i < times {
+        let mut v = t.nodes[63];
+        v.grant = v.grant ^ 1;
+        t.nodes[63] = v;
+        let mut m = p.places[255];
+        m.word = m.word ^ 1;
+        p.places[255] = m;
+        let r = lent_step(t, p, a);
+        let answer = r.answer;
+        let number = parts::answer_number(answer) as u64;
+        sum = (sum + number + r.count as u64 % 65536) % 4294967296;
+        i += 1;
+    }
+    sum
+}
+
+// Steps over a lent list, which is made anew for each: the number answered and the messages left.
+#[no_mangle]
+pub extern "C" fn tarpudhriv_lent_steps(
+    file: &[u8],
+    kind: u64,
+    x: u64,
+    y: u64,
+    times: u32,
+) -> u64 {
+    lent_steps(loaded(file), action_of(kind, x, y), times)
 }
 
 fn one_if(ok: bool) -> u64 {
