@@ -6,6 +6,8 @@ ghost use Rattle.bench.specs.Lent.{lentStep, replyOf};
 use bench::Reply;
 use format::Wrote;
 use rules::Action;
+use rules::Message;
+use rules::Node;
 use rules::Pool;
 use rules::Refusal;
 use table::Stepped;
@@ -24,6 +26,18 @@ fn action_of(kind: u64, x: u64, y: u64) -> Action {
     }
 }
 
+fn turned_node(v: Node) -> Node {
+    let mut u = v;
+    u.grant = u.grant ^ 1;
+    u
+}
+
+fn turned_message(m: Message) -> Message {
+    let mut u = m;
+    u.word = u.word ^ 1;
+    u
+}
+
 fn loaded(file: &[u8]) -> Stepped {
     let none = table::not_started(Refusal::Invalid);
     reader::load(file, none.table, entry::no_messages(), 256)
@@ -35,12 +49,8 @@ fn steps(s: Stepped, a: Action, times: u32) -> u64 {
     let mut sum: u64 = 0;
     let mut i: u32 = 0;
     while i < times {
-        let mut v = t.nodes[63];
-        v.grant = v.grant ^ 1;
-        t.nodes[63] = v;
-        let mut m = p.places[255];
-        m.word = m.word ^ 1;
-        p.places[255] = m;
+        t.nodes[63] = turned_node(t.nodes[63]);
+        p.places[255] = turned_message(p.places[255]);
         let r = step::step(t, p, 256, a);
         let answer = r.answer;
         let q = r.pool;
@@ -71,12 +81,8 @@ fn lent_steps(s: Stepped, a: Action, times: u32) -> u64 {
     let mut sum: u64 = 0;
     let mut i: u32 = 0;
     while i < times {
-        let mut v = t.nodes[63];
-        v.grant = v.grant ^ 1;
-        t.nodes[63] = v;
-        let mut m = p.places[255];
-        m.word = m.word ^ 1;
-        p.places[255] = m;
+        t.nodes[63] = turned_node(t.nodes[63]);
+        p.places[255] = turned_message(p.places[255]);
         let r = lent_step(t, p, a);
         let answer = r.answer;
         let number = parts::answer_number(answer) as u64;
@@ -88,13 +94,7 @@ fn lent_steps(s: Stepped, a: Action, times: u32) -> u64 {
 
 // Steps over a lent list, which is made anew for each: the number answered and the messages left.
 #[no_mangle]
-pub extern "C" fn tarpudhriv_lent_steps(
-    file: &[u8],
-    kind: u64,
-    x: u64,
-    y: u64,
-    times: u32,
-) -> u64 {
+pub extern "C" fn tarpudhriv_lent_steps(file: &[u8], kind: u64, x: u64, y: u64, times: u32) -> u64 {
     lent_steps(loaded(file), action_of(kind, x, y), times)
 }
 
@@ -108,12 +108,8 @@ fn validity(s: Stepped, times: u32) -> u64 {
     let mut sum: u64 = 0;
     let mut i: u32 = 0;
     while i < times {
-        let mut v = t.nodes[63];
-        v.grant = v.grant ^ 1;
-        t.nodes[63] = v;
-        let mut m = p.places[255];
-        m.word = m.word ^ 1;
-        p.places[255] = m;
+        t.nodes[63] = turned_node(t.nodes[63]);
+        p.places[255] = turned_message(p.places[255]);
         let x = one_if(valid::is_valid(t, p)) % 2;
         sum = (sum + x) % 4294967296;
         i += 1;
@@ -155,12 +151,8 @@ fn writes(s: Stepped, out: &mut [u8], times: u32) -> u64 {
     let mut sum: u64 = 0;
     let mut i: u32 = 0;
     while i < times {
-        let mut v = t.nodes[63];
-        v.grant = v.grant ^ 1;
-        t.nodes[63] = v;
-        let mut m = p.places[255];
-        m.word = m.word ^ 1;
-        p.places[255] = m;
+        t.nodes[63] = turned_node(t.nodes[63]);
+        p.places[255] = turned_message(p.places[255]);
         let x = told(writer::write(t, p, 256, out)) % 131072;
         sum = (sum + x) % 4294967296;
         i += 1;

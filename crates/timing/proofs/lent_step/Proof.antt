@@ -19,7 +19,8 @@ use prog.Wp.{Heap, Calls, Loops, WpFn, Tables}
 use ghost.Atoms.{Atoms, sem}
 use contract.Monad.{Fun, fact}
 use contract.Running.{givenOf as the-given, tables, tablesOf}
-use types.Kit.{Given, ‵, raw, _⊛_, some, later, ⋆, _$_, _∵_, !, qed, by, move, drop, use1, use2, use3, pick, feqL, await, split, join, rewrite, fsplit, fjoin, suffices, frame, done}
+use types.Kit.{Given, ‵, raw, _⊛_, some, later, ⋆, _$_, _∵_, !, qed, by, move, drop, use1, use2, use3, pick, feqL, await, split, join}
+use types.Kit.{rewrite, fsplit, fjoin, suffices, frame, done}
 use types.Part.{agg, whole, sub, look-in}
 use types.Run.{look, init, stop, fld, from, load, lit, of-opd, addr, and-then, no-more, land, assigns, returns, enter, alloc1, alloc0, params1, pass1, pass0}
 use types.Tokens.{lft-new, lft-end}
@@ -100,7 +101,8 @@ module _ {M : Type 1} (𝓤 : URA M) (H : Heap 𝓤) (A : Atoms 𝓤) (mem : Mem
   Stepping = tripleOf 𝓤 H A step.signature (step.spec 𝓤 H A mem run)
 
 module _ {M : Type 1} (𝓤 : URA M) (H : Heap 𝓤) (A : Atoms 𝓤) (W : Given 𝓤 H A) (mem : Memory → SProp 𝓤) (run : Routine → Fun 𝓤)
-    (t : Table) (p : Pool) (act : Action) (it : Is B.the-row t (machB t ∷ [])) (ip : Is P.the-row p (machP p ∷ [])) (ia : Is N.the-row act (machN act ∷ [])) where
+    (t : Table) (p : Pool) (act : Action)
+    (it : Is B.the-row t (machB t ∷ [])) (ip : Is P.the-row p (machP p ∷ [])) (ia : Is N.the-row act (machN act ∷ [])) where
   abbrev n : ℕ
   n = p .count
 
@@ -180,14 +182,16 @@ module _ {M : Type 1} (𝓤 : URA M) (H : Heap 𝓤) (A : Atoms 𝓤) (W : Given
         -- [the callee's; the lender's part; _6; …; _5; …; what frees _4; _3; …; _0; …]
         calls-at ! fm (Stepping 𝓤 H A mem run) known-step (to-step l₄ ν δ)
         (and-then ! (load ! (from ! (stop !)) (look ! 11 refl)) (and-then ! (load ! (from ! (stop !)) (look ! 2 refl))
-        (and-then ! (load ! (from ! (fld ! refl (stop !))) (look-in ! 9 (sub ! 0 refl (whole !)))) (and-then ! (load ! (from ! (stop !)) (look ! 7 refl)) (no-more !)))))
+        (and-then ! (load ! (from ! (fld ! refl (stop !))) (look-in ! 9 (sub ! 0 refl (whole !))))
+        (and-then ! (load ! (from ! (stop !)) (look ! 7 refl)) (no-more !)))))
         (λ v₂.
         use1 W (later (some (λ (r : Reply). ((‵ (flft (ν ∷ []) fullShare) ⊛ ‵ ftrue) ⊛ ‵ (R.the-row .own r (v₂ ∷ [])))
         ⊛ raw (ensured 𝓤 H A step.ended (step.clauses 𝓤 H A mem run) (ν ∷ [], tt) (t, (x l₄ δ, (n, (act, tt)))) tt r)))) (id⊢ 𝓤 _) $ await ! tt $ pick ! (λ r.
         split ! $ move ! (1 ∷ []) $
         use1 W (some (λ (zs : Unit {0} × (List Message × (Unit {0} × (Unit {0} × Unit {0})))).
-        ‵ (lasts step.ended (ν ∷ [], tt) (t, (x l₄ δ, (n, (act, tt)))) zs) ⊛ raw (fact 𝓤 (Handed (lentStep t ys n act) ys (zs .1 .0) r)))) (id⊢ 𝓤 _) $ pick ! (λ zs.
-        split ! $ move ! (1 ∷ []) $ heard ! (Handed (lentStep t ys n act) ys (zs .1 .0) r) (λ e. fsplit ! $ drop ! $ fsplit ! $ fsplit ! $ move ! (1 ∷ []) $ feqL ! (λ lz.
+        ‵ (lasts step.ended (ν ∷ [], tt) (t, (x l₄ δ, (n, (act, tt)))) zs) ⊛ raw (fact 𝓤 (Handed (lentStep t ys n act) ys (zs .1 .0) r)))) (id⊢ 𝓤 _) $
+        pick ! (λ zs. split ! $ move ! (1 ∷ []) $ heard ! (Handed (lentStep t ys n act) ys (zs .1 .0) r) (λ e.
+        fsplit ! $ drop ! $ fsplit ! $ fsplit ! $ move ! (1 ∷ []) $ feqL ! (λ lz.
         move ! (2 ∷ []) $ split ! $ move ! (1 ∷ []) $ facts ! R.the-row (Is R.the-row) (shows 𝓤 H A R.the-row) r (v₂ ∷ []) (λ ir.
         split ! $ lft-end ! tt $ move ! (0 ∷ 4 ∷ 2 ∷ []) $
         use3 W (later (‵ (froom (tyArray T′.mir 256) l₄ 0))) (local-back 𝓤 H A W T.the-row tt 256 (ν ∷ []) l₄ 0 δ (zs .1 .0)) $ await ! tt $

@@ -13,17 +13,23 @@ abbrev μ-loop : tie.MeasureT-loop
 loop-holds : tie.Need-loop-holds Inv-loop μ-loop
 loop-holds c = search needs
 
-element-copy-out-v : tie.Need-element-copy-out-v Inv-loop μ-loop
-element-copy-out-v c = search needs
+element-copy-out-turned-node : tie.Need-element-copy-out-turned-node Inv-loop μ-loop
+element-copy-out-turned-node c = search needs
 
-element-set-from-v : tie.Need-element-set-from-v Inv-loop μ-loop
-element-set-from-v c = search needs
+turned-node-requires : tie.Need-turned-node-requires Inv-loop μ-loop
+turned-node-requires c κs = search needs
 
-element-copy-out-m : tie.Need-element-copy-out-m Inv-loop μ-loop
-element-copy-out-m c = search needs
+element-set-from-t : tie.Need-element-set-from-t Inv-loop μ-loop
+element-set-from-t c = search needs
 
-element-set-from-m : tie.Need-element-set-from-m Inv-loop μ-loop
-element-set-from-m c = search needs
+element-copy-out-turned-message : tie.Need-element-copy-out-turned-message Inv-loop μ-loop
+element-copy-out-turned-message c = search needs
+
+turned-message-requires : tie.Need-turned-message-requires Inv-loop μ-loop
+turned-message-requires c κs = search needs
+
+element-set-from-p : tie.Need-element-set-from-p Inv-loop μ-loop
+element-set-from-p c = search needs
 
 lent-step-requires : tie.Need-lent-step-requires Inv-loop μ-loop
 lent-step-requires c κs = search needs
@@ -59,10 +65,12 @@ lent-steps-spec =
     Inv-loop
     μ-loop
     loop-holds
-    element-copy-out-v
-    element-set-from-v
-    element-copy-out-m
-    element-set-from-m
+    element-copy-out-turned-node
+    turned-node-requires
+    element-set-from-t
+    element-copy-out-turned-message
+    turned-message-requires
+    element-set-from-p
     lent-step-requires
     answer-number-requires
     cast-number
