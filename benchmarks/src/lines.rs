@@ -1,4 +1,5 @@
-//! What is measured: calls on table files of 64 nodes. In every file place 255, where it is taken, has a lookup with an even key, as crate `timing` asks.
+//! What is measured: calls on table files of 64 nodes. In every file place 255, where it is taken, has a
+//! lookup with an even key, as crate `timing` asks.
 
 use model::{start, step, write, Action, Message, Pool, Sides, Status, Table, EMPTY_POOL, LARGEST};
 
@@ -87,20 +88,31 @@ fn lookups(first: Message, count: usize) -> Vec<u8> {
 /// What is measured.
 pub fn all() -> Vec<Line> {
     let table = ring();
-    let routed = Message::Lookup { to: 0, key: table.nodes[30].id & !1 };
-    let delivered = Message::Lookup { to: 30, key: table.nodes[30].id & !1 };
-    let told = ALONE + 1;
-    let probe = Message::LsProbe { to: ALONE as u8, node: told as u8, sides: table.nodes[told].sides, failed: 0 };
+    let key = table.nodes[30].id & !1;
+    let (routed, delivered) = (Message::Lookup { to: 0, key }, Message::Lookup { to: 30, key });
+    let (to, node, sides) = (ALONE as u8, ALONE as u8 + 1, table.nodes[ALONE + 1].sides);
+    let probe = Message::LsProbe { to, node, sides, failed: 0 };
+    let request_lease = Call::Step(3, NOT_READY as u64, 0);
     let line = |name, call, file| Line { name, call, file, most: None, core: None };
     let within = |most, line: Line| Line { most: Some(most), ..line };
-    let lines = vec![
+    let mut lines = vec![
         line("Take of a routed lookup, 1 message", TAKE_OLDEST, lookups(routed, 1)),
         line("Take of a routed lookup, 256 lookups", TAKE_OLDEST, lookups(routed, 256)),
         line("Take of a delivered lookup, 1 message", TAKE_OLDEST, lookups(delivered, 1)),
         within(3.0, line("Take of a delivered lookup, 256 lookups", TAKE_OLDEST, lookups(delivered, 256))),
-        within(3.0, line("Take of a delivered lookup, 256 of all kinds", TAKE_OLDEST, file(delivered, 256, mixed))),
-        within(5.0, line("Take of an LSProbe, 15 probes sent, 241 of all kinds", TAKE_OLDEST, file(probe, 241, mixed))),
-        line("RequestLease, 2 messages sent, 254 lookups", Call::Step(3, NOT_READY as u64, 0), lookups(routed, 254)),
+        within(
+            3.0,
+            line("Take of a delivered lookup, 256 of all kinds", TAKE_OLDEST, file(delivered, 256, mixed)),
+        ),
+        within(
+            5.0,
+            line(
+                "Take of an LSProbe, 15 probes sent, 241 of all kinds",
+                TAKE_OLDEST,
+                file(probe, 241, mixed),
+            ),
+        ),
+        line("RequestLease, 2 messages sent, 254 lookups", request_lease, lookups(routed, 254)),
         line("Validity, 256 lookups", Call::Validity, lookups(routed, 256)),
         line("Validity, 256 of all kinds", Call::Validity, file(routed, 256, mixed)),
         line("Load, 256 of all kinds", Call::Load, file(routed, 256, mixed)),
@@ -108,7 +120,17 @@ pub fn all() -> Vec<Line> {
         line("Listing, 256 lookups", Call::List, lookups(routed, 256)),
     ];
     check_sent(&lines);
+    for core in [0, 4, 5] {
+        lines.push(lent(&lines[core], core));
+    }
     lines
+}
+
+/// The step of a line over a lent list.
+fn lent(line: &Line, core: usize) -> Line {
+    let Call::Step(kind, x, y) = line.call else { panic!("{} is no step", line.name) };
+    let call = Call::LentStep(kind, x, y);
+    Line { name: line.name, call, file: line.file.clone(), most: None, core: Some(core) }
 }
 
 /// The names say how many messages the steps send.

@@ -4,6 +4,7 @@ use crate::lines::{Call, Line};
 
 extern "C" {
     fn tarpudhriv_steps(file: *const u8, len: usize, kind: u64, x: u64, y: u64, times: u32) -> u64;
+    fn tarpudhriv_lent_steps(file: *const u8, len: usize, kind: u64, x: u64, y: u64, times: u32) -> u64;
     fn tarpudhriv_validity(file: *const u8, len: usize, times: u32) -> u64;
     fn tarpudhriv_loads(file: *const u8, len: usize, times: u32) -> u64;
     fn tarpudhriv_writes(file: *const u8, len: usize, out: *mut u8, room: usize, times: u32) -> u64;
@@ -19,7 +20,7 @@ pub fn run(line: &Line, times: u32, out: &mut [u8]) -> u64 {
     unsafe {
         match line.call {
             Call::Step(kind, x, y) => tarpudhriv_steps(file, len, kind, x, y, times),
-            Call::LentStep(kind, x, y) => tarpudhriv_steps(file, len, kind, x, y, times),
+            Call::LentStep(kind, x, y) => tarpudhriv_lent_steps(file, len, kind, x, y, times),
             Call::Validity => tarpudhriv_validity(file, len, times),
             Call::Load => tarpudhriv_loads(file, len, times),
             Call::Write => tarpudhriv_writes(file, len, to, room, times),

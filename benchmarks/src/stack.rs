@@ -1,4 +1,5 @@
-//! Stack used by a step: the stack below is painted, the call made, and then one looks how deep the paint is gone.
+//! Stack used by a step: the stack below is painted, the call made, and then one looks how deep the paint is
+//! gone.
 
 use benchmarks::lines::{Call, Line};
 use benchmarks::{measured, model_side, room, Side};
@@ -38,7 +39,8 @@ fn used(call: &mut dyn FnMut()) -> usize {
 }
 
 fn frame(function: &str) -> Option<usize> {
-    let line = FRAMES.lines().find(|line| line.split('\t').next().is_some_and(|at| at.ends_with(function)))?;
+    let line =
+        FRAMES.lines().find(|line| line.split('\t').next().is_some_and(|at| at.ends_with(function)))?;
     line.split('\t').nth(1)?.parse().ok()
 }
 

@@ -4,7 +4,8 @@ use crate::counts::Each;
 use crate::stack::Stack;
 use benchmarks::lines::Line;
 
-/// What was measured, by line, and for each line by side: the proved call, the model's, and what puts the model's table back.
+/// What was measured, by line, and for each line by side: the proved call, the model's, and what puts the
+/// model's table back.
 pub struct Figures {
     pub times: Vec<[f64; 3]>,
     pub counts: Option<Vec<Each>>,
@@ -16,7 +17,11 @@ pub struct Figures {
 fn grouped(number: u64) -> String {
     let digits = number.to_string();
     let comma = |at: usize| at > 0 && (digits.len() - at) % 3 == 0;
-    digits.chars().enumerate().flat_map(|(at, digit)| comma(at).then_some(',').into_iter().chain([digit])).collect()
+    digits
+        .chars()
+        .enumerate()
+        .flat_map(|(at, digit)| comma(at).then_some(',').into_iter().chain([digit]))
+        .collect()
 }
 
 fn kilobytes(bytes: usize) -> String {
@@ -43,12 +48,17 @@ impl Figures {
         };
         let [moved, by_model, put_back] = self.moved[at];
         let bytes = format!("{} | {}", grouped(by_model - put_back), grouped(moved));
-        format!("| {} | {model:.2} | {proved:.2}{goal} | **{:.2}** | {counts} | {bytes} |", line.name, proved / model)
+        let lent = if line.core.is_some() { "Over a lent list: " } else { "" };
+        format!(
+            "| {lent}{} | {model:.2} | {proved:.2}{goal} | **{:.2}** | {counts} | {bytes} |",
+            line.name,
+            proved / model
+        )
     }
 
     pub fn print(&self, lines: &[Line]) {
-        println!("| call | model µs | proved µs | ratio | model instructions | proved instructions | ratio | model bytes moved | proved bytes moved |");
-        println!("|---|---|---|---|---|---|---|---|---|");
+        print!("| call | model µs | proved µs | ratio | model instructions | proved instructions | ratio ");
+        println!("| model bytes moved | proved bytes moved |\n|---|---|---|---|---|---|---|---|---|");
         lines.iter().enumerate().for_each(|(at, line)| println!("{}", self.row(at, line)));
         self.print_lent(lines);
         self.print_stack(lines);
@@ -64,7 +74,9 @@ impl Figures {
     }
 
     fn print_stack(&self, lines: &[Line]) {
-        println!("\n| step | model KB | proved KB | proved, with the loop that calls it KB |\n|---|---|---|---|");
+        println!(
+            "\n| step | model KB | proved KB | proved, with the loop that calls it KB |\n|---|---|---|---|"
+        );
         for (line, stack) in lines.iter().zip(&self.stack) {
             let Some(Stack { model, whole, step }) = *stack else { continue };
             let step = step.map_or("within the loop".to_string(), kilobytes);

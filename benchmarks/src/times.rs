@@ -1,4 +1,5 @@
-//! CPU time of one round: the least of many short batches, the sides in turn, the lines gone through several times over.
+//! CPU time of one round: the least of many short batches, the sides in turn, the lines gone through several
+//! times over.
 
 use benchmarks::lines::Line;
 use benchmarks::{measured, room, Side};

@@ -1,4 +1,5 @@
-//! Bytes handed to memcpy, memmove and memset by one round of each side: the linker sends their calls here first.
+//! Bytes handed to memcpy, memmove and memset by one round of each side: the linker sends their calls here
+//! first.
 //! Copies that the compiler makes without a call are not counted.
 
 use benchmarks::lines::{self, Line};
@@ -47,8 +48,10 @@ fn bytes(side: Side, line: &Line, times: u32) -> u64 {
 
 fn main() {
     for line in lines::all() {
-        let each: Vec<String> =
-            Side::ALL.iter().map(|&side| (bytes(side, &line, 3) - bytes(side, &line, 2)).to_string()).collect();
+        let each: Vec<String> = Side::ALL
+            .iter()
+            .map(|&side| (bytes(side, &line, 3) - bytes(side, &line, 2)).to_string())
+            .collect();
         println!("{}", each.join(" "));
     }
 }

@@ -61,7 +61,7 @@ use Rattle.bench.specs.Lent.{lentStep, replyOf, Handed}
 use Rattle.bench.proofs.Reply as R
 use Rattle.bench.proofs.Reply.Laws as R′
 use Rattle.bench.proofs.Shape.{machP, words, Goods, goods-of, full-of}
-use Rattle.bench.proofs.Walk.{loc, releases, has-struct, has-enum, has-word}
+use Rattle.bench.proofs.Walk.{releases, has-struct, has-enum, has-word}
 use Rattle.bench.proofs.step as step
 use Rattle.bench.proofs.step.Symbol as step-def
 use Rattle.bench.proofs.step.Symbol.{name as #step}
