@@ -29,5 +29,5 @@ fn main() {
     lines.iter().for_each(check_same);
     let times = times::of(&lines);
     let (counts, moved, stack) = (counts::of(&lines), counts::moved(), stack::of(&lines));
-    table::Figures { times, counts, moved, stack }.print(&lines);
+    table::Figures { times, counts, moved, stack, copy: times::of_a_copy() }.print(&lines);
 }

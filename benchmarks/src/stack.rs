@@ -17,7 +17,7 @@ pub struct Stack {
     pub model: usize,
     /// A loop of crate `timing` that makes one step, with all that it calls.
     pub whole: usize,
-    /// The part of it that the step takes; none where the compiler has put the step into the loop.
+    /// The part of it below the loop's own frame; none where that is not known.
     pub step: Option<usize>,
 }
 
@@ -56,14 +56,19 @@ fn of_line(line: &Line, nothing: usize) -> Option<Stack> {
         let (table, pool) = &mut *held;
         black_box(model::step(table, pool, action)).expect("it is done");
     }) - nothing;
-    let step = frame(":step::step").and_then(|_| Some(whole - frame(":tarpudhriv_steps")?));
+    let step = frame(":tarpudhriv_steps").map(|own| whole - own);
     Some(Stack { model, whole, step })
 }
 
-/// For each line that is a step, the stack that it uses, less that of a call that does nothing.
-pub fn of(lines: &[Line]) -> Vec<Option<Stack>> {
+/// The most stack that the steps of these lines use, less that of a call that does nothing.
+pub fn of(lines: &[Line]) -> Stack {
     let nothing = used(&mut || {
         black_box(0);
     });
-    lines.iter().map(|line| of_line(line, nothing)).collect()
+    let more = |a: Stack, b: Stack| Stack {
+        model: a.model.max(b.model),
+        whole: a.whole.max(b.whole),
+        step: a.step.max(b.step),
+    };
+    lines.iter().filter_map(|line| of_line(line, nothing)).reduce(more).expect("there are steps")
 }

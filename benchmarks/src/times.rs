@@ -8,6 +8,8 @@ use std::hint::black_box;
 const PASSES: usize = 20;
 const BATCHES: usize = 60;
 const BATCH_NANOSECONDS: f64 = 120_000.0;
+/// The bytes of a proved pool: a count, and 256 messages of 56 bytes.
+pub const POOL: usize = 8 + 256 * 56;
 
 #[repr(C)]
 struct TimeSpec {
@@ -58,6 +60,21 @@ impl Least {
     fn microseconds(&self) -> f64 {
         (self.batch - self.none) / f64::from(self.rounds) / 1000.0
     }
+}
+
+/// Microseconds to copy the bytes of a pool from each of 16 to the next, as a step goes through its stack.
+pub fn of_a_copy() -> f64 {
+    const POOLS: usize = 16;
+    const TURNS: usize = 100;
+    let mut pools = vec![1u8; POOLS * POOL];
+    let mut batch = || {
+        let begun = now();
+        for at in (0..TURNS * POOLS).map(|turn| turn % (POOLS - 1)) {
+            black_box(&mut pools).copy_within(at * POOL..(at + 1) * POOL, (at + 1) * POOL);
+        }
+        now() - begun
+    };
+    (0..100).map(|_| batch()).fold(f64::MAX, f64::min) / (TURNS * POOLS) as f64 / 1000.0
 }
 
 /// For each line, the microseconds of one round of each side.
