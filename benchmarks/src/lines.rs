@@ -71,8 +71,8 @@ fn mixed(table: &Table, place: usize) -> Message {
 fn file(first: Message, count: usize, other: impl Fn(&Table, usize) -> Message) -> Vec<u8> {
     let (mut table, mut pool) = (ring(), EMPTY_POOL);
     pool[0] = first;
-    for place in 1..count {
-        pool[place] = other(&table, place);
+    for (place, message) in pool[..count].iter_mut().enumerate().skip(1) {
+        *message = other(&table, place);
     }
     table.count = count;
     let mut bytes = vec![0; LARGEST];

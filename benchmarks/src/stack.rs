@@ -19,6 +19,8 @@ pub struct Stack {
     pub whole: usize,
     /// The part of it below the loop's own frame; none where that is not known.
     pub step: Option<usize>,
+    /// Whether the load before the step uses as much, so that the step may use less.
+    pub at_most: bool,
 }
 
 #[inline(never)]
@@ -47,9 +49,12 @@ fn frame(function: &str) -> Option<usize> {
 fn of_line(line: &Line, nothing: usize) -> Option<Stack> {
     let Call::Step(kind, x, y) = line.call else { return None };
     let mut out = room();
-    let whole = used(&mut || {
-        black_box(measured(Side::Proved, line, 1, &mut out));
-    }) - nothing;
+    let mut proved = |times| {
+        used(&mut || {
+            black_box(measured(Side::Proved, line, times, &mut out));
+        }) - nothing
+    };
+    let (load, whole) = (proved(0), proved(1));
     let action = model_side::action(kind, x, y);
     let mut held = Box::new(model_side::loaded(&line.file));
     let model = used(&mut || {
@@ -57,7 +62,7 @@ fn of_line(line: &Line, nothing: usize) -> Option<Stack> {
         black_box(model::step(table, pool, action)).expect("it is done");
     }) - nothing;
     let step = frame(":tarpudhriv_steps").map(|own| whole - own);
-    Some(Stack { model, whole, step })
+    Some(Stack { model, whole, step, at_most: load >= whole })
 }
 
 /// The most stack that the steps of these lines use, less that of a call that does nothing.
@@ -69,6 +74,7 @@ pub fn of(lines: &[Line]) -> Stack {
         model: a.model.max(b.model),
         whole: a.whole.max(b.whole),
         step: a.step.max(b.step),
+        at_most: a.at_most && b.at_most,
     };
     lines.iter().filter_map(|line| of_line(line, nothing)).reduce(more).expect("there are steps")
 }

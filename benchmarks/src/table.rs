@@ -22,7 +22,7 @@ pub struct Figures {
 /// A number with a comma before each three digits.
 fn grouped(number: u64) -> String {
     let digits = number.to_string();
-    let comma = |at: usize| at > 0 && (digits.len() - at) % 3 == 0;
+    let comma = |at: usize| at > 0 && (digits.len() - at).is_multiple_of(3);
     digits
         .chars()
         .enumerate()
@@ -89,9 +89,10 @@ impl Figures {
             grouped(POOL as u64),
             self.copy
         );
-        let Stack { model, whole, step } = self.stack;
+        let Stack { model, whole, step, at_most } = self.stack;
         let (model, whole) = (kilobytes(model), kilobytes(whole));
-        let step = step.map_or("unknown".to_string(), |step| format!("{:.1} KB", kilobytes(step)));
+        let most = if at_most { "at most " } else { "" };
+        let step = step.map_or("unknown".to_string(), |step| format!("{most}{:.1} KB", kilobytes(step)));
         print!("- Stack of a step, the most of those above: model {model:.1} KB, proved {step} ");
         println!(
             "(goal {GOAL_STACK} KB), and {whole:.1} KB with the loop that holds the table and the pool."
