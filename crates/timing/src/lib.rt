@@ -1,6 +1,16 @@
-// For measuring: one action made again and again on the table of a file.
+// For measuring: one call again and again, on what a table file holds; the sum of what the rounds answer. Each round first turns the lowest bit of
+// the last node's grant and of the last place's word, so that no round is the one before it over again. A file of 64 nodes stays valid under that if
+// its place 255, where it is taken, has a lookup.
+ghost use mathlib.Core.Path.{_≡_};
+ghost use Rattle.bench.specs.Lent.{lentStep, replyOf};
+use bench::Reply;
+use format::Wrote;
 use rules::Action;
+use rules::Message;
+use rules::Node;
 use rules::Pool;
+use rules::Refusal;
+use table::Stepped;
 use table::Table;
 
 fn action_of(kind: u64, x: u64, y: u64) -> Action {
@@ -16,27 +26,155 @@ fn action_of(kind: u64, x: u64, y: u64) -> Action {
     }
 }
 
-fn spin(t: Table, p: Pool, a: Action, times: u32) -> u64 {
+fn turned_node(v: Node) -> Node {
+    let mut u = v;
+    u.grant = u.grant ^ 1;
+    u
+}
+
+fn turned_message(m: Message) -> Message {
+    let mut u = m;
+    u.word = u.word ^ 1;
+    u
+}
+
+fn loaded(file: &[u8]) -> Stepped {
+    let none = table::not_started(Refusal::Invalid);
+    reader::load(file, none.table, entry::no_messages(), 256)
+}
+
+fn steps(s: Stepped, a: Action, times: u32) -> u64 {
+    let mut t = s.table;
+    let mut p = s.pool;
     let mut sum: u64 = 0;
     let mut i: u32 = 0;
     while i < times {
+        t.nodes[63] = turned_node(t.nodes[63]);
+        p.places[255] = turned_message(p.places[255]);
         let r = step::step(t, p, 256, a);
         let answer = r.answer;
-        sum = (sum + parts::answer_number(answer) as u64) % 65536;
+        let q = r.pool;
+        let number = parts::answer_number(answer) as u64;
+        sum = (sum + number + q.count as u64 % 65536) % 4294967296;
         i += 1;
     }
     sum
 }
 
-// The sum of the numbers answered.
+// Steps by value: the number answered and the messages left.
 #[no_mangle]
-pub extern "C" fn tarpudhriv_spin(file: &[u8], kind: u64, x: u64, y: u64, times: u32) -> u64 {
-    let none = entry::no_messages();
-    let ids = [0u32; 1];
-    let blank = Table::start(0, 0, &ids, 0);
-    let nothing = blank.table;
-    let s = reader::load(file, nothing, none, 256);
-    let t = s.table;
-    let p = s.pool;
-    spin(t, p, action_of(kind, x, y), times)
+pub extern "C" fn tarpudhriv_steps(file: &[u8], kind: u64, x: u64, y: u64, times: u32) -> u64 {
+    steps(loaded(file), action_of(kind, x, y), times)
+}
+
+// A step over a list of its own, lent for the call.
+fn lent_step(t: Table, p: Pool, a: Action) -> Reply
+    ensures { λ r. ⌜ r ≡ replyOf (lentStep t (p .places) (p .count) a) ⌝ }
+{
+    let mut places = p.places;
+    bench::step(t, &mut places, p.count, a)
+}
+
+fn lent_steps(s: Stepped, a: Action, times: u32) -> u64 {
+    let mut t = s.table;
+    let mut p = s.pool;
+    let mut sum: u64 = 0;
+    let mut i: u32 = 0;
+    while i < times {
+        t.nodes[63] = turned_node(t.nodes[63]);
+        p.places[255] = turned_message(p.places[255]);
+        let r = lent_step(t, p, a);
+        let answer = r.answer;
+        let number = parts::answer_number(answer) as u64;
+        sum = (sum + number + r.count as u64 % 65536) % 4294967296;
+        i += 1;
+    }
+    sum
+}
+
+// Steps over a lent list, which is made anew for each: the number answered and the messages left.
+#[no_mangle]
+pub extern "C" fn tarpudhriv_lent_steps(file: &[u8], kind: u64, x: u64, y: u64, times: u32) -> u64 {
+    lent_steps(loaded(file), action_of(kind, x, y), times)
+}
+
+fn one_if(ok: bool) -> u64 {
+    if ok { 1 } else { 0 }
+}
+
+fn validity(s: Stepped, times: u32) -> u64 {
+    let mut t = s.table;
+    let mut p = s.pool;
+    let mut sum: u64 = 0;
+    let mut i: u32 = 0;
+    while i < times {
+        t.nodes[63] = turned_node(t.nodes[63]);
+        p.places[255] = turned_message(p.places[255]);
+        let x = one_if(valid::is_valid(t, p)) % 2;
+        sum = (sum + x) % 4294967296;
+        i += 1;
+    }
+    sum
+}
+
+// Validity: 1 for a valid table.
+#[no_mangle]
+pub extern "C" fn tarpudhriv_validity(file: &[u8], times: u32) -> u64 {
+    validity(loaded(file), times)
+}
+
+// Loads: the number answered and the messages loaded.
+#[no_mangle]
+pub extern "C" fn tarpudhriv_loads(file: &[u8], times: u32) -> u64 {
+    let mut sum: u64 = 0;
+    let mut i: u32 = 0;
+    while i < times {
+        let r = loaded(file);
+        let answer = r.answer;
+        let q = r.pool;
+        let number = parts::answer_number(answer) as u64;
+        sum = (sum + number + q.count as u64 % 65536) % 4294967296;
+        i += 1;
+    }
+    sum
+}
+
+fn told(w: Wrote) -> u64 {
+    let answer = w.answer;
+    let number = parts::answer_number(answer) as u64;
+    number % 16 + w.count as u64 % 65536
+}
+
+fn writes(s: Stepped, out: &mut [u8], times: u32) -> u64 {
+    let mut t = s.table;
+    let mut p = s.pool;
+    let mut sum: u64 = 0;
+    let mut i: u32 = 0;
+    while i < times {
+        t.nodes[63] = turned_node(t.nodes[63]);
+        p.places[255] = turned_message(p.places[255]);
+        let x = told(writer::write(t, p, 256, out)) % 131072;
+        sum = (sum + x) % 4294967296;
+        i += 1;
+    }
+    sum
+}
+
+// Writes: the number answered and the bytes written.
+#[no_mangle]
+pub extern "C" fn tarpudhriv_writes(file: &[u8], out: &mut [u8], times: u32) -> u64 {
+    writes(loaded(file), out, times)
+}
+
+// Listings: the number answered and the bytes written.
+#[no_mangle]
+pub extern "C" fn tarpudhriv_lists(file: &[u8], out: &mut [u8], times: u32) -> u64 {
+    let mut sum: u64 = 0;
+    let mut i: u32 = 0;
+    while i < times {
+        let x = told(listing::list(file, out)) % 131072;
+        sum = (sum + x) % 4294967296;
+        i += 1;
+    }
+    sum
 }

@@ -73,10 +73,11 @@ plan-of-take-requires c κs =
     let s = c .before .before in
     let e = c .enum-told .given .1 in
     let h = ltb-true _ _ (ranged s _ e) in
-    let m = sym (s .pre .2 ∙ ap (tookOf (s .args .p)) e) in
-    (sound _ _ (s .pre .0) .listed,
+    let m = sym (s .pre .2 ∙ ap (tookOf (s .args .p)) e) in (
+      sound _ _ (s .pre .0) .listed,
       subst (λ (x : Message). x .dest < s .args .t .n) m (took-dest _ _ (s .pre .0) _ h),
-      subst (λ (x : Message). messageFits (ringOf (s .args .t)) x ≡ true) m (took-fits _ _ (s .pre .0) _ h))
+      subst (λ (x : Message). messageFits (ringOf (s .args .t)) x ≡ true) m (took-fits _ _ (s .pre .0) _ h),
+    )
 
 returns : tie.Need-returns
 returns c = c .plan-of-lookup .ensures ∙ ap (planOf _ _ _) (sym (c .before .before .a .given .1))

@@ -1,29 +1,32 @@
--- `timing::spin` is safe and ends. Assumes nothing.
+-- `timing::tarpudhriv_loads` is safe and ends: the measure is the rounds left. Assumes nothing.
 use borrow.Author.Needs.{needs}
 use Prim.Native.Nat.{_-_, _<_, _≤_}
-use Rattle.timing.proofs.spin.Statement.{statement}
-use Rattle.timing.proofs.spin.Tie as tie
+use Rattle.timing.proofs.tarpudhriv_loads.Statement.{statement}
+use Rattle.timing.proofs.tarpudhriv_loads.Tie as tie
 
 abbrev Inv-loop : tie.InvT-loop
-Inv-loop t p a times sum₀ i₀ sum i = (sum < 65536) × (i ≤ times)
+Inv-loop file times sum₀ i₀ sum i = (sum < 4294967296) × (i ≤ times)
 
 abbrev μ-loop : tie.MeasureT-loop
-μ-loop t p a times sum₀ i₀ sum i = times - i
+μ-loop file times sum₀ i₀ sum i = times - i
 
 loop-holds : tie.Need-loop-holds Inv-loop μ-loop
 loop-holds c = search needs
 
-step-requires : tie.Need-step-requires Inv-loop μ-loop
-step-requires c κs = search needs
+loaded-requires : tie.Need-loaded-requires Inv-loop μ-loop
+loaded-requires c κs = search needs
 
 answer-number-requires : tie.Need-answer-number-requires Inv-loop μ-loop
 answer-number-requires c κs = search needs
 
-cast-sum : tie.Need-cast-sum Inv-loop μ-loop
-cast-sum c = search needs
+cast-number : tie.Need-cast-number Inv-loop μ-loop
+cast-number c = search needs
 
 add-sum : tie.Need-add-sum Inv-loop μ-loop
 add-sum c = search needs
+
+add-sum-2 : tie.Need-add-sum-2 Inv-loop μ-loop
+add-sum-2 c = search needs
 
 add-i : tie.Need-add-i Inv-loop μ-loop
 add-i c = search needs
@@ -37,17 +40,18 @@ loop-again c = search needs
 returns : tie.Need-returns Inv-loop μ-loop
 returns c = search needs
 
-pub spin-spec : {M : Type 1} → statement M
-spin-spec =
+pub tarpudhriv-loads-spec : {M : Type 1} → statement M
+tarpudhriv-loads-spec =
     tie.close
     (tie.spec
     Inv-loop
     μ-loop
     loop-holds
-    step-requires
+    loaded-requires
     answer-number-requires
-    cast-sum
+    cast-number
     add-sum
+    add-sum-2
     add-i
     loop-less
     loop-again
