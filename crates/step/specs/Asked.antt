@@ -1,23 +1,25 @@
--- The step in the order in which the code makes it: which message goes, at which node, what is planned there; then the plan is carried out (Settles has the law).
+-- The step in the order in which the code makes it: what the action comes to is told first, then carried out (Settles has the law).
 -- Definitions only. Assumes nothing.
 use mathlib.Core.Bool.{Bool, cond}
-use Prim.Native.Nat.{ℕ, _%_}
+use Prim.Native.Nat.{ℕ}
 use Rattle.rules.specs.declared.Action.{Action}
 use Rattle.rules.specs.declared.Action.the-variants.{Lookup, Join, RequestLease, LeaseExpired, GrantExpired, Take}
-use Rattle.rules.specs.declared.Message.{Message}
 use Rattle.rules.specs.declared.Planned.{Planned}
-use Rattle.rules.specs.declared.Planned.the-variants.{No, Go}
+use Rattle.rules.specs.declared.Planned.the-variants.{No}
 use Rattle.rules.specs.declared.Pool.{Pool}
+use Rattle.rules.specs.declared.Refusal.{Refusal}
 use Rattle.rules.specs.declared.Refusal.the-variants as no
-use Rattle.rules.specs.Actions.{waits, joinWaits, planLookup, planJoin, planRequestLease, planLeaseExpired, planGrantExpired}
-use Rattle.rules.specs.Letters.{lookup}
-use Rattle.rules.specs.Nodes.{placed}
-use Rattle.rules.specs.Pool.{waiting, messageAt}
-use Rattle.rules.specs.Take.{planTake}
 use Rattle.table.specs.declared.Table.{Table}
-use Rattle.table.specs.Settled.{deadSet}
 use Rattle.table.specs.Step.{inRange}
-use Rattle.table.specs.Table.{nodeAt, idsOf, ringOf}
+use Rattle.keeps.specs.By.{slotOf, plannedOf}
+use Rattle.step.specs.declared.Task.{Task}
+
+-- the slot whose node acts, the place whose message goes, and what is planned
+abbrev pub taskAt : ℕ → ℕ → Planned → Task
+taskAt slot gone what = record { slot = slot; gone = gone; what = what }
+
+abbrev pub refusingWith : Refusal → Task
+refusingWith why = taskAt 0 256 (No why)
 
 -- the place whose message goes; past every count where none does
 abbrev pub goneOf : Action → ℕ
@@ -28,30 +30,9 @@ goneOf (LeaseExpired i j) = 256
 goneOf (GrantExpired i j) = 256
 goneOf (Take place) = place
 
--- the message at that place; of no concern to actions other than Take
-abbrev pub tookOf : Pool → Action → Message
-tookOf p a = messageAt p (goneOf a % 256)
+abbrev pub taskOf : Table → Pool → Action → Task
+taskOf t p a = taskAt (slotOf p a) (goneOf a) (plannedOf t p a)
 
--- the node that acts
-abbrev pub slotOf : Action → Message → ℕ
-slotOf (Lookup i k) m = i
-slotOf (Join i seed) m = i
-slotOf (RequestLease i) m = i
-slotOf (LeaseExpired i j) m = i
-slotOf (GrantExpired i j) m = i
-slotOf (Take place) m = m .dest
-
-abbrev pub planTaken : Table → Message → Planned
-planTaken t m = planTake (m .kind) (ringOf t) (idsOf t) (deadSet t) (m .dest) (nodeAt t (m .dest)) m
-
-abbrev pub planOf : Table → Pool → Message → Action → Planned
-planOf t p m (Lookup i k) = planLookup (waits (waiting p) (placed (lookup k) i)) i k (nodeAt t i)
-planOf t p m (Join i seed) = planJoin (joinWaits (waiting p) i) i (nodeAt t i) seed (nodeAt t seed)
-planOf t p m (RequestLease i) = planRequestLease (ringOf t) (idsOf t) i (nodeAt t i)
-planOf t p m (LeaseExpired i j) = planLeaseExpired (ringOf t) (idsOf t) i (nodeAt t i) j
-planOf t p m (GrantExpired i j) = planGrantExpired i (nodeAt t i) j (nodeAt t j)
-planOf t p m (Take place) = planTaken t m
-
--- 10 before anything else, then 1, then what the action says
-unfoldable pub askedOf : Bool → Table → Pool → Message → Action → Planned
-askedOf sound t p m a = cond sound (cond (inRange t p a) (planOf t p m a) (No no.OutOfRange)) (No no.Invalid)
+-- 10 before anything else, then 1, then what the action comes to
+unfoldable pub askedOf : Bool → Table → Pool → Action → Task
+askedOf sound t p a = cond sound (cond (inRange t p a) (taskOf t p a) (refusingWith no.OutOfRange)) (refusingWith no.Invalid)

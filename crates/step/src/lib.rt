@@ -8,12 +8,13 @@ ghost use Rattle.rules.specs.Asks.{Listed};
 ghost use Rattle.rules.specs.Fits.{messageFits};
 ghost use Rattle.rules.specs.Letters.{lookup};
 ghost use Rattle.rules.specs.Nodes.{placed};
-ghost use Rattle.rules.specs.Pool.{waiting};
+ghost use Rattle.rules.specs.Pool.{waiting, messageAt};
 ghost use Rattle.rules.specs.Take.{planTake};
 ghost use Rattle.table.specs.Table.{idsOf, nodeAt, ringOf};
 ghost use Rattle.table.specs.Valid.{validOf};
 ghost use Rattle.table.specs.Step.{inRange, stepOf};
-ghost use Rattle.step.specs.Asked.{goneOf, tookOf, slotOf, planTaken, planOf, askedOf};
+ghost use Rattle.keeps.specs.By.{takenOf};
+ghost use Rattle.step.specs.Asked.{taskAt, refusingWith, taskOf, askedOf};
 use rules::Action;
 use rules::Message;
 use rules::Node;
@@ -44,7 +45,7 @@ fn plan_take(g: Ring, ids: &[u32; 64], dead: u64, i: usize, v: Node, m: Message)
 
 fn plan_of_take(t: Table, m: Message) -> Planned
     requires { ⌜ Listed (ringOf t) (idsOf t) × (m .dest < t .n) × (messageFits (ringOf t) m ≡ true) ⌝ }
-    ensures { λ r. ⌜ r ≡ planTaken t m ⌝ }
+    ensures { λ r. ⌜ r ≡ takenOf t m ⌝ }
 {
     let i = m.dest as usize;
     let v = table::node_at(t, i);
@@ -116,72 +117,77 @@ fn in_range(t: Table, p: Pool, a: Action) -> bool
     }
 }
 
-// What the action asks, on a valid table and in range; m is the message that it takes.
-fn plan_of(t: Table, p: Pool, m: Message, a: Action) -> Planned
-    requires { ⌜ (validOf t p ≡ true) × (inRange t p a ≡ true) × (m ≡ tookOf p a) ⌝ }
-    ensures { λ r. ⌜ r ≡ planOf t p m a ⌝ }
+// What an action comes to: the node that acts, the place whose message goes (past every count where none does), and what is planned.
+pub struct Task {
+    pub slot: usize,
+    pub gone: usize,
+    pub what: Planned,
+}
+
+pub fn task_at(slot: usize, gone: usize, what: Planned) -> Task
+    ensures { λ r. ⌜ r ≡ taskAt slot gone what ⌝ }
+{
+    Task { slot, gone, what }
+}
+
+pub fn refusing(why: Refusal) -> Task
+    ensures { λ r. ⌜ r ≡ refusingWith why ⌝ }
+{
+    task_at(0, 256, Planned::No(why))
+}
+
+fn message_at(p: Pool, place: usize) -> Message
+    requires { ⌜ place < 256 ⌝ }
+    ensures { λ r. ⌜ r ≡ messageAt p place ⌝ }
+{
+    p.places[place]
+}
+
+fn task_of_take(t: Table, p: Pool, place: usize) -> Task
+    requires { ⌜ (validOf t p ≡ true) × (place < p .count) ⌝ }
+    ensures { λ r. ⌜ r ≡ taskOf t p (Action.Take place) ⌝ }
+{
+    let m = message_at(p, place);
+    let what = plan_of_take(t, m);
+    task_at(m.dest as usize, place, what)
+}
+
+// What the action comes to, on a valid table and in range.
+fn task_of(t: Table, p: Pool, a: Action) -> Task
+    requires { ⌜ (validOf t p ≡ true) × (inRange t p a ≡ true) ⌝ }
+    ensures { λ r. ⌜ r ≡ taskOf t p a ⌝ }
 {
     match a {
-        Action::Lookup(i, k) => plan_of_lookup(t, p, i, k),
-        Action::Join(i, seed) => plan_of_join(t, p, i, seed),
-        Action::RequestLease(i) => plan_of_request(t, i),
-        Action::LeaseExpired(i, j) => plan_of_lease(t, i, j),
-        Action::GrantExpired(i, j) => plan_of_grant(t, i, j),
-        Action::Take(_) => plan_of_take(t, m),
+        Action::Lookup(i, k) => task_at(i, 256, plan_of_lookup(t, p, i, k)),
+        Action::Join(i, seed) => task_at(i, 256, plan_of_join(t, p, i, seed)),
+        Action::RequestLease(i) => task_at(i, 256, plan_of_request(t, i)),
+        Action::LeaseExpired(i, j) => task_at(i, 256, plan_of_lease(t, i, j)),
+        Action::GrantExpired(i, j) => task_at(i, 256, plan_of_grant(t, i, j)),
+        Action::Take(place) => task_of_take(t, p, place),
     }
 }
 
-// 10 for a table that is not sound, then 1 for arguments out of range, then what the action asks.
-fn asked(sound: bool, t: Table, p: Pool, m: Message, a: Action) -> Planned
-    requires { ⌜ (sound ≡ true → validOf t p ≡ true) × (m ≡ tookOf p a) ⌝ }
-    ensures { λ r. ⌜ r ≡ askedOf sound t p m a ⌝ }
+// 10 for a table that is not sound, then 1 for arguments out of range, then what the action comes to.
+fn asked(sound: bool, t: Table, p: Pool, a: Action) -> Task
+    requires { ⌜ (sound ≡ true → validOf t p ≡ true) ⌝ }
+    ensures { λ r. ⌜ r ≡ askedOf sound t p a ⌝ }
 {
     if !sound {
-        return Planned::No(Refusal::Invalid);
+        return refusing(Refusal::Invalid);
     }
     if !in_range(t, p, a) {
-        return Planned::No(Refusal::OutOfRange);
+        return refusing(Refusal::OutOfRange);
     }
-    plan_of(t, p, m, a)
-}
-
-// The place whose message goes; past every count where none does.
-pub fn gone_of(a: Action) -> usize
-    ensures { λ r. ⌜ r ≡ goneOf a ⌝ }
-{
-    match a {
-        Action::Lookup(_, _) => 256,
-        Action::Join(_, _) => 256,
-        Action::RequestLease(_) => 256,
-        Action::LeaseExpired(_, _) => 256,
-        Action::GrantExpired(_, _) => 256,
-        Action::Take(place) => place,
-    }
-}
-
-// The node that acts, where m is the message taken.
-pub fn slot_of(a: Action, m: Message) -> usize
-    ensures { λ r. ⌜ r ≡ slotOf a m ⌝ }
-{
-    match a {
-        Action::Lookup(i, _) => i,
-        Action::Join(i, _) => i,
-        Action::RequestLease(i) => i,
-        Action::LeaseExpired(i, _) => i,
-        Action::GrantExpired(i, _) => i,
-        Action::Take(_) => m.dest as usize,
-    }
+    task_of(t, p, a)
 }
 
 // One step: 10 for a list without 256 places or an invalid table, then 1 for arguments out of range, then what the action says. A refusal changes nothing.
 pub fn step(t: Table, p: Pool, len: usize, a: Action) -> Stepped
     ensures { λ r. ⌜ r ≡ stepOf t p len a ⌝ }
 {
-    let gone = gone_of(a);
-    let at = gone % 256;
-    let m = p.places[at];
     let valid = valid::is_valid(t, p);
     let sound = (len == 256) & valid;
-    let what = asked(sound, t, p, m, a);
-    settle::settled_by(t, p, gone, slot_of(a, m), what)
+    let job = asked(sound, t, p, a);
+    let what = job.what;
+    settle::settled_by(t, p, job.gone, job.slot, what)
 }

@@ -1,21 +1,17 @@
--- `step::plan_of` meets its contract: the action that was matched decides the definition's case, and its being in range gives what each asks. Assumes nothing.
+-- `step::task_of` meets its contract: the action that was matched decides the definition's case, and its being in range gives what each asks. Assumes nothing.
 use borrow.Author.Needs.{needs}
 use borrow.Author.Tests.{ltb-true}
-use mathlib.Core.Path.{_≡_, sym, _∙_, ap, subst}
+use mathlib.Core.Path.{_≡_, sym, _∙_, ap}
 use mathlib.Core.Bool.{true}
-use Prim.Native.Nat.{_<_}
 use native.Mathlib.Nat.{lt-of-lt-of-le}
 use lib.Pow.{pow-mono}
 use Rattle.rules.specs.declared.Action.{Action}
-use Rattle.rules.specs.declared.Message.{Message}
-use Rattle.rules.specs.Fits.{messageFits}
 use Rattle.sound.specs.Sound.{sound}
 use Rattle.table.specs.Step.{inRange}
-use Rattle.table.specs.Table.{ringOf}
-use Rattle.step.specs.Asked.{tookOf, planOf}
-use Rattle.step.specs.Settles.{two, slot-low, counted, took-fits, took-dest}
-use Rattle.step.proofs.plan_of.Statement.{statement}
-use Rattle.step.proofs.plan_of.Tie as tie
+use Rattle.step.specs.Asked.{taskAt, taskOf}
+use Rattle.step.specs.Settles.{two, slot-low, counted}
+use Rattle.step.proofs.task_of.Statement.{statement}
+use Rattle.step.proofs.task_of.Tie as tie
 
 ranged : (c : tie.Start) (b : Action) → c .args .a ≡ b → inRange (c .args .t) (c .args .p) b ≡ true
 ranged c b e = sym (ap (inRange (c .args .t) (c .args .p)) e) ∙ c .pre .1
@@ -65,54 +61,68 @@ plan-of-grant-requires c κs =
     let b = two _ _ _ _ (ranged s _ (c .before .a5 .given .1)) in
     (slot-low _ _ (s .pre .0) _ (b .0), slot-low _ _ (s .pre .0) _ (b .1))
 
-enum-told : tie.Need-enum-told
-enum-told c = search needs
+enum-known-a-6 : tie.Need-enum-known-a-6
+enum-known-a-6 c = search needs
 
-plan-of-take-requires : tie.Need-plan-of-take-requires
-plan-of-take-requires c κs =
-    let s = c .before .before in
-    let e = c .enum-told .given .1 in
-    let h = ltb-true _ _ (ranged s _ e) in
-    let m = sym (s .pre .2 ∙ ap (tookOf (s .args .p)) e) in (
-      sound _ _ (s .pre .0) .listed,
-      subst (λ (x : Message). x .dest < s .args .t .n) m (took-dest _ _ (s .pre .0) _ h),
-      subst (λ (x : Message). messageFits (ringOf (s .args .t)) x ≡ true) m (took-fits _ _ (s .pre .0) _ h),
-    )
+task-of-take-requires : tie.Need-task-of-take-requires
+task-of-take-requires c κs =
+    let s = c .before .before .before in
+    (s .pre .0, ltb-true _ _ (ranged s _ (c .before .a6 .given .1)))
+
+task-at-requires : tie.Need-task-at-requires
+task-at-requires c κs = search needs
+
+task-at-requires-2 : tie.Need-task-at-requires-2
+task-at-requires-2 c κs = search needs
+
+task-at-requires-3 : tie.Need-task-at-requires-3
+task-at-requires-3 c κs = search needs
+
+task-at-requires-4 : tie.Need-task-at-requires-4
+task-at-requires-4 c κs = search needs
+
+task-at-requires-5 : tie.Need-task-at-requires-5
+task-at-requires-5 c κs = search needs
 
 returns : tie.Need-returns
-returns c = c .plan-of-lookup .ensures ∙ ap (planOf _ _ _) (sym (c .before .before .a .given .1))
+returns c = c .task-at .ensures ∙ ap (taskAt _ 256) (c .before .plan-of-lookup .ensures) ∙ ap (taskOf _ _) (sym (c .before .before .before .a .given .1))
 
 returns-2 : tie.Need-returns-2
-returns-2 c = c .plan-of-join .ensures ∙ ap (planOf _ _ _) (sym (c .before .before .a2 .given .1))
+returns-2 c = c .task-at2 .ensures ∙ ap (taskAt _ 256) (c .before .plan-of-join .ensures) ∙ ap (taskOf _ _) (sym (c .before .before .before .a2 .given .1))
 
 returns-3 : tie.Need-returns-3
-returns-3 c = c .plan-of-request .ensures ∙ ap (planOf _ _ _) (sym (c .before .before .a3 .given .1))
+returns-3 c = c .task-at3 .ensures ∙ ap (taskAt _ 256) (c .before .plan-of-request .ensures) ∙ ap (taskOf _ _) (sym (c .before .before .before .a3 .given .1))
 
 returns-4 : tie.Need-returns-4
-returns-4 c = c .plan-of-lease .ensures ∙ ap (planOf _ _ _) (sym (c .before .before .a4 .given .1))
+returns-4 c = c .task-at4 .ensures ∙ ap (taskAt _ 256) (c .before .plan-of-lease .ensures) ∙ ap (taskOf _ _) (sym (c .before .before .before .a4 .given .1))
 
 returns-5 : tie.Need-returns-5
-returns-5 c = c .plan-of-grant .ensures ∙ ap (planOf _ _ _) (sym (c .before .before .a5 .given .1))
+returns-5 c = c .task-at5 .ensures ∙ ap (taskAt _ 256) (c .before .plan-of-grant .ensures) ∙ ap (taskOf _ _) (sym (c .before .before .before .a5 .given .1))
 
 returns-6 : tie.Need-returns-6
-returns-6 c = c .plan-of-take .ensures ∙ ap (planOf _ _ _) (sym (c .before .enum-told .given .1))
+returns-6 c = c .task-of-take .ensures ∙ ap (taskOf _ _) (sym (c .before .before .a6 .given .1))
 
-pub plan-of-spec : {M : Type 1} → statement M
-plan-of-spec =
+pub task-of-spec : {M : Type 1} → statement M
+task-of-spec =
     tie.close
     (tie.spec
     enum-known-a
     plan-of-lookup-requires
+    task-at-requires
     enum-known-a-2
     plan-of-join-requires
+    task-at-requires-2
     enum-known-a-3
     plan-of-request-requires
+    task-at-requires-3
     enum-known-a-4
     plan-of-lease-requires
+    task-at-requires-4
     enum-known-a-5
     plan-of-grant-requires
-    enum-told
-    plan-of-take-requires
+    task-at-requires-5
+    enum-known-a-6
+    task-of-take-requires
     returns
     returns-2
     returns-3
