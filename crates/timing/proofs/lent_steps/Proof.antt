@@ -5,31 +5,13 @@ use Rattle.timing.proofs.lent_steps.Statement.{statement}
 use Rattle.timing.proofs.lent_steps.Tie as tie
 
 abbrev Inv-loop : tie.InvT-loop
-Inv-loop a times t₀ p₀ sum₀ i₀ t p sum i = (sum < 4294967296) × (i ≤ times)
+Inv-loop t p a times sum₀ i₀ sum i = (sum < 4294967296) × (i ≤ times)
 
 abbrev μ-loop : tie.MeasureT-loop
-μ-loop a times t₀ p₀ sum₀ i₀ t p sum i = times - i
+μ-loop t p a times sum₀ i₀ sum i = times - i
 
 loop-holds : tie.Need-loop-holds Inv-loop μ-loop
 loop-holds c = search needs
-
-element-copy-out-turned-node : tie.Need-element-copy-out-turned-node Inv-loop μ-loop
-element-copy-out-turned-node c = search needs
-
-turned-node-requires : tie.Need-turned-node-requires Inv-loop μ-loop
-turned-node-requires c κs = search needs
-
-element-set-from-t : tie.Need-element-set-from-t Inv-loop μ-loop
-element-set-from-t c = search needs
-
-element-copy-out-turned-message : tie.Need-element-copy-out-turned-message Inv-loop μ-loop
-element-copy-out-turned-message c = search needs
-
-turned-message-requires : tie.Need-turned-message-requires Inv-loop μ-loop
-turned-message-requires c κs = search needs
-
-element-set-from-p : tie.Need-element-set-from-p Inv-loop μ-loop
-element-set-from-p c = search needs
 
 lent-step-requires : tie.Need-lent-step-requires Inv-loop μ-loop
 lent-step-requires c κs = search needs
@@ -65,12 +47,6 @@ lent-steps-spec =
     Inv-loop
     μ-loop
     loop-holds
-    element-copy-out-turned-node
-    turned-node-requires
-    element-set-from-t
-    element-copy-out-turned-message
-    turned-message-requires
-    element-set-from-p
     lent-step-requires
     answer-number-requires
     cast-number
