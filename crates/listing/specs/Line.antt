@@ -12,7 +12,7 @@ use Rattle.table.specs.Table.{idsOf}
 use Rattle.table.specs.Ids.{ids-at}
 use Rattle.listing.specs.declared.Trip.{Trip}
 use Rattle.listing.specs.Trip.{followOf}
-use Rattle.listing.specs.Print.{decimal, space, newline, endText, lineWith, lineOf}
+use Rattle.listing.specs.Print.{decimal, space, newline, endText, lineOf}
 
 -- it ended at one of the 64 slots, if at any, after fewer than 64 routings
 pub record Ends (trip : Trip) : Type 0 where

@@ -1,7 +1,7 @@
 -- `listing::follow` meets its contract. The invariants: the lines of the messages passed stand in the buffer; what remains of a lookup's way
 -- gives its trip (Underway). The measures: the messages left, and the takes left. Assumes nothing.
 use borrow.Author.Needs.{needs}
-use mathlib.Core.Path.{_≡_, refl, sym, _∙_}
+use mathlib.Core.Path.{_≡_, sym, _∙_}
 use mathlib.Core.Logic.{⊎-elim}
 use Prim.Native.Nat.{ℕ, _-_, _<_, _≤_, zero-le}
 use native.Mathlib.Omega.{arith}
