@@ -17,14 +17,12 @@ use Rattle.rules.specs.Asks.{Below}
 use Rattle.rules.specs.Numbers.{refusalNumber}
 use Rattle.rules.specs.Pool.{blank}
 use Rattle.table.specs.declared.Table.{Table}
-use Rattle.table.specs.Table.{nodeAt}
 use Rattle.writer.proofs.Laws.{follow, put-length}
 use Rattle.listing.specs.declared.Trip.{Trip}
-use Rattle.listing.specs.Trip.{followOf}
-use Rattle.listing.specs.Print.{decimal, refusedWord, endText, lineOf, linesOf}
+use Rattle.listing.specs.Print.{decimal, refusedWord, lineOf, linesOf}
 use Rattle.listing.specs.Prints.{Prints}
-use Rattle.listing.specs.Follow.{Lone, lone-listed, follow-few, follow-below}
-use Rattle.listing.specs.Text.{digit, decimal-more, line-length, lines-more, lines-short}
+use Rattle.listing.specs.Line.{endIn, lineIn}
+use Rattle.listing.specs.Text.{digit, decimal-more, lines-more, lines-short}
 
 pub then : {a b c : List ℕ} {at i j : ℕ} {vs ws : List ℕ} → Prints a at vs i b → Prints b i ws j c → Prints a at (vs ++ ws) j c
 then p q = rw length-append (follow p q)
@@ -71,25 +69,14 @@ more-digits x l h p q = rw (decimal-more x l (omega arith)) (then p q)
 pub end-slot : {end : Found} {e : ℕ} → end ≡ At e → Below end 64 → e < 64
 end-slot q h = rw q at h
 
-module _ (t : Table) {end : Found} where
-  pub end-id : {a b : List ℕ} {at i e : ℕ} → end ≡ At e → Prints a at (decimal (nodeAt t e .id)) i b → Prints a at (endText t end) i b
+module _ (ids : List ℕ) {end : Found} where
+  pub end-id : {a b : List ℕ} {at i e : ℕ} → end ≡ At e → Prints a at (decimal (getD ids e 0)) i b → Prints a at (endIn ids end) i b
   end-id q p = rw q p
 
-  pub end-none : {a b : List ℕ} {at i : ℕ} → end ≡ Nothing → Prints a at (45 ∷ []) i b → Prints a at (endText t end) i b
+  pub end-none : {a b : List ℕ} {at i : ℕ} → end ≡ Nothing → Prints a at (45 ∷ []) i b → Prints a at (endIn ids end) i b
   end-none q p = rw q p
 
 -- ---- a line
-
-module _ {t : Table} {m : Message} (l : Lone t m) (trip : Trip) (e : trip ≡ followOf t m) where
-  pub trip-below : Below (trip .end) 64
-  trip-below = rw e (go (followOf t m .end) (follow-below l))
-    where
-      go : (x : Found) → Below x (t .n) → Below x 64
-      go (At s) h = omega (arith, lone-listed l .n-high)
-      go Nothing h = tt
-
-  pub trip-few : trip .hops < 64
-  trip-few = rw e (omega (arith, follow-few l, lone-listed l .n-high))
 
 -- where a text and a field end, and that the buffer is as long as before
 pub text-end : {a b : List ℕ} {at i : ℕ} {vs : List ℕ} → Prints a at vs i b → (i ≡ at + length vs) × (length b ≡ length a)
@@ -100,18 +87,17 @@ pub field-end : {a b : List ℕ} {at i : ℕ} (x y : ℕ) → Prints a at (decim
 field-end x y p = (p .next-is ∙ rw length-append, put-length p)
 
 -- the lengths of its fields
-pub fields-length : (t : Table) (m : Message) (trip : Trip) → trip ≡ followOf t m
-    → length (lineOf t m)
-    ≡ length (decimal (m .word)) + 1 + (length (decimal (nodeAt t (m .dest) .id)) + 1)
-    + (length (endText t (trip .end)) + 1 + (length (decimal (trip .hops)) + 1))
-fields-length t m trip e = rw e (line-length t m)
+pub fields-length : (ids : List ℕ) (m : Message) (trip : Trip)
+    → length (lineIn ids m trip)
+    ≡ length (decimal (m .word)) + 1 + (length (decimal (getD ids (m .dest) 0)) + 1)
+    + (length (endIn ids (trip .end)) + 1 + (length (decimal (trip .hops)) + 1))
+fields-length ids m trip = simp length-append (omega arith)
 
-pub line-run : {a b c d e f : List ℕ} {at i j k l n : ℕ} (t : Table) (m : Message) (trip : Trip) → trip ≡ followOf t m
-    → Prints a at (decimal (m .word) ++ (32 ∷ [])) i b → Prints b i (decimal (nodeAt t (m .dest) .id) ++ (32 ∷ [])) j c
-    → Prints c j (endText t (trip .end)) k d → Prints d k (32 ∷ []) l e → Prints e l (decimal (trip .hops) ++ (10 ∷ [])) n f
-    → Prints a at (lineOf t m) n f
-unfolding lineOf
-line-run t m trip g p q r s u = rw (← g) (simp append-assoc at (then p (then q (then r (then s u)))))
+pub line-run : {a b c d e f : List ℕ} {at i j k l n : ℕ} (ids : List ℕ) (m : Message) (trip : Trip)
+    → Prints a at (decimal (m .word) ++ (32 ∷ [])) i b → Prints b i (decimal (getD ids (m .dest) 0) ++ (32 ∷ [])) j c
+    → Prints c j (endIn ids (trip .end)) k d → Prints d k (32 ∷ []) l e → Prints e l (decimal (trip .hops) ++ (10 ∷ [])) n f
+    → Prints a at (lineIn ids m trip) n f
+line-run ids m trip p q r s u = simp append-assoc at (then p (then q (then r (then s u))))
 
 -- ---- the lines of the messages passed
 

@@ -2,6 +2,7 @@ pub mod Trip
 pub mod Print
 pub mod Prints
 pub mod Follow
+pub mod Line
 pub mod Text
 pub mod List
 pub mod Cut

@@ -2,17 +2,17 @@
 ghost use mathlib.Core.Path.{_≡_};
 ghost use mathlib.Core.Bool.{true};
 ghost use mathlib.Core.List.{[], _∷_, _++_};
-ghost use Prim.Native.Nat.{_+_, _^_, _<_, _≤_};
+ghost use Prim.Native.Nat.{_+_, _*_, _^_, _<_, _≤_};
 ghost use lib.ListN.{length};
 ghost use Rattle.rules.specs.Asks.{Listed, Below};
 ghost use Rattle.rules.specs.Numbers.{refusalNumber};
 ghost use Rattle.rules.specs.Pool.{laid, waiting};
 ghost use Rattle.table.specs.Start.{noTable};
 ghost use Rattle.table.specs.Valid.{validOf};
-ghost use Rattle.listing.specs.Trip.{followOf};
-ghost use Rattle.listing.specs.Print.{decimal, headline, refusedWord, endText, lineOf, linesOf, printOf};
+ghost use Rattle.listing.specs.Print.{decimal, headline, refusedWord, linesOf, printOf};
 ghost use Rattle.listing.specs.Prints.{Prints};
-ghost use Rattle.listing.specs.Follow.{Lone, turnOf};
+ghost use Rattle.listing.specs.Follow.{turnOf};
+ghost use Rattle.listing.specs.Line.{Ends, endIn, lineIn};
 ghost use Rattle.listing.specs.List.{Loaded, listOf, listedOf};
 use format::Wrote;
 use marks::Found;
@@ -59,47 +59,6 @@ fn turn_at(g: Ring, ids: &[u32; 64], dead: u64, i: usize, v: Node, k: u32) -> Tu
     }
 }
 
-// Follows a lookup as the only message of the table, with no other step: by the rules alone, with no pool and no test of validity at each
-// hop.
-fn follow(t: Table, m: Message) -> Trip
-    requires { ⌜ Lone t m ⌝ }
-    ensures { λ r. ⌜ r ≡ followOf t m ⌝ }
-{
-    let g = table::ring_of(t);
-    let ids = table::ids(t);
-    let dead = settled::dead_set(t);
-    let k = m.word;
-    let from = m.dest as usize;
-    let mut i = from;
-    let mut hops: usize = 0;
-    while hops < 64 {
-        let v = t.nodes[i];
-        let turn = turn_at(g, &ids, dead, i, v, k);
-        match turn {
-            Turn::Delivers => {
-                return Trip {
-                    end: Found::At(i),
-                    hops,
-                };
-            }
-            Turn::Stops => {
-                return Trip {
-                    end: Found::Nothing,
-                    hops,
-                };
-            }
-            Turn::Goes(h) => {
-                i = h;
-                hops += 1;
-            }
-        }
-    }
-    Trip {
-        end: Found::Nothing,
-        hops,
-    }
-}
-
 // Writes one byte.
 fn put_byte(b: &mut [u8], at: usize, x: u8) -> usize
     requires { ⌜ at + 1 ≤ length (now b) ⌝ }
@@ -140,51 +99,82 @@ fn put_field(b: &mut [u8], at: usize, x: u32, mark: u8) -> usize
 }
 
 // Writes the id of the slot that delivered a lookup, or `-`.
-fn put_end(b: &mut [u8], at: usize, t: Table, end: Found) -> usize
-    requires { ⌜ Below end 64 × (at + length (endText t end) ≤ length (now b)) ⌝ }
-    ensures { λ r. ⌜ Prints (now (b .entry)) at (endText t end) r (now (b .exit)) ⌝ }
+fn put_end(b: &mut [u8], at: usize, ids: &[u32; 64], end: Found) -> usize
+    requires { ⌜ Below end 64 × (at + length (endIn (now ids) end) ≤ length (now b)) ⌝ }
+    ensures { λ r. ⌜ Prints (now (b .entry)) at (endIn (now (ids .entry)) end) r (now (b .exit)) ⌝ }
 {
     match end {
         Found::At(e) => {
-            let v = t.nodes[e];
-            put_number(b, at, v.id)
+            let id = ids[e];
+            put_number(b, at, id)
         }
         Found::Nothing => put_byte(b, at, 45),
     }
 }
 
-// Writes the line of a lookup.
-fn put_line(b: &mut [u8], at: usize, t: Table, m: Message) -> usize
-    requires { ⌜ Lone t m × (at + length (lineOf t m) ≤ length (now b)) ⌝ }
-    ensures { λ r. ⌜ Prints (now (b .entry)) at (lineOf t m) r (now (b .exit)) ⌝ }
+// Writes the line of a lookup that ended so.
+fn put_line(b: &mut [u8], at: usize, ids: &[u32; 64], m: Message, trip: Trip) -> usize
+    requires { ⌜ (m .dest < 64) × Ends trip × (at + length (lineIn (now ids) m trip) ≤ length (now b)) ⌝ }
+    ensures { λ r. ⌜ Prints (now (b .entry)) at (lineIn (now (ids .entry)) m trip) r (now (b .exit)) ⌝ }
 {
-    let trip = follow(t, m);
     let i = m.dest as usize;
-    let v = t.nodes[i];
-    let a1 = put_field(b, at, m.word, 32);
-    let a2 = put_field(b, a1, v.id, 32);
+    let own = ids[i];
     let end = trip.end;
-    let a3 = put_end(b, a2, t, end);
+    let a1 = put_field(b, at, m.word, 32);
+    let a2 = put_field(b, a1, own, 32);
+    let a3 = put_end(b, a2, ids, end);
     let a4 = put_byte(b, a3, 32);
     put_field(b, a4, trip.hops as u32, 10)
 }
 
-// Writes the listing of a loaded table: the header line, and the line of each waiting lookup, in pool order.
-fn print(t: Table, p: Pool, out: &mut [u8]) -> usize
-    requires { ⌜ (validOf t p ≡ true) × (16384 ≤ length (now out)) ⌝ }
-    ensures { λ r. ⌜ Prints (now (out .entry)) 0 (headline ++ linesOf t (waiting p)) r (now (out .exit)) ⌝ }
+// Follows each waiting lookup, in pool order, as the only message of the table, with no other step, and writes its line: by the rules alone, with no
+// pool and no test of validity at each hop. The table is looked at here alone, since a call for each lookup would copy it.
+fn follow(b: &mut [u8], start: usize, t: Table, p: Pool) -> usize
+    requires { ⌜ (validOf t p ≡ true) × (start + 36 * 256 ≤ length (now b)) ⌝ }
+    ensures { λ r. ⌜ Prints (now (b .entry)) start (linesOf t (waiting p)) r (now (b .exit)) ⌝ }
 {
+    let g = table::ring_of(t);
+    let ids = table::ids(t);
+    let dead = settled::dead_set(t);
     let n = p.count;
-    let mut at = put_text(out, 0, b"key from to hops\n");
+    let mut at = start;
     let mut q: usize = 0;
-    while q < n {
+    'lookups: while q < n {
         let m = p.places[q];
         if m.kind == 1 {
-            at = put_line(out, at, t, m);
+            let from = m.dest as usize;
+            let mut i = from;
+            let mut hops: usize = 0;
+            let mut end = Found::Nothing;
+            'hops: while hops < 64 {
+                let v = t.nodes[i];
+                let turn = turn_at(g, &ids, dead, i, v, m.word);
+                match turn {
+                    Turn::Delivers => {
+                        end = Found::At(i);
+                        break 'hops;
+                    }
+                    Turn::Stops => break 'hops,
+                    Turn::Goes(h) => {
+                        i = h;
+                        hops += 1;
+                    }
+                }
+            }
+            at = put_line(b, at, &ids, m, Trip { end, hops });
         }
         q += 1;
     }
     at
+}
+
+// Writes the listing of a loaded table: the header line, and the line of each waiting lookup.
+fn print(t: Table, p: Pool, out: &mut [u8]) -> usize
+    requires { ⌜ (validOf t p ≡ true) × (16384 ≤ length (now out)) ⌝ }
+    ensures { λ r. ⌜ Prints (now (out .entry)) 0 (headline ++ linesOf t (waiting p)) r (now (out .exit)) ⌝ }
+{
+    let at = put_text(out, 0, b"key from to hops\n");
+    follow(out, at, t, p)
 }
 
 // Writes the line of a refused file.

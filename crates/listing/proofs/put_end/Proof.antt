@@ -13,11 +13,11 @@ slot c = end-slot (c .before .end .given .1) (c .before .before .before .before 
 enum-known-end : tie.Need-enum-known-end
 enum-known-end c = search needs
 
-mul-v : tie.Need-mul-v
-mul-v c = omega (arith, slot c)
+mul-id : tie.Need-mul-id
+mul-id c = omega (arith, slot c)
 
-element-copy-out-v : tie.Need-element-copy-out-v
-element-copy-out-v c = slot c
+element-copy-out-id : tie.Need-element-copy-out-id
+element-copy-out-id c = slot c
 
 put-number-requires : tie.Need-put-number-requires
 put-number-requires c κs = rw (c .before .before .before .end .given .1) at (c .before .before .before .before .before .before .pre .1)
@@ -49,8 +49,8 @@ put-end-spec =
     tie.close
     (tie.spec
     enum-known-end
-    mul-v
-    element-copy-out-v
+    mul-id
+    element-copy-out-id
     put-number-requires
     enum-told
     put-byte-requires
