@@ -37,7 +37,8 @@ use Rattle.demand.specs.Demand.{Nearer, Ready, Alone, SettledArrives}
 use Rattle.demand.specs.Stands.{count-is}
 use Rattle.demand.specs.Fates.{others, coversAt, hopAt, Tracked}
 use Rattle.demand.specs.Tracks.{key-in, tracked}
-use Rattle.demand.specs.Holder.{ready-low, cover-nearest}
+use Rattle.demand.specs.Joined.{ready-low}
+use Rattle.demand.specs.Holder.{cover-nearest}
 use Rattle.demand.specs.Taking.{take-done, fate-taken}
 use Rattle.demand.specs.Hops.{hop-there, hop-ready}
 

@@ -1,26 +1,24 @@
--- Who holds a key in a settled table. The idea: each ready node's neighbours are the next ready ids (Next of crate ring), so a ready node
--- covers a key exactly if it is the ready node nearest it, and a key that it does not cover is nearer to a neighbour. And of two nodes at
--- equal distance, the one below the key is the nearer. Assumes nothing.
-use mathlib.Core.Path.{_≡_, refl, sym, _∙_, ap}
+-- Who holds a key in a settled table. The idea: each ready node's neighbours are the next ready ids, so it is flanked (Joined) and they are
+-- ready themselves (Next of crate ring): it covers a key exactly if it is the ready node nearest it, and a key that it does not cover is
+-- nearer to a neighbour. And of two nodes at equal distance, the one below the key is the nearer. Assumes nothing.
+use mathlib.Core.Path.{_≡_, sym, _∙_, ap}
 use mathlib.Core.Logic.{_⊎_, ⊎-elim}
 use mathlib.Core.Bool.{true, false, _||_, not}
 use Prim.Native.Nat.{ℕ, _^_, _<_, _≤_}
 use native.Mathlib.Omega.{arith}
 use lib.Dec.{eqb}
-use borrow.Author.Tests.{eq-eqb, ne-eqb, eqb-true, eqb-false, not-true}
-use Rattle.ring.specs.Distance.{fallOf, nearer, coversKey}
+use borrow.Author.Tests.{eq-eqb, eqb-true, eqb-false, not-true}
+use Rattle.ring.specs.Distance.{nearer}
 use Rattle.ring.specs.Falls as falls
 use Rattle.ring.specs.Order.{nearer-transitive, nearer-irreflexive, tie-below}
-use Rattle.ring.specs.Nearest.{Next, covers-nearest, nearest-covers, uncovered}
+use Rattle.ring.specs.Nearest.{Next, nearest-covers, uncovered}
 use Rattle.marks.specs.Bools.{eq-or-ne}
-use Rattle.marks.specs.Marks.{has, allTo, meet, removeOf}
-use Rattle.marks.specs.Laws.{has-remove, each, listed-has, listed-gather}
+use Rattle.marks.specs.Marks.{has, allTo, meet, sizeOf}
+use Rattle.marks.specs.Laws.{has-remove, each, listed-has, listed-gather, member, remove-below, size-remove, size-zero}
 use Rattle.rules.specs.declared.Way.{Way}
 use Rattle.rules.specs.declared.Way.the-variants.{Up, Down}
 use Rattle.rules.specs.declared.Pool.{Pool}
-use Rattle.rules.specs.declared.Ring.{Ring}
-use Rattle.rules.specs.Leaf.{coversOf, seenFrom, leftNeighbour, rightNeighbour, wayUp, wayDown}
-use Rattle.rules.specs.Nodes.{sidesOf}
+use Rattle.rules.specs.Leaf.{coversOf, seenFrom, wayUp, wayDown}
 use Rattle.rules.specs.Pick.{idAt}
 use Rattle.rules.specs.Plans.{isDead, isReady}
 use Rattle.laws.specs.Leaf.{seen-in, seen-leads, seen-up, seen-down}
@@ -32,20 +30,26 @@ use Rattle.sound.specs.Nodes.{both}
 use Rattle.sound.specs.Sound.{Sound, sound}
 use Rattle.demand.specs.Demand.{Nearer, Ready, NearestReady, TieBelow, CoversNearest}
 use Rattle.demand.specs.Fates.{coversAt}
+use Rattle.demand.specs.Joined.{restOf, ReadyId, around, ready-low, id-in, ready-below, rest-has, flanks, covers-first}
+use Rattle.demand.specs.Joining.{leftAt, rightAt, Flanked, SettledFlanked}
 use Rattle.demand.specs.Tracks.{ready-is}
 
 -- ---- what settled says of a ready node
 
--- its neighbours are the best of the other ready nodes each way, and no ready node is in its failed
+-- the best of the other ready nodes one way, or i if there are none
+abbrev pub nextOf : Way → Table → ℕ → ℕ
+nextOf w t i = seenFrom w (ringOf t) (idsOf t) i (restOf t i)
+
+-- its neighbours are these, and no ready node is in its failed
 pub record SettledAt (t : Table) (i : ℕ) : Type 0 where
-  pub left : leftNeighbour (ringOf t) (idsOf t) i (sidesOf (nodeAt t i)) ≡ seenFrom Up (ringOf t) (idsOf t) i (removeOf (readySet t) i)
-  pub right : rightNeighbour (ringOf t) (idsOf t) i (sidesOf (nodeAt t i)) ≡ seenFrom Down (ringOf t) (idsOf t) i (removeOf (readySet t) i)
+  pub left : leftAt t i ≡ nextOf Up t i
+  pub right : rightAt t i ≡ nextOf Down t i
   pub trusts : meet (nodeAt t i .failed) (readySet t) ≡ 0
 
 settled-test : (t : Table) (i : ℕ) → settledAt (ringOf t) (idsOf t) (readySet t) i (nodeAt t i) ≡ true → SettledAt t i
 unfolding settledAt
 settled-test t i e =
-    let a = both (eqb (leftNeighbour (ringOf t) (idsOf t) i (sidesOf (nodeAt t i))) _) _ e in
+    let a = both (eqb (leftAt t i) _) _ e in
     let b = both _ (eqb (meet (nodeAt t i .failed) (readySet t)) 0) (a .1) in
     record { left = eqb-true _ _ (a .0); right = eqb-true _ _ (b .0); trusts = eqb-true _ 0 (b .1) }
 
@@ -67,35 +71,12 @@ module _ (t : Table) (s : isSettled t ≡ true) where
 
 -- ---- the other ready nodes, as seen from one
 
-abbrev pub restOf : Table → ℕ → ℕ
-restOf t i = removeOf (readySet t) i
-
--- the best of them one way, or i if there are none
-abbrev pub nextOf : Way → Table → ℕ → ℕ
-nextOf w t i = seenFrom w (ringOf t) (idsOf t) i (restOf t i)
-
--- the ids of ready nodes
-abbrev pub ReadyId : Table → ℕ → Type 0
-ReadyId t x = (s : ℕ) × Ready t s × (idAt (idsOf t) s ≡ x)
-
 ready-listed : (t : Table) (s : ℕ) → s < 64 → has (readySet t) s ≡ true → s < t .n
 unfolding readySet
 ready-listed t s l p = listed-has (t .n) (readySet t) s (listed-gather (t .n) _) l p
 
 module _ {t : Table} {p : Pool} (v : Sound t p) where
-  pub ready-low : (i : ℕ) → Ready t i → i < 64
-  ready-low i r = omega (arith, v .numbers .n-high)
-
-  ready-below : (x : ℕ) → ReadyId t x → x < 2 ^ t .m
-  ready-below x (s, r, e) = rw (← e) (v .listed .ids-in s (ready-low s r))
-
-  ids-apart : (i j : ℕ) → Ready t i → Ready t j → (i ≡ j → ⊥) → idAt (idsOf t) i ≡ idAt (idsOf t) j → ⊥
-  ids-apart i j r k apart e = apart (ids-inj (v .listed) i j (r .0) (k .0) e)
-
   module _ (i : ℕ) (r : Ready t i) where
-    rest-has : (j : ℕ) → Ready t j → (j ≡ i → ⊥) → has (restOf t i) j ≡ true
-    rest-has j k apart = rw (has-remove (readySet t) i j (ready-low j k), k .1, ne-eqb j i apart)
-
     rest-ready : (j : ℕ) → j < 64 → has (restOf t i) j ≡ true → Ready t j × (j ≡ i → ⊥)
     rest-ready j l e =
         let b = both (has (readySet t) j) (not (eqb j i)) (sym (has-remove (readySet t) i j l) ∙ e) in
@@ -104,48 +85,28 @@ module _ {t : Table} {p : Pool} (v : Sound t p) where
     pub next-ready : (w : Way) → Ready t (nextOf w t i)
     next-ready w =
         ⊎-elim (λ e. rw (e .1) r) (λ e. rest-ready (nextOf w t i) (e .below) (e .holds) .0)
-        (seen-in (v .listed) i (ready-low i r) (restOf t i) w)
+        (seen-in (v .listed) i (ready-low v i r) (restOf t i) w)
 
-    -- where there is another, it is another
+    -- where there is another, it is another, and no closer one is left out
     module _ (j : ℕ) (k : Ready t j) (apart : j ≡ i → ⊥) where
-      next-apart : (w : Way) → idAt (idsOf t) (nextOf w t i) ≡ idAt (idsOf t) i → ⊥
-      next-apart w =
-          let lead = seen-leads (v .listed) i (ready-low i r) (restOf t i) j (ready-low j k) (rest-has j k apart) w in
-          let other = rest-ready (nextOf w t i) (lead .below) (lead .holds) in
-          ids-apart (nextOf w t i) i (other .0) r (other .1)
+      next-other : (w : Way) → nextOf w t i ≡ i → ⊥
+      next-other w =
+          let lead = seen-leads (v .listed) i (ready-low v i r) (restOf t i) j (ready-low v j k) (rest-has v i r j k apart) w in
+          rest-ready (nextOf w t i) (lead .below) (lead .holds) .1
 
       next-up : wayUp (ringOf t) (idsOf t) i (nextOf Up t i) ≤ wayUp (ringOf t) (idsOf t) i j
-      next-up = seen-up (v .listed) i (ready-low i r) (restOf t i) j (ready-low j k) (rest-has j k apart)
+      next-up = seen-up (v .listed) i (ready-low v i r) (restOf t i) j (ready-low v j k) (rest-has v i r j k apart)
 
       next-down : wayDown (ringOf t) (idsOf t) i (nextOf Down t i) ≤ wayDown (ringOf t) (idsOf t) i j
-      next-down = seen-down (v .listed) i (ready-low i r) (restOf t i) j (ready-low j k) (rest-has j k apart)
+      next-down = seen-down (v .listed) i (ready-low v i r) (restOf t i) j (ready-low v j k) (rest-has v i r j k apart)
 
-    pub next-is : Next (2 ^ t .m) (ReadyId t) (idAt (idsOf t) i) (idAt (idsOf t) (nextOf Up t i)) (idAt (idsOf t) (nextOf Down t i))
-    next-is =
-        record {
-          flanks = record {
-            l-in = v .listed .ids-in _ (ready-low _ (next-ready Up));
-            r-in = v .listed .ids-in _ (ready-low _ (next-ready Down));
-            up = up;
-            down = down;
-          };
-          l-ready = (nextOf Up t i, next-ready Up, refl);
-          r-ready = (nextOf Down t i, next-ready Down, refl);
-        }
-      where
-        up : (x : ℕ) → ReadyId t x → (x ≡ idAt (idsOf t) i → ⊥)
-            → (idAt (idsOf t) (nextOf Up t i) ≡ idAt (idsOf t) i → ⊥)
-            × (fallOf (2 ^ t .m) (idAt (idsOf t) (nextOf Up t i)) (idAt (idsOf t) i) ≤ fallOf (2 ^ t .m) x (idAt (idsOf t) i))
-        up x (j, k, e) d =
-            let apart : j ≡ i → ⊥ = λ f. d (sym e ∙ ap (idAt (idsOf t)) f) in
-            (next-apart j k apart Up, rw (← e) (next-up j k apart))
-
-        down : (x : ℕ) → ReadyId t x → (x ≡ idAt (idsOf t) i → ⊥)
-            → (idAt (idsOf t) (nextOf Down t i) ≡ idAt (idsOf t) i → ⊥)
-            × (fallOf (2 ^ t .m) (idAt (idsOf t) i) (idAt (idsOf t) (nextOf Down t i)) ≤ fallOf (2 ^ t .m) (idAt (idsOf t) i) x)
-        down x (j, k, e) d =
-            let apart : j ≡ i → ⊥ = λ f. d (sym e ∙ ap (idAt (idsOf t)) f) in
-            (next-apart j k apart Down, rw (← e) (next-down j k apart))
+    other-ready : 2 ≤ sizeOf (readySet t) → (j : ℕ) × Ready t j × (j ≡ i → ⊥)
+    other-ready two =
+        let none : restOf t i ≡ 0 → ⊥ = λ e.
+        omega (arith, size-remove (readySet t) i (ready-low v i r) (r .1), ap sizeOf e ∙ size-zero) in
+        let m = member (restOf t i) (remove-below (readySet t) i) (omega (arith, none)) in
+        let o = rest-ready (m .0) (m .1) (m .2) in
+        (m .0, o .0, o .1)
 
   -- ---- covering is being nearest
 
@@ -164,32 +125,50 @@ module _ {t : Table} {p : Pool} (v : Sound t p) where
           let b = idAt (idsOf t) j in
           nearer-irreflexive (2 ^ t .m) k a (nearer-transitive (2 ^ t .m) k a b a (first j u d) (other e r (λ f. d (sym f))))
 
-  module _ (s : isSettled t ≡ true) (k : ℕ) (hk : k < 2 ^ t .m) (i : ℕ) (r : Ready t i) where
-    around : falls.Ring (2 ^ t .m)
-    around = falls.ring-at (t .m) (omega (arith, v .numbers .m-low))
+  module _ (s : isSettled t ≡ true) where
+    pub flanked : Flanked t
+    flanked =
+        record {
+          close = λ i j r u d.
+              record {
+                left = rw (settled-at t s i r .left) (next-up i r j u (λ e. d (sym e)));
+                right = rw (settled-at t s i r .right) (next-down i r j u (λ e. d (sym e)));
+              };
+          own = λ two i r.
+              let (j, u, d) = other-ready i r two in
+              record {
+                left = λ e. next-other i r j u d Up (sym (settled-at t s i r .left) ∙ e);
+                right = λ e. next-other i r j u d Down (sym (settled-at t s i r .right) ∙ e);
+              };
+        }
 
-    own : idAt (idsOf t) i < 2 ^ t .m
-    own = v .listed .ids-in i (ready-low i r)
+    module _ (k : ℕ) (hk : k < 2 ^ t .m) (i : ℕ) (r : Ready t i) where
+      next-is : Next (2 ^ t .m) (ReadyId t) (idAt (idsOf t) i) (idAt (idsOf t) (leftAt t i)) (idAt (idsOf t) (rightAt t i))
+      next-is =
+          record {
+            flanks = flanks v i r flanked;
+            l-ready = (nextOf Up t i, next-ready i r Up, ap (idAt (idsOf t)) (sym (settled-at t s i r .left)));
+            r-ready = (nextOf Down t i, next-ready i r Down, ap (idAt (idsOf t)) (sym (settled-at t s i r .right)));
+          }
 
-    covers-is : coversAt t i k
-        ≡ coversKey (2 ^ t .m) (idAt (idsOf t) i) (idAt (idsOf t) (nextOf Up t i)) (idAt (idsOf t) (nextOf Down t i)) k
-    unfolding coversOf
-    covers-is = rw (settled-at t s i r .left, settled-at t s i r .right)
+      pub cover-nearest : coversAt t i k ≡ true → NearestReady t k i
+      cover-nearest c = nearest-one k i r (covers-first v flanked k hk i r c)
 
-    pub cover-nearest : coversAt t i k ≡ true → NearestReady t k i
-    cover-nearest c =
-        nearest-one k i r (λ j u d.
-        covers-nearest (2 ^ t .m) around (ReadyId t) ready-below k hk _ _ _ own (next-is i r .flanks) (sym covers-is ∙ c) (idAt (idsOf t) j)
-        (j, u, refl) (ids-apart j i u r d))
+      pub nearest-cover : NearestReady t k i → coversAt t i k ≡ true
+      unfolding coversOf
+      nearest-cover n = nearest-covers (2 ^ t .m) (around v) (ReadyId t) (ready-below v) k hk _ _ _ (id-in v i r) next-is first
+        where
+          first : (x : ℕ) → ReadyId t x → (x ≡ idAt (idsOf t) i → ⊥) → nearer (2 ^ t .m) k (idAt (idsOf t) i) x ≡ true
+          first x (j, u, e) d = rw (← e) (n .nearest j u (λ f. d (sym e ∙ ap (idAt (idsOf t)) f)))
 
-    pub nearest-cover : NearestReady t k i → coversAt t i k ≡ true
-    nearest-cover n = covers-is ∙ nearest-covers (2 ^ t .m) around (ReadyId t) ready-below k hk _ _ _ own (next-is i r) first
-      where
-        first : (x : ℕ) → ReadyId t x → (x ≡ idAt (idsOf t) i → ⊥) → nearer (2 ^ t .m) k (idAt (idsOf t) i) x ≡ true
-        first x (j, u, e) d = rw (← e) (n .nearest j u (λ f. d (sym e ∙ ap (idAt (idsOf t)) f)))
+      pub not-covered : coversAt t i k ≡ false → Nearer t k (nextOf Up t i) i ⊎ Nearer t k (nextOf Down t i) i
+      unfolding coversOf
+      not-covered c =
+          rw (settled-at t s i r .left, settled-at t s i r .right) at
+          (uncovered (2 ^ t .m) (around v) (ReadyId t) (ready-below v) k hk _ _ _ (id-in v i r) next-is c)
 
-    pub not-covered : coversAt t i k ≡ false → Nearer t k (nextOf Up t i) i ⊎ Nearer t k (nextOf Down t i) i
-    not-covered c = uncovered (2 ^ t .m) around (ReadyId t) ready-below k hk _ _ _ own (next-is i r) (sym covers-is ∙ c)
+pub settled-flanked : SettledFlanked
+settled-flanked t p e s = flanked (sound t p e) s
 
 pub covers-nearest-ready : CoversNearest
 covers-nearest-ready t p k i e s hk r = (cover-nearest (sound t p e) s k hk i r, nearest-cover (sound t p e) s k hk i r)

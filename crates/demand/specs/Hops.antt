@@ -28,7 +28,8 @@ use Rattle.demand.specs.Demand.{Nearer, Ready}
 use Rattle.demand.specs.Fates.{coversAt, hopAt}
 use Rattle.demand.specs.Tracks.{holds, ready-is}
 use Rattle.demand.specs.Routings.{hop-nearer}
-use Rattle.demand.specs.Holder.{dead-or-ready, settled-at, ready-low, nextOf, next-ready, not-covered}
+use Rattle.demand.specs.Joined.{ready-low}
+use Rattle.demand.specs.Holder.{dead-or-ready, settled-at, nextOf, next-ready, not-covered}
 
 dead-is : (t : Table) (i : ℕ) → i < t .n → has (deadSet t) i ≡ isDead (nodeAt t i .status)
 unfolding deadSet

@@ -4,9 +4,12 @@ pub mod Demand
 pub mod Stands
 pub mod Tracks
 pub mod Routings
+pub mod Joining
+pub mod Joined
 pub mod Holder
 pub mod Taking
 pub mod Hops
 pub mod Arrives
-pub mod Proved
 pub mod Limits
+pub mod Unheld
+pub mod Proved

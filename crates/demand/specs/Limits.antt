@@ -26,10 +26,10 @@ use Rattle.rules.specs.Closest.{closest}
 use Rattle.rules.specs.Fits.{numbersFit, idFits, sideFits, leafFits, othersFit, nodeFits, isBlank, slotFits}
 use Rattle.rules.specs.Fits.{wordFits, flagFits, carriedFits, ownerFits, routingFits, failedFits, fieldsFit, messageFits}
 use Rattle.rules.specs.Hop.{leafCandidates, routeCandidates, byLeaf, leafHop, routeHop, nextHop}
-use Rattle.rules.specs.Leaf.{contentOf, seenFrom, leftNeighbour, rightNeighbour, leafWith, overlaps, coversOf}
+use Rattle.rules.specs.Leaf.{contentOf, seenFrom, leafWith, overlaps, coversOf}
 use Rattle.rules.specs.Letters.{lookup}
 use Rattle.rules.specs.Mail.{alike, allDifferent, firstFrom, firstEqual, added, removedAt, sentTo}
-use Rattle.rules.specs.Nodes.{noNode, sidesOf, placed}
+use Rattle.rules.specs.Nodes.{noNode, placed}
 use Rattle.rules.specs.Pick.{best}
 use Rattle.rules.specs.Plans.{isDead, isReady, mailed}
 use Rattle.rules.specs.Pool.{laid}
@@ -40,15 +40,16 @@ use Rattle.table.specs.Settle.{doneOf, carriedOut, settle}
 use Rattle.table.specs.Settled.{readySet, deadSet, settledAt, isSettled}
 use Rattle.table.specs.Start.{slotIds, slotsTo, startNode, startNodes, startFits, idsRise, listFits, startOf}
 use Rattle.table.specs.Step.{isSound, stepOf}
-use Rattle.table.specs.Table.{nodeAt, idsOf, ringOf}
+use Rattle.table.specs.Table.{nodeAt}
 use Rattle.table.specs.Valid.{nodesFit, messagesFit, poolFits, validOf}
 use Rattle.demand.specs.Journey.{stepped, LookupAt, Fate, stays, routed, met, delivered, unroutable, fateOf, routings, Delivers}
 use Rattle.demand.specs.Journey.{here, on}
 use Rattle.demand.specs.Demand.{Ready, Alone, Arrives}
 use Rattle.demand.specs.Holder.{nextOf}
+use Rattle.demand.specs.Joining.{leftAt, rightAt}
 
--- to unfold this is to unfold all that the tests and steps below compute with
-opened : Unit {0}
+-- to unfold this is to unfold all that the tests and steps on small tables compute with
+unfoldable pub opened : Unit {0}
 unfolding validOf numbersFit nodesFit slotFits idFits nodeFits leafFits sideFits othersFit isBlank listed sizeOf tally has allTo poolFits
     messagesFit messageFits fieldsFit wordFits flagFits carriedFits ownerFits routingFits failedFits allDifferent alike fateOf
     routings stepOf isSound settle carriedOut mailed sentTo planTake planTakeLookup planLeaseExpired isNeighbour coversOf seenFrom
@@ -109,14 +110,15 @@ pair-ends = refl
 
 -- ---- the parts of settled
 
-abbrev eachReady : Table → (ℕ → Bool) → Bool
+-- every ready node passes
+abbrev pub eachReady : Table → (ℕ → Bool) → Bool
 eachReady t f = allTo (t .n) (λ i. not (isReady (nodeAt t i .status)) || f i)
 
 abbrev leftRight : Table → ℕ → Bool
-leftRight t i = eqb (leftNeighbour (ringOf t) (idsOf t) i (sidesOf (nodeAt t i))) (nextOf Up t i)
+leftRight t i = eqb (leftAt t i) (nextOf Up t i)
 
 abbrev rightRight : Table → ℕ → Bool
-rightRight t i = eqb (rightNeighbour (ringOf t) (idsOf t) i (sidesOf (nodeAt t i))) (nextOf Down t i)
+rightRight t i = eqb (rightAt t i) (nextOf Down t i)
 
 abbrev trusting : Table → ℕ → Bool
 trusting t i = eqb (meet (nodeAt t i .failed) (readySet t)) 0

@@ -1,11 +1,14 @@
--- Demand 3, proved: each statement of Demand, by name. Assumes nothing.
+-- Proved, by name: each statement of Demand (demand 3), then each of Joining (one holder while others are joining). Assumes nothing.
 use Rattle.sound.specs.Sound.{sound}
 use Rattle.demand.specs.Demand.{EveryLookup, FatesHold, GoesNearer, FewRoutings, SettledArrives, TieBelow, CoversNearest}
+use Rattle.demand.specs.Joining.{OneHolder, HolderNearest, SettledFlanked, SomeUnheld}
 use Rattle.demand.specs.Stands as stands
 use Rattle.demand.specs.Tracks as tracks
 use Rattle.demand.specs.Routings as routings
 use Rattle.demand.specs.Arrives as arrives
+use Rattle.demand.specs.Joined as joined
 use Rattle.demand.specs.Holder as holder
+use Rattle.demand.specs.Unheld as unheld
 
 pub every-lookup : EveryLookup
 every-lookup t p q e h one = stands.lookup-at (sound t p e) q h one
@@ -27,3 +30,15 @@ tie-below-key = holder.tie-below-key
 
 pub covers-nearest-ready : CoversNearest
 covers-nearest-ready = holder.covers-nearest-ready
+
+pub one-holder : OneHolder
+one-holder = joined.one-holder
+
+pub holder-nearest : HolderNearest
+holder-nearest = joined.holder-nearest
+
+pub settled-flanked : SettledFlanked
+settled-flanked = holder.settled-flanked
+
+pub some-unheld : SomeUnheld
+some-unheld = unheld.some-unheld
