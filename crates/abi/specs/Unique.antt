@@ -2,6 +2,7 @@
 use mathlib.Core.Path.{_≡_, sym, _∙_}
 use mathlib.Core.List.{List}
 use Prim.Native.Nat.{ℕ}
+use Rattle.format.specs.Replies.{both-same}
 use Rattle.wire.specs.Wire.{loadedOf, begunOf, wroteBy, leftBy, restBy}
 use Rattle.listing.specs.List.{listOf, listedOf}
 use Rattle.abi.specs.declared.Asked.{Asked}
@@ -10,10 +11,6 @@ use Rattle.abi.specs.Abi.{packOf, restWord, stepWord, stepLeft}
 -- the reply is this word, and the buffer is left with this content
 abbrev pub Replies : ℕ → List ℕ → ℕ → List ℕ → Type 0
 Replies word left r bs = (r ≡ word) × (bs ≡ left)
-
--- two replies, each equal to a third
-both-same : {A B : Type 0} {a a′ c : A} {b b′ d : B} → (a ≡ c) × (b ≡ d) → (a′ ≡ c) × (b′ ≡ d) → (a ≡ a′) × (b ≡ b′)
-both-same h h′ = (h .0 ∙ sym (h′ .0), h .1 ∙ sym (h′ .1))
 
 module _ (out bs bs′ : List ℕ) (r r′ : ℕ) where
   pub start-unique : (m l a : ℕ) (ids : List ℕ)

@@ -22,7 +22,8 @@ use prog.Wp.{Heap, Env, Calls, Loops}
 use ghost.Atoms.{Atoms, sem}
 use contract.Monad.{Fun, fact}
 use sound.WpLaws.{FmC}
-use types.Kit.{Given, Item, ‵, raw, _⊛_, some, later, Post, runs, lands, Seq, _$_, _∵_, !, qed, move, drop, use1, use2, use3, split, join, pick, fsplit, fjoin, feqL, frame, await, done}
+use types.Kit.{Given, Item, ‵, raw, _⊛_, some, later, Post, runs, lands, Seq, _$_, _∵_, !, qed}
+use types.Kit.{move, drop, use1, use2, use3, split, join, pick, fsplit, fjoin, feqL, frame, await, done}
 use types.Run.{Opds}
 use types.Tokens.{lft-new, lft-end}
 use denote.Laws.{Is, shows}

@@ -205,13 +205,15 @@ module _ {M : Type 1} {𝓤 : URA M} {H : Heap 𝓤} {A : Atoms 𝓤} {K : Type 
           → T (hasTy (spotOf 𝓤 H E i .0) v) × WT v → v ≡ w
           → Step K W (put 𝓤 H A n (‵ (fat fullShare (spotOf 𝓤 H E i .0) (spotOf 𝓤 H E i .1) zero w)) Γ) (runs C Λ E rest q) Γ (runs C Λ E (seq (assign (place i []) rv) rest) q)
       sets-as t n {rv} e r wt is =
-          subst (λ (u : Val). Step K W (put 𝓤 H A n (‵ (fat fullShare (spotOf 𝓤 H E i .0) (spotOf 𝓤 H E i .1) zero u)) Γ) (runs C Λ E rest q) Γ (runs C Λ E (seq (assign (place i []) rv) rest) q)) is
+          subst (λ (u : Val). Step K W (put 𝓤 H A n (‵ (fat fullShare (spotOf 𝓤 H E i .0) (spotOf 𝓤 H E i .1) zero u)) Γ) (runs C Λ E rest q) Γ
+          (runs C Λ E (seq (assign (place i []) rv) rest) q)) is
           (sets t n e r wt)
 
       pub lands-as : K → (n : ℕ) {v w : Val} → nth 𝓤 H A n Γ ≡ ‵ (froom (spotOf 𝓤 H E i .0) (spotOf 𝓤 H E i .1) zero) → T (hasTy (spotOf 𝓤 H E i .0) v) × WT v → v ≡ w
           → Step K W (put 𝓤 H A n (‵ (fat fullShare (spotOf 𝓤 H E i .0) (spotOf 𝓤 H E i .1) zero w)) Γ) (runs C Λ E rest q) Γ (lands C Λ E (place i []) v rest q)
       lands-as t n {v} {w} e wt is =
-          subst (λ (u : Val). Step K W (put 𝓤 H A n (‵ (fat fullShare (spotOf 𝓤 H E i .0) (spotOf 𝓤 H E i .1) zero u)) Γ) (runs C Λ E rest q) Γ (lands C Λ E (place i []) v rest q)) is
+          subst (λ (u : Val). Step K W (put 𝓤 H A n (‵ (fat fullShare (spotOf 𝓤 H E i .0) (spotOf 𝓤 H E i .1) zero u)) Γ) (runs C Λ E rest q) Γ
+          (lands C Λ E (place i []) v rest q)) is
           (land t (from t (stop t)) (init t n e wt))
 
       -- a struct's result

@@ -11,14 +11,11 @@ use Rattle.table.specs.declared.Table.{Table}
 use Rattle.table.specs.Step.{stepOf}
 use Rattle.format.specs.declared.Wrote.{Wrote}
 use Rattle.format.specs.Load.{loadOf}
+use Rattle.format.specs.Replies.{both-same}
 use Rattle.format.specs.Write.{wroteOf, writtenOf}
 use Rattle.entry.specs.declared.Rest.{Rest}
 use Rattle.bench.specs.declared.Reply.{Reply}
 use Rattle.bench.specs.Lent.{lentStep, lentStart, lentLoad, lentRest, Handed, Filed}
-
--- two pairs, each equal to a third
-both-same : {A B : Type 0} {a a′ c : A} {b b′ d : B} → (a ≡ c) × (b ≡ d) → (a′ ≡ c) × (b′ ≡ d) → (a ≡ a′) × (b ≡ b′)
-both-same h h′ = (h .0 ∙ sym (h′ .0), h .1 ∙ sym (h′ .1))
 
 module _ (t : Table) (ys : List Message) (n : ℕ) where
   module _ (zs zs′ : List Message) (r r′ : Reply) where

@@ -55,7 +55,7 @@ abbrev pub SettledFlanked : Type 0
 SettledFlanked = (t : Table) (p : Pool) → validOf t p ≡ true → isSettled t ≡ true → Flanked t
 
 -- There may be keys that nobody covers: in such a table, with two ready nodes and not settled, no node of any status covers k
-pub record Unheld (t : Table) (p : Pool) (k : ℕ) : Type 0 where
+pub record NobodyCovers (t : Table) (p : Pool) (k : ℕ) : Type 0 where
   pub valid : validOf t p ≡ true
   pub flanked : Flanked t
   pub two : 2 ≤ sizeOf (readySet t)
@@ -64,4 +64,4 @@ pub record Unheld (t : Table) (p : Pool) (k : ℕ) : Type 0 where
   pub nobody : (i : ℕ) → i < t .n → coversAt t i k ≡ false
 
 abbrev pub SomeUnheld : Type 0
-SomeUnheld = (t : Table) × (p : Pool) × (k : ℕ) × Unheld t p k
+SomeUnheld = (t : Table) × (p : Pool) × (k : ℕ) × NobodyCovers t p k

@@ -43,7 +43,7 @@ use Rattle.table.specs.Settled.{readySet, deadSet}
 use Rattle.table.specs.Valid.{validOf}
 use Rattle.sound.specs.Obeys.{obeys}
 use Rattle.sound.specs.Sound.{Sound, sound}
-use Rattle.keeps.specs.By.{leftOf, takenOf, plannedOf, DoneWith, leavesOf, step-refused, step-done}
+use Rattle.keeps.specs.By.{remainingOf, takenOf, plannedOf, DoneWith, leavesOf, step-refused, step-done}
 use Rattle.demand.specs.Fates.{others, coversAt, hopAt, Took, Tracked}
 use Rattle.demand.specs.Journey.{stepped, LookupAt, stays, landing, fateTaken, fateDone}
 use Rattle.demand.specs.Journey.{fateBy, fateOf}
@@ -183,7 +183,7 @@ module _ (t : Table) (p : Pool) (q k d : ℕ) (v : Sound t p) (l : LookupAt p q 
 -- ---- every step
 
 module _ (t : Table) (p : Pool) (q k d : ℕ) (v : Sound t p) (l : LookupAt p q k d) where
-  waits-on : (a : Action) (x : Plan) (r : ℕ) → stepped t p a ≡ leavesOf t p a x → Stands (leftOf p a) r (placed (lookup k) d)
+  waits-on : (a : Action) (x : Plan) (r : ℕ) → stepped t p a ≡ leavesOf t p a x → Stands (remainingOf p a) r (placed (lookup k) d)
       → LookupAt (stepped t p a .pool) r k d
   waits-on a x r e s = rw e (stands-laid (stands-mailed x s))
 

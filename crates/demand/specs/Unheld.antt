@@ -1,5 +1,5 @@
 -- How far one holder reaches (Joining), computed on small tables: there may be keys that nobody covers, and each of the two hypotheses is needed.
--- Of the second, "on either side", the proofs use the right side alone. Assumes nothing.
+-- Of the second, "on either side", the law of the ring uses the right side alone. Assumes nothing.
 use mathlib.Core.Path.{_≡_, refl, sym, _∙_}
 use mathlib.Core.Bool.{Bool, true, false, _&&_, _||_, not}
 use mathlib.Core.List.{[], _∷_}
@@ -20,7 +20,7 @@ use Rattle.table.specs.Valid.{validOf}
 use Rattle.sound.specs.Nodes.{both}
 use Rattle.demand.specs.Demand.{Ready}
 use Rattle.demand.specs.Fates.{coversAt}
-use Rattle.demand.specs.Joining.{leftAt, rightAt, AsClose, NotItsOwn, Unheld, SomeUnheld}
+use Rattle.demand.specs.Joining.{leftAt, rightAt, AsClose, NotItsOwn, NobodyCovers, SomeUnheld}
 use Rattle.demand.specs.Limits.{opened, node, table, eachReady}
 use Rattle.demand.specs.Tracks.{ready-is}
 
@@ -69,7 +69,7 @@ gap-computes :
 unfolding gap allClose noneItsOwn opened
 gap-computes = (refl, refl, refl, refl, refl, refl, omega arith)
 
-pub gap-unheld : Unheld gap (laid []) 1
+pub gap-unheld : NobodyCovers gap (laid []) 1
 gap-unheld =
     let c = gap-computes in
     record {

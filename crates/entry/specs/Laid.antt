@@ -22,7 +22,7 @@ use Rattle.table.specs.declared.Stepped.{Stepped}
 use Rattle.table.specs.Settle.{refusedOf}
 use Rattle.table.specs.Start.{startOf}
 use Rattle.table.specs.Step.{stepOf}
-use Rattle.keeps.specs.By.{leftOf, step-done}
+use Rattle.keeps.specs.By.{remainingOf, step-done}
 use Rattle.format.specs.Bytes.{decodeAll}
 use Rattle.format.specs.Exactly.{load-makes}
 use Rattle.format.specs.Format.{messageWidths, messagesAt, messageFrom}
@@ -45,7 +45,7 @@ file-neat bs = laid-again (map messageFrom (decodeAll messageWidths 56 (fileCoun
 
 module _ (t : Table) (p : Pool) (len : ℕ) where
   pub step-neat : (a : Action) → Neat (stepOf t p len a)
-  step-neat a e = let d = step-done t p len a e in rw (d .2) (laid-again (mailed (d .0) (leftOf p a)))
+  step-neat a e = let d = step-done t p len a e in rw (d .2) (laid-again (mailed (d .0) (remainingOf p a)))
 
   pub load-neat : (bs : List ℕ) → Neat (loadOf bs t p len)
   load-neat bs e = rw (load-makes bs t p len (ap answerNumber e)) (file-neat bs)

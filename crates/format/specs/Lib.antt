@@ -9,3 +9,4 @@ pub mod File
 pub mod Back
 pub mod Exactly
 pub mod Theorems
+pub mod Replies

@@ -1,5 +1,5 @@
 -- What a step comes to, in one place. Every action plans something for the node of one slot, with some messages left (slotOf, plannedOf,
--- leftOf), and a step is refused and changes nothing (RefusedFor), or is done with a plan (DoneWith). `by-step` is the one eliminator: what
+-- remainingOf), and a step is refused and changes nothing (RefusedFor), or is done with a plan (DoneWith). `by-step` is the one eliminator: what
 -- holds of every refusal and of every plan carried out holds of every step. Assumes nothing.
 use mathlib.Core.Path.{_≡_, refl}
 use mathlib.Core.Bool.{Bool, true, false, cond}
@@ -49,13 +49,13 @@ slotOf p (GrantExpired i j) = i
 slotOf p (Take place) = messageAt p place .dest
 
 -- the messages that wait when additions begin
-abbrev pub leftOf : Pool → Action → List Message
-leftOf p (Lookup i k) = waiting p
-leftOf p (Join i seed) = waiting p
-leftOf p (RequestLease i) = waiting p
-leftOf p (LeaseExpired i j) = waiting p
-leftOf p (GrantExpired i j) = waiting p
-leftOf p (Take place) = removedAt (waiting p) place
+abbrev pub remainingOf : Pool → Action → List Message
+remainingOf p (Lookup i k) = waiting p
+remainingOf p (Join i seed) = waiting p
+remainingOf p (RequestLease i) = waiting p
+remainingOf p (LeaseExpired i j) = waiting p
+remainingOf p (GrantExpired i j) = waiting p
+remainingOf p (Take place) = removedAt (waiting p) place
 
 -- what Take plans for message m
 abbrev pub takenOf : Table → Message → Planned
@@ -69,7 +69,7 @@ plannedOf t p (LeaseExpired i j) = planLeaseExpired (ringOf t) (idsOf t) i (node
 plannedOf t p (GrantExpired i j) = planGrantExpired i (nodeAt t i) j (nodeAt t j)
 plannedOf t p (Take place) = takenOf t (messageAt p place)
 
-pub act-is : (t : Table) (p : Pool) (a : Action) → actOf t p a ≡ settle t p (leftOf p a) (slotOf p a) (plannedOf t p a)
+pub act-is : (t : Table) (p : Pool) (a : Action) → actOf t p a ≡ settle t p (remainingOf p a) (slotOf p a) (plannedOf t p a)
 act-is t p (Lookup i k) = refl
 act-is t p (Join i seed) = refl
 act-is t p (RequestLease i) = refl
@@ -100,7 +100,7 @@ pub data RefusedFor (t : Table) (p : Pool) (len : ℕ) (a : Action) : Refusal �
   invalid : isSound t p len ≡ false → RefusedFor t p len a no.Invalid
   out-of-range : Sound t p → inRange t p a ≡ false → RefusedFor t p len a no.OutOfRange
   forbidden : {why : Refusal} → Sound t p → inRange t p a ≡ true → plannedOf t p a ≡ No why → RefusedFor t p len a why
-  full : (x : Plan) → Sound t p → inRange t p a ≡ true → plannedOf t p a ≡ Go x → 256 < length (mailed x (leftOf p a))
+  full : (x : Plan) → Sound t p → inRange t p a ≡ true → plannedOf t p a ≡ Go x → 256 < length (mailed x (remainingOf p a))
       → RefusedFor t p len a no.Full
 
 -- by which plan it is done
@@ -110,11 +110,11 @@ pub record DoneWith (t : Table) (p : Pool) (len : ℕ) (a : Action) (x : Plan) :
   pub in-range : inRange t p a ≡ true
   pub slot-in : slotOf p a < t .n
   pub plan : plannedOf t p a ≡ Go x
-  pub room : length (mailed x (leftOf p a)) ≤ 256
+  pub room : length (mailed x (remainingOf p a)) ≤ 256
 
 -- what the plan leaves
 abbrev pub leavesOf : Table → Pool → Action → Plan → Stepped
-leavesOf t p a x = doneOf (withNode t (slotOf p a) (x .node)) (laid (mailed x (leftOf p a)))
+leavesOf t p a x = doneOf (withNode t (slotOf p a) (x .node)) (laid (mailed x (remainingOf p a)))
 
 -- an action in range is for a slot below n
 pub slot-in-range : {t : Table} {p : Pool} → Sound t p → (a : Action) → inRange t p a ≡ true → slotOf p a < t .n
@@ -140,7 +140,7 @@ by-step C t p len a refused done = valid (isSound t p len) refl
     ranged : (len ≡ 256) × Sound t p → (b : Bool) → inRange t p a ≡ b → C (cond b (actOf t p a) (refusedOf t p no.OutOfRange))
     ranged s true e =
         rw (act-is t p a)
-        (by-settle C t p (leftOf p a) (slotOf p a) (plannedOf t p a) (λ why q. refused why (forbidden (s .1) e q))
+        (by-settle C t p (remainingOf p a) (slotOf p a) (plannedOf t p a) (λ why q. refused why (forbidden (s .1) e q))
         (λ x q l. refused no.Full (full x (s .1) e q l))
         (λ x q l. done x (record {
           places = s .0;

@@ -32,7 +32,7 @@ use Rattle.table.specs.Table.{nodeAt, idsOf, ringOf}
 use Rattle.mail.specs.Laws.{waiting-short, removed-length, mailed-quiet, mailed-send, added-length}
 use Rattle.sound.specs.Obeys.{obeys}
 use Rattle.sound.specs.Sound.{Sound}
-use Rattle.keeps.specs.By.{leftOf, takenOf, plannedOf, RefusedFor, invalid, out-of-range, forbidden, full, by-step}
+use Rattle.keeps.specs.By.{remainingOf, takenOf, plannedOf, RefusedFor, invalid, out-of-range, forbidden, full, by-step}
 use Rattle.keeps.specs.Comes.{Comes, no-comes, go-comes, by-lookup, by-join, by-request-lease, by-lease-expired, by-grant-expired}
 use Rattle.keeps.specs.Comes.{by-take-lookup, by-take-join-request, by-take-join-reply, by-take-probe, by-take-probe-reply}
 use Rattle.keeps.specs.Comes.{by-take-lease-request, by-take-broadcast, by-take}
@@ -88,7 +88,7 @@ abbrev Named : Pool → Action → Refusal → Type 0
 Named p a why = oneOf (refusalNumber why) (answersOf p a) ≡ true
 
 abbrev Roomy : Pool → Action → Plan → Type 0
-Roomy p a x = 256 < length (mailed x (leftOf p a)) → Named p a no.Full
+Roomy p a x = 256 < length (mailed x (remainingOf p a)) → Named p a no.Full
 
 module _ {t : Table} {p : Pool} (s : Sound t p) where
   quiet-room : (v : Node) → 256 < length (mailed (quietPlan v) (waiting p)) → ⊥

@@ -34,7 +34,7 @@ use Rattle.sound.specs.Nodes.{NodeRules, node-rules}
 use Rattle.sound.specs.Obeys.{obeys}
 use Rattle.sound.specs.Sound.{Sound, sound-valid}
 use Rattle.keeps.specs.Keeps.{KeepsValid, SameRing, KeepsRing, RefusalKeeps}
-use Rattle.keeps.specs.By.{slotOf, leftOf, plannedOf, DoneWith, leavesOf, slot-in-range, by-step, step-refused, step-done}
+use Rattle.keeps.specs.By.{slotOf, remainingOf, plannedOf, DoneWith, leavesOf, slot-in-range, by-step, step-refused, step-done}
 use Rattle.keeps.specs.Comes.{go-comes}
 use Rattle.keeps.specs.Plans.{Fits, FinePlan, FinePlanned, fine-fits}
 use Rattle.keeps.specs.Plans.{fine-lookup, fine-join, fine-request-lease, fine-lease-expired, fine-grant-expired}
@@ -87,7 +87,7 @@ written-ids t i v e = map-set-same idOf (t .nodes) i v noNode e
 -- ---- the messages that wait when additions begin
 
 by-left : (C : List Message → Type 0) (p : Pool) (a : Action) → C (waiting p) → ((place : ℕ) → C (removedAt (waiting p) place))
-    → C (leftOf p a)
+    → C (remainingOf p a)
 by-left C p (Lookup i k) all less = all
 by-left C p (Join i seed) all less = all
 by-left C p (RequestLease i) all less = all
@@ -101,10 +101,10 @@ module _ {t : Table} {p : Pool} (s : Sound t p) (a : Action) where
       all-index (waiting p)
       (λ q l. let k : q < p .count = omega (arith, waiting-short p) in rw (waiting-at p q k) (s .message q k))
 
-  left-fit : All (Fits (ringOf t)) (leftOf p a)
+  left-fit : All (Fits (ringOf t)) (remainingOf p a)
   left-fit = by-left (All (Fits (ringOf t))) p a waiting-fit (λ place. all-removed place waiting-fit)
 
-  left-apart : Apart (leftOf p a)
+  left-apart : Apart (remainingOf p a)
   left-apart =
       let apart : Apart (waiting p) = apart-different (waiting p) .1 (s .different) in
       by-left Apart p a apart (λ place. apart-removed place apart)
@@ -117,7 +117,7 @@ module _ {t : Table} {p : Pool} {len : ℕ} {a : Action} {x : Plan} (d : DoneWit
       let s = d .sound in
       let fine = done-fine d in
       let i = slotOf p a in
-      let zs = mailed x (leftOf p a) in
+      let zs = mailed x (remainingOf p a) in
       let fit : All (Fits (ringOf t)) zs = all-mailed (fine .mail) (left-fit s a) in
       let apart : Apart zs = apart-mailed x (left-apart s a) in
       record {

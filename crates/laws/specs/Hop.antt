@@ -13,12 +13,11 @@ use Rattle.ring.specs.Distance.{nearer}
 use Rattle.ring.specs.Order.{rank, nearer-rank, nearer-irreflexive}
 use Rattle.marks.specs.Marks.{has, union, without, listed}
 use Rattle.marks.specs.Bools.{bool-cases, and-left, and-right, and-both, and-fails-left, and-fails-right, or-cases}
-use Rattle.marks.specs.Laws.{has-union, has-without, listed-has, listed-union, listed-add}
+use Rattle.marks.specs.Laws.{has-union, has-without, listed-has}
 use Rattle.marks.specs.declared.Found.{Found}
 use Rattle.marks.specs.declared.Found.the-variants.{At, Nothing}
 use Rattle.rules.specs.declared.Way.the-variants.{Near}
 use Rattle.rules.specs.declared.Ring.{Ring}
-use Rattle.rules.specs.declared.Sides.{Sides}
 use Rattle.rules.specs.declared.Node.{Node}
 use Rattle.rules.specs.declared.Hop.the-variants.{To, NoRoute}
 use Rattle.rules.specs.Pick.{idAt, aheadOf, best, bestOf}
@@ -26,6 +25,7 @@ use Rattle.rules.specs.Nodes.{sidesOf}
 use Rattle.rules.specs.Leaf.{contentOf}
 use Rattle.rules.specs.Hop.{legalOf, leafCandidates, routeCandidates, byLeaf, nearerThanOwner, toNearer, toFound}
 use Rattle.rules.specs.Hop.{leafHop, routeHop, nextHop}
+use Rattle.laws.specs.Leaf.{content-listed}
 use Rattle.laws.specs.Best.{Finds, Leads, Best, keptOf, scoreAt, near-scored}
 use Rattle.laws.specs.Best.{best-finds, best-none, best-some, best-is, best-unique, best-kept}
 
@@ -72,11 +72,6 @@ nearer-lt N k a b e = ltb-true (rank N k a) (rank N k b) (sym (nearer-rank N k a
 
 no-hop : {h : ℕ} → NoRoute ≡ To h → ⊥
 no-hop e = let z : _≡_ {A = ℕ} 0 1 = cc in omega arith
-
-content-listed : (n : ℕ) (s : Sides) (i : ℕ) → listed n (s .left) ≡ true → listed n (s .right) ≡ true → i < n
-    → listed n (contentOf s i) ≡ true
-unfolding contentOf
-content-listed n s i a b l = listed-add n (union (s .left) (s .right)) i (listed-union n (s .left) (s .right) a b) l
 
 module _ (g : Ring) (ids : List ℕ) (dead i : ℕ) (v : Node) where
   pub candidates-has : (s : ℕ) → s < 64

@@ -1,5 +1,5 @@
 pub mod Best
-pub mod Hop
 pub mod Closest
 pub mod Steps
 pub mod Leaf
+pub mod Hop

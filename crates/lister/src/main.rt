@@ -1,6 +1,5 @@
 // Prints the listing of the table file on standard input.
 use libc::STDIN_FILENO;
-use libc::STDOUT_FILENO;
 
 // Reads on once, and answers whether more came.
 fn skip_some() -> bool {
@@ -17,13 +16,6 @@ fn skip_rest() {
     }
 }
 
-fn show(file: &[u8]) {
-    let mut out = [0u8; 16384];
-    let wrote = listing::list(file, &mut out);
-    let count = wrote.count;
-    io::write_all(STDOUT_FILENO, &out[..count]);
-}
-
 // A table file has at most 18,464 bytes, so the first 65,536 of a longer input have the same listing as the whole.
 fn main() {
     let mut file = io::large_buffer();
@@ -31,5 +23,5 @@ fn main() {
     if n == 65536 {
         skip_rest();
     }
-    show(&file[..n]);
+    shown::show(&file[..n]);
 }

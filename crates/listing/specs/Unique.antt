@@ -1,8 +1,9 @@
 -- `list` has one reply for every file and buffer, and leaves one content of the buffer: any two that its contract allows are equal. Assumes nothing.
-use mathlib.Core.Path.{_≡_, sym, _∙_}
+use mathlib.Core.Path.{_≡_}
 use mathlib.Core.List.{List}
 use Prim.Native.Nat.{ℕ}
 use Rattle.format.specs.declared.Wrote.{Wrote}
+use Rattle.format.specs.Replies.{both-same}
 use Rattle.listing.specs.List.{listOf, listedOf}
 
 -- what the caller has: the answer with the number of bytes, and the buffer that held out holds cs
@@ -10,4 +11,4 @@ abbrev pub Filed : List ℕ → List ℕ → List ℕ → Wrote → Type 0
 Filed file out cs r = (r ≡ listOf file out) × (cs ≡ listedOf file out)
 
 pub list-unique : (file out cs cs′ : List ℕ) (r r′ : Wrote) → Filed file out cs r → Filed file out cs′ r′ → (r ≡ r′) × (cs ≡ cs′)
-list-unique file out cs cs′ r r′ h h′ = (h .0 ∙ sym (h′ .0), h .1 ∙ sym (h′ .1))
+list-unique file out cs cs′ r r′ h h′ = both-same h h′

@@ -9,13 +9,6 @@ fn title(number: u64) {
     io::write_all(STDOUT_FILENO, b"\n");
 }
 
-fn show(file: &[u8]) {
-    let mut out = [0u8; 16384];
-    let wrote = listing::list(file, &mut out);
-    let count = wrote.count;
-    io::write_all(STDOUT_FILENO, &out[..count]);
-}
-
 fn wide(x: u8) -> usize {
     x as usize
 }
@@ -44,7 +37,7 @@ fn list_next(body: &mut [u8], number: u64) -> bool {
         return false;
     }
     title(number);
-    show(&body[..n]);
+    shown::show(&body[..n]);
     true
 }
 

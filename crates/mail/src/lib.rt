@@ -26,7 +26,7 @@ pub struct New {
 }
 
 // A message's fields in a row, but for its hops.
-pub fn fields(m: Message) -> [u64; 9]
+fn fields(m: Message) -> [u64; 9]
     ensures { λ r. ⌜ r ≡ fieldsOf m ⌝ }
 {
     [
@@ -43,7 +43,7 @@ pub fn fields(m: Message) -> [u64; 9]
 }
 
 // Are the two equal in every field but the hops?
-pub fn alike(a: Message, b: Message) -> bool
+fn alike(a: Message, b: Message) -> bool
     ensures { λ r. ⌜ r ≡ alikeOf a b ⌝ }
 {
     (a.dest == b.dest)
@@ -130,7 +130,7 @@ pub fn join_waits(p: Pool, i: u32) -> bool
 }
 
 // A number made of the nine fields.
-pub fn mix(m: Message) -> u64
+fn mix(m: Message) -> u64
     ensures { λ r. ⌜ r ≡ mixOf m ⌝ }
 {
     let low = (m.word as u64)
@@ -146,7 +146,7 @@ pub fn mix(m: Message) -> u64
 }
 
 // The bucket of a message, below 509.
-pub fn bucket(m: Message) -> usize
+fn bucket(m: Message) -> usize
     ensures { λ r. ⌜ r ≡ bucketOf m ⌝ }
 {
     (mix(m) % 509) as usize
@@ -185,7 +185,7 @@ pub fn all_different(p: Pool) -> bool
 }
 
 // A set of slots, with q's if q equals m in all but the slot.
-pub fn held_with(set: u64, q: Message, m: Message) -> u64
+fn held_with(set: u64, q: Message, m: Message) -> u64
     ensures { λ r. ⌜ r ≡ heldWith m set q ⌝ }
 {
     let one = parts::to_slot(m, q.dest);

@@ -1,7 +1,7 @@
 // Parts of nodes and messages, the tests of a status, and 01's numbers.
 ghost use mathlib.Core.Path.{_≡_};
 ghost use Prim.Native.Nat.{ℕ};
-ghost use Rattle.rules.specs.Numbers.{statusNumber, statusFrom, answerNumber};
+ghost use Rattle.rules.specs.Numbers.{statusNumber, answerNumber};
 ghost use Rattle.rules.specs.Nodes.{sidesOf, carriedOf, placed};
 ghost use Rattle.rules.specs.Plans.{isDead, isWait, isOk, isReady, isUp, withStatus, withLeases, quietPlan, sendPlan};
 ghost use Rattle.rules.specs.Pool.{blank};
@@ -11,7 +11,6 @@ use rules::Answer;
 use rules::Message;
 use rules::Node;
 use rules::Plan;
-use rules::Read;
 use rules::Refusal;
 use rules::Sides;
 use rules::Status;
@@ -25,19 +24,6 @@ pub fn status_number(s: Status) -> u32
         Status::Wait => 1,
         Status::Ok => 2,
         Status::Ready => 3,
-    }
-}
-
-// The status of a number, if it is one of 01's four.
-pub fn status_from(x: u32) -> Read
-    ensures { λ r. ⌜ r ≡ statusFrom x ⌝ }
-{
-    match x {
-        0 => Read::Is(Status::Dead),
-        1 => Read::Is(Status::Wait),
-        2 => Read::Is(Status::Ok),
-        3 => Read::Is(Status::Ready),
-        _ => Read::None,
     }
 }
 

@@ -1,11 +1,7 @@
 -- 01's numbers: of a status, and of the answers. Assumes nothing.
-use mathlib.Core.Bool.{cond}
 use Prim.Native.Nat.{ℕ}
-use lib.Dec.{eqb}
 use Rattle.rules.specs.declared.Status.{Status}
 use Rattle.rules.specs.declared.Status.the-variants as status
-use Rattle.rules.specs.declared.Read.{Read}
-use Rattle.rules.specs.declared.Read.the-variants.{Is, None}
 use Rattle.rules.specs.declared.Refusal.{Refusal}
 use Rattle.rules.specs.declared.Refusal.the-variants as no
 use Rattle.rules.specs.declared.Answer.{Answer}
@@ -17,10 +13,6 @@ statusNumber status.Dead = 0
 statusNumber status.Wait = 1
 statusNumber status.Ok = 2
 statusNumber status.Ready = 3
-
-unfoldable pub statusFrom : ℕ → Read
-statusFrom x =
-    cond (eqb x 0) (Is status.Dead) (cond (eqb x 1) (Is status.Wait) (cond (eqb x 2) (Is status.Ok) (cond (eqb x 3) (Is status.Ready) None)))
 
 -- 1 slot, place or key out of range; 2 status forbids it; 3 the same request already waits; 4 leaf set empty, not empty or incomplete, as named;
 -- 5 sender or partner not allowed; 6 the pool after the step would exceed 256; 7 file shorter than 32 bytes;

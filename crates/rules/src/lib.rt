@@ -30,12 +30,6 @@ pub enum Status {
     Ready,
 }
 
-// What a number says of a status.
-pub enum Read {
-    Is(Status),
-    None,
-}
-
 // A node: its id and status, and seven sets of nodes.
 pub struct Node {
     pub id: u32,

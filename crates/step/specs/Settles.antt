@@ -28,7 +28,7 @@ use Rattle.table.specs.Settle.{refusedOf, settle}
 use Rattle.table.specs.Step.{inRange, actOf, isSound, stepOf}
 use Rattle.table.specs.Table.{ringOf}
 use Rattle.table.specs.Valid.{validOf}
-use Rattle.keeps.specs.By.{slotOf, leftOf, plannedOf, act-is}
+use Rattle.keeps.specs.By.{slotOf, remainingOf, plannedOf, act-is}
 use Rattle.step.specs.declared.Task.{Task}
 use Rattle.step.specs.Asked.{refusingWith, goneOf, taskOf, askedOf}
 
@@ -39,7 +39,7 @@ pub nothing-gone : (p : Pool) → p .count ≤ 256 → removedAt (waiting p) 256
 nothing-gone p h = removed-none (waiting p) 256 (omega (arith, waiting-short p))
 
 -- what waits when additions begin
-gone-left : (p : Pool) → p .count ≤ 256 → (a : Action) → removedAt (waiting p) (goneOf a) ≡ leftOf p a
+gone-left : (p : Pool) → p .count ≤ 256 → (a : Action) → removedAt (waiting p) (goneOf a) ≡ remainingOf p a
 gone-left p h (Lookup i k) = nothing-gone p h
 gone-left p h (Join i seed) = nothing-gone p h
 gone-left p h (RequestLease i) = nothing-gone p h

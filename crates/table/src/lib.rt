@@ -173,7 +173,7 @@ fn slot_ids(ids: &[u32]) -> [u32; 64]
 }
 
 // Is x below 2^m?
-fn below_size(x: u32, m: u32) -> bool
+pub fn below_size(x: u32, m: u32) -> bool
     requires { ⌜ m ≤ 32 ⌝ }
     ensures { λ r. ⌜ r ≡ ltb x (2 ^ m) ⌝ }
 {

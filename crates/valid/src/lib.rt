@@ -22,14 +22,6 @@ fn numbers_fit(g: Ring) -> bool
     (2 <= g.m) & (g.m <= 32) & ((1 <= g.l) & (g.l <= 8) & ((1 <= g.n) & (g.n <= 64)))
 }
 
-// Is x below 2^m?
-fn below_size(x: u32, m: u32) -> bool
-    requires { ⌜ m ≤ 32 ⌝ }
-    ensures { λ r. ⌜ r ≡ ltb x (2 ^ m) ⌝ }
-{
-    (x as u64) < (1u64 << m)
-}
-
 // The set of all listed nodes.
 fn all_nodes(n: usize) -> u64
     requires { ⌜ n ≤ 64 ⌝ }
@@ -93,7 +85,7 @@ fn id_fits(g: Ring, low: u64, id: u32) -> bool
     requires { ⌜ g .m ≤ 32 ⌝ }
     ensures { λ r. ⌜ r ≡ (ltb id (2 ^ g .m) && leb low id) ⌝ }
 {
-    below_size(id, g.m) & (low <= (id as u64))
+    table::below_size(id, g.m) & (low <= (id as u64))
 }
 
 // Each id is above the one before it: low is the least that the next may be.
@@ -150,7 +142,7 @@ fn key_fits(g: Ring, m: Message) -> bool
     requires { ⌜ g .m ≤ 32 ⌝ }
     ensures { λ r. ⌜ r ≡ fieldsFit 1 g m ⌝ }
 {
-    below_size(m.word, g.m) & word_alone(m)
+    table::below_size(m.word, g.m) & word_alone(m)
 }
 
 // A node and a routing set.

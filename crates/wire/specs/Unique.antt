@@ -6,6 +6,7 @@ use Prim.Native.Nat.{ℕ}
 use Rattle.rules.specs.declared.Action.{Action}
 use Rattle.table.specs.declared.Stepped.{Stepped}
 use Rattle.format.specs.declared.Wrote.{Wrote}
+use Rattle.format.specs.Replies.{both-same}
 use Rattle.entry.specs.declared.Rest.{Rest}
 use Rattle.wire.specs.Wire.{loadedOf, nextOf, begunOf, wroteBy, leftBy, restBy}
 
@@ -14,18 +15,15 @@ abbrev pub Filed : Stepped → List ℕ → List ℕ → Wrote → Type 0
 Filed s out cs r = (r ≡ wroteBy s out) × (cs ≡ leftBy s out)
 
 module _ (out cs cs′ : List ℕ) (r r′ : Wrote) where
-  filed-same : (s : Stepped) → Filed s out cs r → Filed s out cs′ r′ → (r ≡ r′) × (cs ≡ cs′)
-  filed-same s h h′ = (h .0 ∙ sym (h′ .0), h .1 ∙ sym (h′ .1))
-
   pub reload-unique : (file : List ℕ) → Filed (loadedOf file) out cs r → Filed (loadedOf file) out cs′ r′ → (r ≡ r′) × (cs ≡ cs′)
-  reload-unique file h h′ = filed-same (loadedOf file) h h′
+  reload-unique file h h′ = both-same h h′
 
   pub step-file-unique : (file : List ℕ) (a : Action) → Filed (nextOf (loadedOf file) a) out cs r → Filed (nextOf (loadedOf file) a) out cs′ r′
       → (r ≡ r′) × (cs ≡ cs′)
-  step-file-unique file a h h′ = filed-same (nextOf (loadedOf file) a) h h′
+  step-file-unique file a h h′ = both-same h h′
 
   pub start-file-unique : (m l a : ℕ) (ids : List ℕ) → Filed (begunOf m l a ids) out cs r → Filed (begunOf m l a ids) out cs′ r′ → (r ≡ r′) × (cs ≡ cs′)
-  start-file-unique m l a ids h h′ = filed-same (begunOf m l a ids) h h′
+  start-file-unique m l a ids h h′ = both-same h h′
 
 pub settled-file-unique : (file : List ℕ) (r r′ : Rest) → r ≡ restBy (loadedOf file) → r′ ≡ restBy (loadedOf file) → r ≡ r′
 settled-file-unique file r r′ h h′ = h ∙ sym h′

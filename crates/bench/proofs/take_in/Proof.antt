@@ -249,7 +249,9 @@ module _ {M : Type 1} (𝓤 : URA M) (H : Heap 𝓤) (A : Atoms 𝓤) (W : Given
         P.the-row (BlankEns 𝓤 H A mem run n) (λ r. r ≡ poolOf n blanks) (λ v₂. id⊢ 𝓤 _) (blank-of 𝓤 H A mem run n) (λ v₂ r e ir.
         let facts = blank-facts r n e in
         lands-struct ! 14 P.the-type P′.the-laws r refl refl ir $
-        sets-as ! 20 refl (of-opd ! (loc ! 14 refl)) (LL.lawful P.the-type P′.the-laws 𝓤 H A W .typed r (machP r ∷ []) (spelt P.the-type P′.the-laws r v₂ ir) .0) (ap (λ (k : ℕ). machP (poolOf k (r .places))) (facts .0)) $
+        sets-as ! 20 refl (of-opd ! (loc ! 14 refl))
+        (LL.lawful P.the-type P′.the-laws 𝓤 H A W .typed r (machP r ∷ []) (spelt P.the-type P′.the-laws r v₂ ir) .0)
+        (ap (λ (k : ℕ). machP (poolOf k (r .places))) (facts .0)) $
         forget ! 14 refl $ sets ! 18 refl (of-opd ! (lit ! tt)) (tt, record { fits = lit< tt }) $ forget ! 16 refl $
         move ! (31 ∷ []) $ fsplit ! $ move ! (1 ∷ []) $ drop ! $ fsplit ! $ move ! (1 ∷ []) $ fsplit ! $
         move ! (33 ∷ []) $ split ! $ move ! (1 ∷ []) $ drop ! $ move ! (0 ∷ 2 ∷ []) $

@@ -17,7 +17,8 @@ use prog.Wp.{Heap, Calls, Loops, WpFn, Tables}
 use ghost.Atoms.{Atoms, sem}
 use contract.Monad.{Fun, fact}
 use contract.Running.{givenOf as the-given, tables, tablesOf}
-use types.Kit.{Given, Item, ‵, raw, _⊛_, some, later, ⋆, _$_, _∵_, !, qed, by, move, drop, use1, use2, use3, pick, feqL, await, split, split3, join, fsplit, fjoin, suffices, frame, done}
+use types.Kit.{Given, Item, ‵, raw, _⊛_, some, later, ⋆, _$_, _∵_, !, qed, by}
+use types.Kit.{move, drop, use1, use2, use3, pick, feqL, await, split, split3, join, fsplit, fjoin, suffices, frame, done}
 use types.Part.{agg}
 use types.Run.{look, init, of-opd, and-then, no-more, returns, enter, params1, pass1, pass0}
 use types.Tokens.{lft-new, lft-end}

@@ -1,12 +1,12 @@
--- `lists::show` is safe: the listing's bytes lie within the buffer. Assumes nothing.
+-- `shown::show` is safe: the listing's bytes lie within the buffer. Assumes nothing.
 use borrow.Author.Needs.{needs}
 use mathlib.Core.Path.{sym}
 use Prim.Native.Nat.{_≤_}
 use lib.ListN.{length}
 use lib.Seq.{length-take-le}
 use Rattle.listing.specs.List.{list-inside}
-use Rattle.lists.proofs.show.Statement.{statement}
-use Rattle.lists.proofs.show.Tie as tie
+use Rattle.shown.proofs.show.Statement.{statement}
+use Rattle.shown.proofs.show.Tie as tie
 
 inside : (c : tie.After-list) → c .list .result .count ≤ length (c .list .last .1 .0)
 inside c = rw (c .list .ensures .0, c .list .ensures .1) (list-inside _ _)
