@@ -1,4 +1,4 @@
-//! CPU time of one round: the least of many short batches, the sides in turn, the lines gone through several
+//! CPU time of one round: low among many short batches, the sides in turn, the lines gone through several
 //! times over.
 
 use benchmarks::lines::Line;
@@ -37,28 +37,33 @@ fn spent(side: Side, line: &Line, times: u32, out: &mut [u8]) -> f64 {
     now() - begun
 }
 
-/// A side's least time for a batch, and for no round.
-#[derive(Clone, Copy)]
-struct Least {
-    rounds: u32,
-    batch: f64,
-    none: f64,
+/// The time that a hundredth of them are below: the least would be a slip of the clock, if there was one.
+fn low(mut times: Vec<f64>) -> f64 {
+    times.sort_by(f64::total_cmp);
+    times[times.len() / 100]
 }
 
-impl Least {
-    fn new(side: Side, line: &Line, out: &mut [u8]) -> Least {
-        let tried = (0..5).map(|_| spent(side, line, 32, out)).fold(f64::MAX, f64::min) / 32.0;
+/// A side's times for a batch, and for no round.
+struct Times {
+    rounds: u32,
+    batch: Vec<f64>,
+    none: Vec<f64>,
+}
+
+impl Times {
+    fn new(side: Side, line: &Line, out: &mut [u8]) -> Times {
+        let tried = low((0..101).map(|_| spent(side, line, 32, out)).collect()) / 32.0;
         let rounds = (BATCH_NANOSECONDS / tried).clamp(16.0, 100_000.0) as u32;
-        Least { rounds, batch: f64::MAX, none: f64::MAX }
+        Times { rounds, batch: Vec::new(), none: Vec::new() }
     }
 
     fn take(&mut self, side: Side, line: &Line, out: &mut [u8]) {
-        self.batch = self.batch.min(spent(side, line, self.rounds, out));
-        self.none = self.none.min(spent(side, line, 0, out));
+        self.batch.push(spent(side, line, self.rounds, out));
+        self.none.push(spent(side, line, 0, out));
     }
 
-    fn microseconds(&self) -> f64 {
-        (self.batch - self.none) / f64::from(self.rounds) / 1000.0
+    fn microseconds(self) -> f64 {
+        (low(self.batch) - low(self.none)) / f64::from(self.rounds) / 1000.0
     }
 }
 
@@ -74,22 +79,22 @@ pub fn of_a_copy() -> f64 {
         }
         now() - begun
     };
-    (0..100).map(|_| batch()).fold(f64::MAX, f64::min) / (TURNS * POOLS) as f64 / 1000.0
+    low((0..101).map(|_| batch()).collect()) / (TURNS * POOLS) as f64 / 1000.0
 }
 
 /// For each line, the microseconds of one round of each side.
 pub fn of(lines: &[Line]) -> Vec<[f64; 3]> {
     let mut out = room();
-    let mut least: Vec<[Least; 3]> =
-        lines.iter().map(|line| Side::ALL.map(|side| Least::new(side, line, &mut out))).collect();
+    let mut times: Vec<[Times; 3]> =
+        lines.iter().map(|line| Side::ALL.map(|side| Times::new(side, line, &mut out))).collect();
     for _ in 0..PASSES {
-        for (line, least) in lines.iter().zip(&mut least) {
+        for (line, times) in lines.iter().zip(&mut times) {
             for _ in 0..BATCHES {
-                for (side, least) in Side::ALL.into_iter().zip(least.iter_mut()) {
-                    least.take(side, line, &mut out);
+                for (side, times) in Side::ALL.into_iter().zip(times.iter_mut()) {
+                    times.take(side, line, &mut out);
                 }
             }
         }
     }
-    least.iter().map(|sides| sides.map(|least| least.microseconds())).collect()
+    times.into_iter().map(|sides| sides.map(Times::microseconds)).collect()
 }
