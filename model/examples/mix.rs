@@ -1,8 +1,8 @@
 //! What the generated requests are: how often each kind of request gets each number.
 
 use model::gen::Requests;
-use model::wire::{answer, Request};
-use model::{load, Action, Table, EMPTY_POOL};
+use model::wire::{Request, Server};
+use model::{load, Action, Right, Table, EMPTY_POOL};
 use std::collections::BTreeMap;
 
 fn name(request: &[u8]) -> String {
@@ -12,6 +12,8 @@ fn name(request: &[u8]) -> String {
         Some(Request::Start { .. }) => return "start".to_string(),
         Some(Request::Settled { .. }) => return "settled".to_string(),
         Some(Request::List { .. }) => return "list".to_string(),
+        Some(Request::Begin { .. }) => return "begin".to_string(),
+        Some(Request::Next { .. }) => return "next".to_string(),
         Some(Request::Step { action, file }) => (action, file),
     };
     let (mut table, mut pool) = (Table::BLANK, EMPTY_POOL);
@@ -27,14 +29,14 @@ fn name(request: &[u8]) -> String {
 fn main() {
     let mut argument = std::env::args().skip(1).map(|text| text.parse().expect("a number"));
     let (seed, count) = (argument.next().unwrap_or(1), argument.next().unwrap_or(100_000));
-    let mut requests = Requests::new(seed);
+    let (mut requests, mut model) = (Requests::new(seed), Server::new(Right));
     let mut seen: BTreeMap<String, BTreeMap<i64, u64>> = BTreeMap::new();
     let (mut request, mut reply, mut bytes) = (Vec::new(), Vec::new(), 0);
     for _ in 0..count {
         request.clear();
         reply.clear();
         requests.put(&mut request);
-        answer(&request, &mut reply);
+        model.answer(&request, &mut reply);
         bytes += request.len();
         let number = i64::from(i32::from_le_bytes([reply[0], reply[1], reply[2], reply[3]]));
         *seen.entry(name(&request)).or_default().entry(number).or_default() += 1;

@@ -1,4 +1,4 @@
-//! An independent model of the ring bench of document 01.
+//! An independent model of the ring bench of document 01, and of the change requests that have landed.
 //!
 //! The right reading is the crate's plain functions. Each `*_as` function takes a [`Reading`],
 //! so that misreadings of 01 run through the same source.
@@ -14,6 +14,7 @@ pub mod marks;
 mod message;
 mod reading;
 mod refusal;
+mod rehearsal;
 mod ring;
 mod settled;
 mod slips;
@@ -30,6 +31,7 @@ pub use listing::{listing, listing_as};
 pub use message::{Fields, Message, Pool, EMPTY_POOL};
 pub use reading::{Reading, Right, Slip, Slipped};
 pub use refusal::Refusal;
+pub use rehearsal::{Rehearsal, Verdict};
 pub use ring::Ring;
 pub use settled::{settled, settled_as};
 pub use start::{start, start_as};

@@ -49,7 +49,7 @@ impl Reading for Slipped {
 
 macro_rules! slips {
     ($($(#[doc = $about:literal])+ $name:ident,)*) => {
-        /// A plausible misreading of 01.
+        /// A plausible misreading of 01 or of a change request.
         #[derive(Clone, Copy, Debug, PartialEq, Eq)]
         pub enum Slip {
             $($(#[doc = $about])+ $name,)*
@@ -73,6 +73,7 @@ impl Slip {
         match self {
             Slip::ProbingLosesF => Some("F is the old failed without j, and j leaves probing anyway"),
             Slip::JoinOfItselfIsFive => Some("a node is not both dead and ready, so 2 comes first"),
+            Slip::BadStepKept => Some("a bad step ends the check, and the table is not looked at again"),
             _ => None,
         }
     }
@@ -492,4 +493,23 @@ slips! {
     SenderInFailed,
     /// A message to its own sender is not valid.
     SentToItself,
+
+    // A rehearsal (T-09).
+
+    /// A rehearsal has at most 999 steps.
+    StepsTo999,
+    /// A rehearsal may have 1,001 steps.
+    StepsTo1001,
+    /// Bad steps are counted from 0.
+    BadStepFromZero,
+    /// A bad step does not end the check.
+    BadStepGoesOn,
+    /// The table after a bad step is kept.
+    BadStepKept,
+    /// A refused action is good if the stated file is that of the table before it.
+    RefusedIsNoChange,
+    /// A longer stated file is good if its first bytes are.
+    StatedLonger,
+    /// A stated file that is cut short is good.
+    StatedShorter,
 }

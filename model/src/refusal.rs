@@ -26,6 +26,8 @@ pub enum Refusal {
     Invalid = 10,
     /// The write buffer is too small.
     NoRoom = 11,
+    /// A rehearsal's further step after an end or beyond 1,000.
+    Over = 12,
 }
 
 impl Refusal {

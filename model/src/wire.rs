@@ -1,13 +1,14 @@
 //! Requests and replies of the driver, without their length words.
 //!
 //! A request is a kind byte, its arguments as 64-bit words, and a table file (for a start the ids).
-//! A reply is a 32-bit number and, where it is 0, the result.
+//! A reply is a 32-bit number and, where it is 0, the result. Between requests a rehearsal is held.
 
 use crate::file::{load_as, write_as, LARGEST};
 use crate::listing::listing_as;
 use crate::message::EMPTY_POOL;
-use crate::reading::{Reading, Right};
+use crate::reading::Reading;
 use crate::refusal::Refusal;
+use crate::rehearsal::{Rehearsal, Verdict};
 use crate::settled::settled_as;
 use crate::start::start_as;
 use crate::step::{step_as, Action};
@@ -27,6 +28,8 @@ pub enum Request<'a> {
     Start { m: u64, l: u64, ready: u64, ids: Vec<u32> },
     Settled { file: &'a [u8] },
     List { file: &'a [u8] },
+    Begin { file: &'a [u8] },
+    Next { action: Action, stated: &'a [u8] },
 }
 
 impl<'a> Request<'a> {
@@ -38,8 +41,8 @@ impl<'a> Request<'a> {
         match kind {
             0 => Some(Request::Load { file }),
             1 => {
-                let ([number, first, second], file) = three_words(file)?;
-                Some(Request::Step { action: action(number, first, second)?, file })
+                let (action, file) = action(file)?;
+                Some(Request::Step { action, file })
             }
             2 => {
                 let ([m, l, ready], ids) = three_words(file)?;
@@ -55,6 +58,11 @@ impl<'a> Request<'a> {
             }
             3 => Some(Request::Settled { file }),
             4 => Some(Request::List { file }),
+            5 => Some(Request::Begin { file }),
+            6 => {
+                let (action, stated) = action(file)?;
+                Some(Request::Next { action, stated })
+            }
             _ => None,
         }
     }
@@ -70,6 +78,8 @@ impl<'a> Request<'a> {
             }
             Request::Settled { file } => put_parts(out, 3, [], file),
             Request::List { file } => put_parts(out, 4, [], file),
+            Request::Begin { file } => put_parts(out, 5, [], file),
+            Request::Next { action, stated } => put_parts(out, 6, action_words(*action), stated),
         }
     }
 }
@@ -86,18 +96,21 @@ fn three_words(bytes: &[u8]) -> Option<([u64; 3], &[u8])> {
     Some(([word(0), word(1), word(2)], rest))
 }
 
-fn action(number: u64, first: u64, second: u64) -> Option<Action> {
+/// An action, and what stands after it.
+fn action(bytes: &[u8]) -> Option<(Action, &[u8])> {
+    let ([number, first, second], rest) = three_words(bytes)?;
     let slot = |word: u64| usize::try_from(word).unwrap_or(usize::MAX);
     let (node, partner) = (slot(first), slot(second));
-    match number {
-        1 => Some(Action::Lookup { at: node, key: second }),
-        2 => Some(Action::Join { node, seed: partner }),
-        3 => Some(Action::RequestLease { node }),
-        4 => Some(Action::LeaseExpired { node, partner }),
-        5 => Some(Action::GrantExpired { node, partner }),
-        6 => Some(Action::Take { place: node }),
-        _ => None,
-    }
+    let action = match number {
+        1 => Action::Lookup { at: node, key: second },
+        2 => Action::Join { node, seed: partner },
+        3 => Action::RequestLease { node },
+        4 => Action::LeaseExpired { node, partner },
+        5 => Action::GrantExpired { node, partner },
+        6 => Action::Take { place: node },
+        _ => return None,
+    };
+    Some((action, rest))
 }
 
 fn action_words(action: Action) -> [u64; 3] {
@@ -111,45 +124,77 @@ fn action_words(action: Action) -> [u64; 3] {
     }
 }
 
-/// Puts the reply to a request after `out`.
-pub fn answer(request: &[u8], out: &mut Vec<u8>) {
-    answer_as(Right, request, out);
+/// A driver by one reading, and the rehearsal that it holds. Before the first it is one without a start.
+pub struct Server<R> {
+    r: R,
+    rehearsal: Rehearsal,
 }
 
-pub fn answer_as<R: Reading>(r: R, request: &[u8], out: &mut Vec<u8>) {
-    let start = out.len();
-    out.extend_from_slice(&0u32.to_le_bytes());
-    let number = match Request::parse(request) {
-        None => MALFORMED,
-        Some(request) => match result(r, &request, out) {
-            Ok(()) => 0,
-            Err(refusal) => refusal.number(),
-        },
-    };
-    out[start..start + 4].copy_from_slice(&number.to_le_bytes());
-}
+impl<R: Reading> Server<R> {
+    pub fn new(r: R) -> Server<R> {
+        Server { r, rehearsal: Rehearsal::begin_as(r, &[]) }
+    }
 
-fn result<R: Reading>(r: R, request: &Request, out: &mut Vec<u8>) -> Result<(), Refusal> {
-    let (mut table, mut pool) = (Table::BLANK, EMPTY_POOL);
-    match request {
-        Request::Load { file } => load_as(r, file, &mut table, &mut pool)?,
-        Request::Step { action, file } => {
-            load_as(r, file, &mut table, &mut pool)?;
-            step_as(r, &mut table, &mut pool, *action)?;
+    /// Puts the reply to a request after `out`.
+    pub fn answer(&mut self, request: &[u8], out: &mut Vec<u8>) {
+        let start = out.len();
+        out.extend_from_slice(&0u32.to_le_bytes());
+        let number = match Request::parse(request) {
+            None => MALFORMED,
+            Some(request) => match self.result(&request, out) {
+                Ok(()) => 0,
+                Err(refusal) => refusal.number(),
+            },
+        };
+        out[start..start + 4].copy_from_slice(&number.to_le_bytes());
+    }
+
+    fn result(&mut self, request: &Request, out: &mut Vec<u8>) -> Result<(), Refusal> {
+        let r = self.r;
+        let (mut table, mut pool) = (Table::BLANK, EMPTY_POOL);
+        match request {
+            Request::Load { file } => load_as(r, file, &mut table, &mut pool)?,
+            Request::Step { action, file } => {
+                load_as(r, file, &mut table, &mut pool)?;
+                step_as(r, &mut table, &mut pool, *action)?;
+            }
+            Request::Start { m, l, ready, ids } => {
+                start_as(r, *m, *l, ids, *ready, &mut table, &mut pool)?;
+            }
+            Request::Settled { file } => {
+                load_as(r, file, &mut table, &mut pool)?;
+                out.push(settled_as(r, &table, &pool)?.into());
+                return Ok(());
+            }
+            Request::List { file } => {
+                out.extend_from_slice(&listing_as(r, file));
+                return Ok(());
+            }
+            Request::Begin { file } => {
+                self.rehearsal = Rehearsal::begin_as(r, file);
+                self.put_verdict(out);
+                return Ok(());
+            }
+            Request::Next { action, stated } => {
+                self.rehearsal.next_as(r, *action, stated)?;
+                self.put_verdict(out);
+                return Ok(());
+            }
         }
-        Request::Start { m, l, ready, ids } => start_as(r, *m, *l, ids, *ready, &mut table, &mut pool)?,
-        Request::Settled { file } => {
-            load_as(r, file, &mut table, &mut pool)?;
-            out.push(settled_as(r, &table, &pool)?.into());
-            return Ok(());
-        }
-        Request::List { file } => {
-            out.extend_from_slice(&listing_as(r, file));
-            return Ok(());
+        let mut buffer = [0; LARGEST];
+        let length = write_as(r, &table, &pool, &mut buffer)?;
+        out.extend_from_slice(&buffer[..length]);
+        Ok(())
+    }
+
+    /// 1, or 0 and the number of the first bad step.
+    fn put_verdict(&self, out: &mut Vec<u8>) {
+        match self.rehearsal.verdict() {
+            Verdict::Accepted => out.push(1),
+            Verdict::Bad(step) => {
+                out.push(0);
+                out.extend_from_slice(&step.to_le_bytes());
+            }
         }
     }
-    let mut buffer = [0; LARGEST];
-    let length = write_as(r, &table, &pool, &mut buffer)?;
-    out.extend_from_slice(&buffer[..length]);
-    Ok(())
 }

@@ -3,7 +3,9 @@
 mod slow;
 
 use model::gen::Requests;
-use model::wire::answer;
+use model::wire::Server;
+use model::Right;
+use slow::rehearsal::Rehearsal;
 use std::collections::BTreeMap;
 
 /// Compares `each` requests of every seed; how often each number was due, and how often several were.
@@ -11,13 +13,14 @@ fn compare(seeds: std::ops::Range<u64>, each: usize) -> (BTreeMap<u32, u64>, u64
     let mut seen: BTreeMap<u32, u64> = BTreeMap::new();
     let mut several = 0;
     for seed in seeds {
-        let mut requests = Requests::new(seed);
+        let (mut requests, mut model) = (Requests::new(seed), Server::new(Right));
+        let mut rehearsal = Rehearsal::default();
         for nth in 0..each {
             let mut request = Vec::new();
             requests.put(&mut request);
             let mut reply = Vec::new();
-            answer(&request, &mut reply);
-            let verdict = slow::judge(&request);
+            model.answer(&request, &mut reply);
+            let verdict = slow::judge(&mut rehearsal, &request);
             let (head, numbers) = (&request[..request.len().min(25)], &verdict.numbers);
             let got = &reply[..4];
             assert!(reply == verdict.reply(), "seed {seed} request {nth} {head:?}: {got:?} but {numbers:?}");
@@ -31,7 +34,7 @@ fn compare(seeds: std::ops::Range<u64>, each: usize) -> (BTreeMap<u32, u64>, u64
 #[test]
 fn every_reply_is_the_slow_one() {
     let (seen, several) = compare(0..4, 5_000);
-    let all = [0, 1, 2, 3, 4, 5, 6, 7, 8, 9, 10, u32::MAX];
+    let all = [0, 1, 2, 3, 4, 5, 6, 7, 8, 9, 10, 12, u32::MAX];
     assert!(all.iter().all(|number| seen.get(number).copied().unwrap_or(0) >= 20), "{seen:?}");
     assert!(several > 500, "{several} requests have several refusals");
 }

@@ -14,8 +14,10 @@ fn files(seed: u64, count: usize) -> Vec<Vec<u8>> {
     for _ in 0..count {
         let mut bytes = Vec::new();
         requests.put(&mut bytes);
-        if let Some(Request::Step { file, .. } | Request::Load { file }) = Request::parse(&bytes) {
-            files.push(file.to_vec());
+        match Request::parse(&bytes) {
+            Some(Request::Step { file, .. } | Request::Load { file }) => files.push(file.to_vec()),
+            Some(Request::Begin { file } | Request::Next { stated: file, .. }) => files.push(file.to_vec()),
+            _ => {}
         }
     }
     files

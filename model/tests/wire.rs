@@ -4,21 +4,29 @@ mod common;
 
 use common::Bench;
 use model::gen::Requests;
-use model::wire::{answer, answer_as, Request, LONGEST};
-use model::{Action, Slip, Slipped};
+use model::wire::{Request, Server, LONGEST};
+use model::{Action, Right, Slip, Slipped};
 
-fn reply(request: &[u8]) -> (u32, Vec<u8>) {
+fn reply_of(server: &mut Server<Right>, request: &[u8]) -> (u32, Vec<u8>) {
     let mut out = Vec::new();
-    answer(request, &mut out);
+    server.answer(request, &mut out);
     let (number, result) = out.split_first_chunk().expect("a reply has a number");
     (u32::from_le_bytes(*number), result.to_vec())
 }
 
-fn ask(request: Request) -> (u32, Vec<u8>) {
+fn reply(request: &[u8]) -> (u32, Vec<u8>) {
+    reply_of(&mut Server::new(Right), request)
+}
+
+fn ask_of(server: &mut Server<Right>, request: Request) -> (u32, Vec<u8>) {
     let mut bytes = Vec::new();
     request.put(&mut bytes);
     assert_eq!(Request::parse(&bytes), Some(request));
-    reply(&bytes)
+    reply_of(server, &bytes)
+}
+
+fn ask(request: Request) -> (u32, Vec<u8>) {
+    ask_of(&mut Server::new(Right), request)
 }
 
 #[test]
@@ -54,9 +62,10 @@ fn files_that_do_not_load_answer_their_number() {
 fn malformed_requests_have_their_own_number() {
     let malformed = (u32::MAX, vec![]);
     assert_eq!(reply(&[]), malformed);
-    assert_eq!(reply(&[5]), malformed);
+    assert_eq!(reply(&[7]), malformed);
     assert_eq!(reply(&[255]), malformed);
     assert_eq!(reply(&[1; 24]), malformed, "too short for its arguments");
+    assert_eq!(reply(&[6; 24]), malformed, "too short for its arguments");
     assert_eq!(reply(&[2; 24]), malformed, "too short for its arguments");
     assert_eq!(reply(&[0; LONGEST + 1]), malformed, "too long");
     assert_eq!(reply(&[0; LONGEST]), (8, vec![]));
@@ -78,6 +87,33 @@ fn malformed_requests_have_their_own_number() {
 }
 
 #[test]
+fn a_rehearsal_is_held_between_requests() {
+    let bench = Bench::start(8, 1, &[17, 18, 65, 95], &[0, 1, 2, 3]);
+    let mut after = bench.clone();
+    after.lookup(0, 80);
+    let (start, stated) = (bench.file(), after.file());
+    let lookup = Action::Lookup { at: 0, key: 80 };
+    let mut server = Server::new(Right);
+    let mut ask = |request: Request| ask_of(&mut server, request);
+    let next = |action: Action| Request::Next { action, stated: &stated };
+    assert_eq!(ask(next(lookup)), (12, vec![]), "none is begun");
+    assert_eq!(ask(Request::Begin { file: &start[..31] }), (0, vec![0, 0, 0, 0, 0]));
+    assert_eq!(ask(next(lookup)), (12, vec![]));
+    assert_eq!(ask(Request::Begin { file: &start }), (0, vec![1]));
+    assert_eq!(ask(Request::Settled { file: &stated }), (0, vec![1]), "in between");
+    assert_eq!(ask(next(lookup)), (0, vec![1]));
+    assert_eq!(ask(next(lookup)), (0, vec![0, 2, 0, 0, 0]), "it waits already");
+    assert_eq!(ask(next(Action::Take { place: 0 })), (12, vec![]));
+    assert_eq!(ask(Request::Begin { file: &stated }), (0, vec![1]));
+    let mut no_action = Vec::new();
+    next(lookup).put(&mut no_action);
+    no_action[1] = 7;
+    assert_eq!(reply_of(&mut server, &no_action), (u32::MAX, vec![]));
+    let request = Request::Next { action: Action::Lookup { at: 2, key: 200 }, stated: &start };
+    assert_eq!(ask_of(&mut server, request), (0, vec![0, 1, 0, 0, 0]), "the request before it did not count");
+}
+
+#[test]
 fn the_same_seed_gives_the_same_requests() {
     let (mut one, mut two) = (Requests::new(5), Requests::new(5));
     for _ in 0..500 {
@@ -90,26 +126,28 @@ fn the_same_seed_gives_the_same_requests() {
 
 #[test]
 fn every_misreading_is_told_apart_or_equivalent() {
-    let mut open: Vec<Slip> = Slip::ALL.to_vec();
+    let server = |slip: Option<Slip>| Server::new(Slipped(slip));
+    let mut open: Vec<(Slip, Server<Slipped>)> =
+        Slip::ALL.iter().map(|&slip| (slip, server(Some(slip)))).collect();
     assert!(open.len() >= 40);
-    let mut requests = Requests::new(1);
+    let (mut requests, mut model, mut none) = (Requests::new(1), Server::new(Right), server(None));
     let (mut request, mut right, mut other) = (Vec::new(), Vec::new(), Vec::new());
     for nth in 0..60_000 {
         request.clear();
         requests.put(&mut request);
         right.clear();
-        answer(&request, &mut right);
-        let mut same = |reading: Slipped| {
+        model.answer(&request, &mut right);
+        let mut same = |server: &mut Server<Slipped>| {
             other.clear();
-            answer_as(reading, &request, &mut other);
+            server.answer(&request, &mut other);
             other == right
         };
-        assert!(same(Slipped(None)), "request {nth}: no slip is the right reading");
-        open.retain(|&slip| same(Slipped(Some(slip))));
-        if nth > 2_000 && open.iter().all(|slip| slip.equivalent().is_some()) {
+        assert!(same(&mut none), "request {nth}: no slip is the right reading");
+        open.retain_mut(|(_, server)| same(server));
+        if nth > 2_000 && open.iter().all(|(slip, _)| slip.equivalent().is_some()) {
             break;
         }
     }
     let wanted: Vec<Slip> = Slip::ALL.iter().copied().filter(|slip| slip.equivalent().is_some()).collect();
-    assert_eq!(open, wanted);
+    assert_eq!(open.iter().map(|(slip, _)| *slip).collect::<Vec<Slip>>(), wanted);
 }

@@ -6,11 +6,14 @@ use Rattle.format.specs.Replies.{both-same}
 use Rattle.wire.specs.Wire.{loadedOf, begunOf, wroteBy, leftBy, restBy}
 use Rattle.listing.specs.List.{listOf, listedOf}
 use Rattle.abi.specs.declared.Asked.{Asked}
-use Rattle.abi.specs.Abi.{packOf, restWord, stepWord, stepLeft}
+use Rattle.abi.specs.Abi.{packOf, restWord, askedOf, stepWord, stepLeft}
 
 -- the reply is this word, and the buffer is left with this content
 abbrev pub Replies : ℕ → List ℕ → ℕ → List ℕ → Type 0
 Replies word left r bs = (r ≡ word) × (bs ≡ left)
+
+pub action-of-unique : (k x y : ℕ) (q q′ : Asked) → q ≡ askedOf k x y → q′ ≡ askedOf k x y → q ≡ q′
+action-of-unique k x y q q′ h h′ = h ∙ sym h′
 
 module _ (out bs bs′ : List ℕ) (r r′ : ℕ) where
   pub start-unique : (m l a : ℕ) (ids : List ℕ)

@@ -16,7 +16,8 @@ pub enum Asked {
     None,
 }
 
-fn action_of(k: u64, x: u64, y: u64) -> Asked
+// The action of a number, with its two words.
+pub fn action_of(k: u64, x: u64, y: u64) -> Asked
     ensures { λ r. ⌜ r ≡ askedOf k x y ⌝ }
 {
     match k {

@@ -1,18 +1,41 @@
 // Answers requests on standard input until it ends. All numbers are little-endian. A request: a word of 32 bits, its length, then a byte, its
 // kind, then its arguments as words of 64 bits, then a table file (for a start the ids, words of 32 bits). The answer: a word of 32 bits, its
-// length, a word of 32 bits, its number, then, where the number is 0, the result. model/README.md has the kinds.
+// length, a word of 32 bits, its number, then, where the number is 0, the result. docs/DRIVER.md has the kinds. Between requests nothing is held
+// but the checker of a rehearsal.
 ghost use mathlib.Core.Path.{_≡_};
 ghost use lib.ListN.{length};
+use abi::Asked;
 use entry::Rest;
 use format::Wrote;
 use libc::STDIN_FILENO;
 use libc::STDOUT_FILENO;
+use rehearsal::Checker;
+use rehearsal::Handed;
+use rehearsal::Verdict;
 use rules::Answer;
 
 // A number, and how many bytes of the buffer are the result.
 struct Reply {
     number: u32,
     count: usize,
+}
+
+// A reply, and the checker after it.
+struct Heard {
+    reply: Reply,
+    checker: Checker,
+}
+
+// Whether there is more to serve, and the checker.
+struct Served {
+    more: bool,
+    checker: Checker,
+}
+
+// The end of the input, or a request of so many bytes.
+enum Came {
+    End,
+    Request(usize),
 }
 
 fn wide(x: u8) -> u64 {
@@ -150,7 +173,86 @@ fn print_list(rest: &[u8], out: &mut [u8]) -> Reply {
     reply_of(listing::list(rest, out))
 }
 
-// The reply to a request.
+// Writes a byte where there is room for it.
+fn put(out: &mut [u8], at: usize, x: usize) {
+    if at < out.len() {
+        out[at] = (x % 256) as u8;
+    }
+}
+
+// The verdict so far as bytes: 1, or 0 and then the number of the first bad step in 32 bits.
+fn tell(v: Verdict, out: &mut [u8]) -> Reply {
+    match v {
+        Verdict::Accepted => {
+            put(out, 0, 1);
+            Reply {
+                number: 0,
+                count: 1,
+            }
+        }
+        Verdict::Bad(k) => {
+            put(out, 0, 0);
+            put(out, 1, k);
+            put(out, 2, k / 256);
+            put(out, 3, k / 65536);
+            put(out, 4, k / 16777216);
+            Reply {
+                number: 0,
+                count: 5,
+            }
+        }
+    }
+}
+
+// A reply that leaves the checker as it is.
+fn unmoved(c: Checker, reply: Reply) -> Heard {
+    Heard { reply, checker: c }
+}
+
+// The checker's verdict.
+fn judged(c: Checker, out: &mut [u8]) -> Heard {
+    let verdict = c.verdict;
+    unmoved(c, tell(verdict, out))
+}
+
+// What is said of a step that was handed over.
+fn told(h: Handed, out: &mut [u8]) -> Heard {
+    let reply = h.reply;
+    let checker = h.checker;
+    let number = rehearsal::number(reply);
+    if number != 0 {
+        return unmoved(checker, refused(number));
+    }
+    judged(checker, out)
+}
+
+fn next_step(c: Checker, rest: &[u8], out: &mut [u8]) -> Heard {
+    if rest.len() < 24 {
+        return unmoved(c, malformed());
+    }
+    let action = word64(rest, 0);
+    let x = word64(rest, 8);
+    let y = word64(rest, 16);
+    match abi::action_of(action, x, y) {
+        Asked::Is(a) => told(rehearsal::next(c, a, &rest[24..]), out),
+        Asked::None => unmoved(c, malformed()),
+    }
+}
+
+// The reply to a request of a rehearsal.
+fn hear(c: Checker, request: &[u8], out: &mut [u8]) -> Heard {
+    if request.len() == 0 {
+        return unmoved(c, malformed());
+    }
+    let kind = wide(request[0]);
+    match kind {
+        5 => judged(rehearsal::begin(&request[1..]), out),
+        6 => next_step(c, &request[1..], out),
+        _ => unmoved(c, malformed()),
+    }
+}
+
+// The reply to a request of another kind.
 fn reply_to(request: &[u8], out: &mut [u8]) -> Reply {
     if request.len() == 0 {
         return malformed();
@@ -232,6 +334,56 @@ fn skip(body: &mut [u8], n: usize) -> bool {
     fill(body, left)
 }
 
+// Reads the next request. One that is too long is read past, and counts as an empty one, which is none either.
+fn receive(body: &mut [u8]) -> Came {
+    let mut head = [0u8; 4];
+    let got = io::read_full(STDIN_FILENO, &mut head);
+    if got < 4 {
+        return Came::End;
+    }
+    let n = word32(&head, 0) as usize;
+    if n > body.len() {
+        if skip(body, n) {
+            return Came::Request(0);
+        }
+        return Came::End;
+    }
+    if fill(body, n) {
+        return Came::Request(n);
+    }
+    Came::End
+}
+
+// Is the request in the buffer one of a rehearsal?
+fn rehearses(body: &[u8], n: usize) -> bool {
+    if n == 0 {
+        return false;
+    }
+    if body.len() == 0 {
+        return false;
+    }
+    let kind = wide(body[0]);
+    kind == 5 || kind == 6
+}
+
+// Answers a request of a rehearsal: whether the reply was sent, and the checker after it.
+fn rehearse(c: Checker, body: &[u8], n: usize, out: &mut [u8]) -> Served {
+    if n > body.len() {
+        return Served {
+            more: false,
+            checker: c,
+        };
+    }
+    let h = hear(c, &body[..n], out);
+    let reply = h.reply;
+    let checker = h.checker;
+    Served {
+        more: send(reply, out),
+        checker,
+    }
+}
+
+// Answers a request of another kind: whether the reply was sent.
 fn answer(body: &[u8], n: usize, out: &mut [u8]) -> bool {
     if n > body.len() {
         return false;
@@ -240,29 +392,37 @@ fn answer(body: &[u8], n: usize, out: &mut [u8]) -> bool {
     send(r, out)
 }
 
-// One request: whether there was one, and its reply was sent.
-fn serve(body: &mut [u8], out: &mut [u8]) -> bool {
-    let mut head = [0u8; 4];
-    let got = io::read_full(STDIN_FILENO, &mut head);
-    if got < 4 {
-        return false;
-    }
-    let n = word32(&head, 0) as usize;
-    if n > body.len() {
-        if !skip(body, n) {
-            return false;
+// Answers requests until one of a rehearsal has come.
+fn serve_others(body: &mut [u8], out: &mut [u8]) -> Came {
+    let mut turns = u64::MAX;
+    while turns > 0 {
+        let Came::Request(n) = receive(body) else {
+            return Came::End;
+        };
+        if rehearses(body, n) {
+            return Came::Request(n);
         }
-        return send(malformed(), out);
+        if !answer(body, n, out) {
+            return Came::End;
+        }
+        turns -= 1;
     }
-    if !fill(body, n) {
-        return false;
-    }
-    answer(body, n, out)
+    Came::End
 }
 
+// Answers all requests. The checker begins with an empty file, which is no start.
 fn serve_all(body: &mut [u8], out: &mut [u8]) {
+    let mut checker = rehearsal::begin(&body[..0]);
     let mut turns = u64::MAX;
-    while turns > 0 && serve(body, out) {
+    while turns > 0 {
+        let Came::Request(n) = serve_others(body, out) else {
+            return;
+        };
+        let s = rehearse(checker, body, n, out);
+        if !s.more {
+            return;
+        }
+        checker = s.checker;
         turns -= 1;
     }
 }

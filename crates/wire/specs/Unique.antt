@@ -14,6 +14,9 @@ use Rattle.wire.specs.Wire.{loadedOf, nextOf, begunOf, wroteBy, leftBy, 
 abbrev pub Filed : Stepped → List ℕ → List ℕ → Wrote → Type 0
 Filed s out cs r = (r ≡ wroteBy s out) × (cs ≡ leftBy s out)
 
+pub loaded-unique : (file : List ℕ) (s s′ : Stepped) → s ≡ loadedOf file → s′ ≡ loadedOf file → s ≡ s′
+loaded-unique file s s′ h h′ = h ∙ sym h′
+
 module _ (out cs cs′ : List ℕ) (r r′ : Wrote) where
   pub reload-unique : (file : List ℕ) → Filed (loadedOf file) out cs r → Filed (loadedOf file) out cs′ r′ → (r ≡ r′) × (cs ≡ cs′)
   reload-unique file h h′ = both-same h h′

@@ -25,7 +25,7 @@ fn no_table() -> Table
 }
 
 // What the file holds, or its refusal.
-fn loaded(file: &[u8]) -> Stepped
+pub fn loaded(file: &[u8]) -> Stepped
     ensures { λ r. ⌜ r ≡ loadedOf (now (file .entry)) ⌝ }
 {
     reader::load(file, no_table(), entry::no_messages(), 256)

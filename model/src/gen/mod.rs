@@ -1,9 +1,10 @@
-//! Seeded requests: tables, walks, damaged files and malformed requests.
+//! Seeded requests: tables, walks, damaged files, rehearsals and malformed requests.
 
 mod case;
 mod damage;
 mod messages;
 mod prime;
+mod rehearsals;
 mod requests;
 mod rng;
 mod starts;

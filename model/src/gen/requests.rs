@@ -4,6 +4,7 @@ use super::case::Case;
 use super::damage::damaged;
 use super::messages::{fill, key};
 use super::prime::primed;
+use super::rehearsals::Rehearsals;
 use super::rng::Rng;
 use super::starts::start;
 use super::tables;
@@ -11,21 +12,28 @@ use super::walk::Walk;
 use crate::message::Message;
 use crate::wire::{Request, LONGEST};
 
+/// One kind that is none, and all but the start of a rehearsal: what is being handed over goes on.
+const KINDS: [u8; 7] = [0, 1, 2, 3, 4, 7, 6];
+
 /// An endless source of requests, the same for the same seed.
 pub struct Requests {
     rng: Rng,
     walks: Vec<Walk>,
+    rehearsals: Rehearsals,
 }
 
 impl Requests {
     pub fn new(seed: u64) -> Requests {
         let mut rng = Rng::new(seed);
         let walks = (0..4).map(|_| Walk::new(&mut rng)).collect();
-        Requests { rng, walks }
+        Requests { rng, walks, rehearsals: Rehearsals::new(seed) }
     }
 
     /// Puts the bytes of the next request after `out`, without a length word.
     pub fn put(&mut self, out: &mut Vec<u8>) {
+        if self.rehearsals.due() {
+            return self.rehearsals.put(out);
+        }
         let rng = &mut self.rng;
         match rng.below(100) {
             0..=44 => {
@@ -127,7 +135,7 @@ impl Requests {
         let rng = &mut self.rng;
         match rng.below(8) {
             0 => {}
-            1 => out.push(rng.pick(&[5, 6, 255, 128, 0, 1, 2, 3, 4])),
+            1 => out.push(rng.pick(&[7, 6, 255, 128, 0, 1, 2, 3, 4])),
             2 => {
                 let (case, action) = primed(rng);
                 Request::Step { action, file: &case.file() }.put(out);
@@ -147,7 +155,7 @@ impl Requests {
                 out.resize(out.len() + odd, 0);
             }
             6 if rng.one_in(10) => {
-                out.push(rng.pick(&[0, 1, 2, 3, 4, 5]));
+                out.push(rng.pick(&KINDS[..6]));
                 let length = rng.pick(&[LONGEST, LONGEST + 1, LONGEST - 3, LONGEST + 5000, LONGEST - 1]);
                 let fill = rng.pick(&[0, 1, 8]);
                 out.resize(from + length, fill);
@@ -157,7 +165,7 @@ impl Requests {
                 for _ in 0..length {
                     out.push(rng.any() as u8);
                 }
-                out[from..].iter_mut().take(1).for_each(|kind| *kind %= 7);
+                out[from..].iter_mut().take(1).for_each(|kind| *kind = KINDS[usize::from(*kind % 7)]);
             }
         }
     }

@@ -55,7 +55,8 @@ impl Walk {
     }
 }
 
-fn any(rng: &mut Rng, case: &Case) -> Action {
+/// An action that may well be done.
+pub fn any(rng: &mut Rng, case: &Case) -> Action {
     let (table, n) = (&case.table, case.table.n);
     let with = |rng: &mut Rng, wanted: Status| {
         let set = table.marks(|node| node.status == wanted);

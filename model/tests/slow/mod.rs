@@ -1,14 +1,16 @@
-//! The bench once more, slowly, with sets of slots and straight from 01's sentences. It shares no code
-//! with the model and takes the same requests.
+//! The bench once more, slowly, with sets of slots and straight from the sentences of 01 and T-09. It shares
+//! no code with the model and takes the same requests.
 
 #![allow(dead_code)]
 
 pub mod file;
 pub mod leaf;
 pub mod others;
+pub mod rehearsal;
 pub mod ring;
 pub mod step;
 
+use rehearsal::Rehearsal;
 use std::collections::BTreeSet;
 
 pub type Set = BTreeSet<usize>;
@@ -80,13 +82,14 @@ impl Verdict {
     }
 }
 
-pub fn judge(request: &[u8]) -> Verdict {
+/// What a request deserves, after those that the rehearsal has seen.
+pub fn judge(rehearsal: &mut Rehearsal, request: &[u8]) -> Verdict {
     let malformed = || Verdict::refused(BTreeSet::from([u32::MAX]));
     if request.is_empty() || request.len() > 65_536 {
         return malformed();
     }
-    let arguments = if matches!(request[0], 1 | 2) { 24 } else { 0 };
-    if request[0] > 4 || request.len() < 1 + arguments {
+    let arguments = if matches!(request[0], 1 | 2 | 6) { 24 } else { 0 };
+    if request[0] > 6 || request.len() < 1 + arguments {
         return malformed();
     }
     let words: Vec<u64> = request[1..1 + arguments]
@@ -95,10 +98,12 @@ pub fn judge(request: &[u8]) -> Verdict {
         .collect();
     let rest = &request[1 + arguments..];
     match request[0] {
-        1 if !(1..=6).contains(&words[0]) => malformed(),
+        1 | 6 if !(1..=6).contains(&words[0]) => malformed(),
         2 if !rest.len().is_multiple_of(4) => malformed(),
         2 => others::start(words[0], words[1], words[2], rest),
         4 => Verdict::done(others::listing(rest)),
+        5 => rehearsal.begin(rest),
+        6 => rehearsal.next(words[0], words[1], words[2], rest),
         kind => {
             let numbers = file::refusals(rest);
             if !numbers.is_empty() {

@@ -1,4 +1,5 @@
-//! answer: answers the driver's requests (docs/DRIVER.md) on standard input by the five calls.
+//! answer: answers the driver's requests (docs/DRIVER.md) on standard input by the five calls. A rehearsal is
+//! checked by step and `==`.
 
 use std::io::{self, Read, Write};
 use tarpudhriv::{Action, Refused};
@@ -8,6 +9,39 @@ const MALFORMED: Refused = Refused(u32::MAX);
 
 /// The longest request.
 const ROOM: usize = 65_536;
+
+/// A further step of a rehearsal after an end or beyond so many.
+const OVER: Refused = Refused(12);
+const STEPS: u32 = 1_000;
+
+/// A rehearsal: the last good file, none after an end, and the steps looked at.
+#[derive(Default)]
+struct Rehearsal {
+    good: Option<Vec<u8>>,
+    steps: u32,
+}
+
+impl Rehearsal {
+    fn begin(&mut self, file: &[u8]) -> Vec<u8> {
+        *self = Rehearsal { good: tarpudhriv::load(file).ok(), steps: 0 };
+        self.verdict()
+    }
+
+    fn next(&mut self, action: Action, stated: &[u8]) -> Result<Vec<u8>, Refused> {
+        let good = self.good.as_ref().filter(|_| self.steps < STEPS).ok_or(OVER)?;
+        self.good = tarpudhriv::step(good, action).ok().filter(|file| file == stated);
+        self.steps += 1;
+        Ok(self.verdict())
+    }
+
+    /// The bytes of the verdict.
+    fn verdict(&self) -> Vec<u8> {
+        match self.good {
+            Some(_) => vec![1],
+            None => [&[0][..], &self.steps.to_le_bytes()].concat(),
+        }
+    }
+}
 
 fn word(bytes: &[u8], k: usize) -> u64 {
     u64::from_le_bytes(bytes[8 * k..][..8].try_into().expect("eight bytes"))
@@ -32,7 +66,7 @@ fn start(rest: &[u8]) -> Result<Vec<u8>, Refused> {
     tarpudhriv::start(word(rest, 0), word(rest, 1), word(rest, 2), &ids)
 }
 
-fn reply_to(request: &[u8]) -> Result<Vec<u8>, Refused> {
+fn reply_to(rehearsal: &mut Rehearsal, request: &[u8]) -> Result<Vec<u8>, Refused> {
     if request.len() > ROOM {
         return Err(MALFORMED);
     }
@@ -43,17 +77,19 @@ fn reply_to(request: &[u8]) -> Result<Vec<u8>, Refused> {
         2 if rest.len() >= 24 && rest.len() % 4 == 0 => start(rest),
         3 => tarpudhriv::settled(rest).map(|said| vec![u8::from(said)]),
         4 => Ok(tarpudhriv::list(rest)),
+        5 => Ok(rehearsal.begin(rest)),
+        6 if rest.len() >= 24 => rehearsal.next(action(rest)?, &rest[24..]),
         _ => Err(MALFORMED),
     }
 }
 
 fn main() -> io::Result<()> {
     let (mut from, mut to) = (io::stdin().lock(), io::stdout().lock());
-    let mut head = [0; 4];
+    let (mut head, mut rehearsal) = ([0; 4], Rehearsal::default());
     while from.read_exact(&mut head).is_ok() {
         let mut request = vec![0; u32::from_le_bytes(head) as usize];
         from.read_exact(&mut request)?;
-        let reply = reply_to(&request);
+        let reply = reply_to(&mut rehearsal, &request);
         let (number, result) = match &reply {
             Ok(result) => (0, result.as_slice()),
             Err(Refused(number)) => (*number, &[][..]),

@@ -3,7 +3,8 @@
 use crate::frame::{read_frame, write_frame};
 use crate::show;
 use model::gen::Requests;
-use model::wire::answer;
+use model::wire::Server;
+use model::Right;
 use std::io::{self, BufReader, BufWriter, Write};
 use std::process::{Child, ChildStdin, Command, Stdio};
 use std::sync::mpsc::{channel, Receiver, Sender};
@@ -57,10 +58,10 @@ fn send(seed: u64, count: u64, input: ChildStdin, sent: &Sender<Vec<u8>>) -> io:
 fn judge(child: &mut Child, received: &Receiver<Vec<u8>>) -> io::Result<Option<String>> {
     let output = child.stdout.take().expect("it is piped");
     let mut output = BufReader::with_capacity(1 << 16, output);
-    let (mut reply, mut wanted) = (Vec::new(), Vec::new());
+    let (mut model, mut reply, mut wanted) = (Server::new(Right), Vec::new(), Vec::new());
     for (nth, request) in received.iter().enumerate() {
         wanted.clear();
-        answer(&request, &mut wanted);
+        model.answer(&request, &mut wanted);
         match read_frame(&mut output, &mut reply) {
             Ok(true) if reply == wanted => {}
             Ok(true) => return Ok(Some(show::difference(nth, &request, &wanted, &reply))),

@@ -1,31 +1,33 @@
 //! Whether the requests tell each misreading from the right reading.
 
 use model::gen::Requests;
-use model::wire::{answer, answer_as, Request};
-use model::{Action, Slip, Slipped};
+use model::wire::{Request, Server};
+use model::{Action, Right, Slip, Slipped};
 use std::io;
 
 /// What is known of one misreading.
 struct Record {
     slip: Slip,
+    server: Server<Slipped>,
     told: u64,
     first: Option<(u64, String)>,
 }
 
 /// Runs every misreading on `count` requests; true if each is told apart or known as equivalent.
 pub fn readings(seed: u64, count: u64) -> io::Result<bool> {
-    let mut records: Vec<Record> =
-        Slip::ALL.iter().map(|&slip| Record { slip, told: 0, first: None }).collect();
-    let mut requests = Requests::new(seed);
+    let record =
+        |&slip: &Slip| Record { slip, server: Server::new(Slipped(Some(slip))), told: 0, first: None };
+    let mut records: Vec<Record> = Slip::ALL.iter().map(record).collect();
+    let (mut requests, mut model) = (Requests::new(seed), Server::new(Right));
     let (mut request, mut right, mut slipped) = (Vec::new(), Vec::new(), Vec::new());
     for nth in 0..count {
         request.clear();
         requests.put(&mut request);
         right.clear();
-        answer(&request, &mut right);
+        model.answer(&request, &mut right);
         for record in &mut records {
             slipped.clear();
-            answer_as(Slipped(Some(record.slip)), &request, &mut slipped);
+            record.server.answer(&request, &mut slipped);
             if slipped != right {
                 record.told += 1;
                 record.first.get_or_insert_with(|| (nth, name(&request)));
@@ -38,7 +40,7 @@ pub fn readings(seed: u64, count: u64) -> io::Result<bool> {
 
 /// Prints one line; true if the misreading is told apart, or equivalent and not told apart.
 fn report(record: &Record) -> bool {
-    let Record { slip, told, first } = record;
+    let Record { slip, told, first, .. } = record;
     let name = format!("{slip:?}");
     let (verdict, good) = match (first, slip.equivalent()) {
         (Some((nth, by)), None) => (format!("told {told} times, first by request {nth} ({by})"), true),
@@ -57,6 +59,8 @@ fn name(request: &[u8]) -> String {
         Some(Request::Start { .. }) => "start".to_string(),
         Some(Request::Settled { .. }) => "settled".to_string(),
         Some(Request::List { .. }) => "list".to_string(),
+        Some(Request::Begin { .. }) => "begin".to_string(),
+        Some(Request::Next { .. }) => "next".to_string(),
         Some(Request::Step { action, file }) => format!("step {}", action_name(action, file)),
     }
 }

@@ -2,7 +2,7 @@
 
 use crate::frame::{read_frame, write_frame};
 use model::gen::Requests;
-use model::wire::answer_as;
+use model::wire::Server;
 use model::{Reading, Right, Slip, Slipped};
 use std::io::{self, BufReader, BufWriter, Write};
 
@@ -19,10 +19,10 @@ pub fn serve(slip: Option<&str>) -> io::Result<()> {
 fn serve_as<R: Reading>(r: R) -> io::Result<()> {
     let mut input = BufReader::with_capacity(1 << 16, io::stdin().lock());
     let mut output = BufWriter::with_capacity(1 << 16, io::stdout().lock());
-    let (mut request, mut reply) = (Vec::new(), Vec::new());
+    let (mut server, mut request, mut reply) = (Server::new(r), Vec::new(), Vec::new());
     while read_frame(&mut input, &mut request)? {
         reply.clear();
-        answer_as(r, &request, &mut reply);
+        server.answer(&request, &mut reply);
         write_frame(&mut output, &reply)?;
         if input.buffer().is_empty() {
             output.flush()?;

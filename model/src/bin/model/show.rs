@@ -55,6 +55,10 @@ pub fn request(bytes: &[u8]) -> String {
         }
         Some(Request::Settled { file: bytes }) => format!("settled\n{}", file(bytes)),
         Some(Request::List { file: bytes }) => format!("list\n{}", file(bytes)),
+        Some(Request::Begin { file: bytes }) => format!("begin a rehearsal\n{}", file(bytes)),
+        Some(Request::Next { action, stated }) => {
+            format!("next step of the rehearsal {action:?}, stated\n{}", file(stated))
+        }
     }
 }
 
@@ -67,7 +71,7 @@ fn reply(asked: &[u8], bytes: &[u8]) -> String {
     let number = if number == MALFORMED { "malformed".to_string() } else { number.to_string() };
     let result = match Request::parse(asked) {
         Some(Request::List { .. }) => String::from_utf8_lossy(result).into_owned(),
-        Some(Request::Settled { .. }) => format!("{result:?}"),
+        Some(Request::Settled { .. } | Request::Begin { .. } | Request::Next { .. }) => format!("{result:?}"),
         _ if result.is_empty() => String::new(),
         _ => file(result),
     };

@@ -1,0 +1,9 @@
+-- What functions of this crate ask of a step: where it is done, its table and messages are valid, as those of every done step are. Assumes nothing.
+use mathlib.Core.Path.{_≡_}
+use mathlib.Core.Bool.{true}
+use Rattle.rules.specs.declared.Answer.the-variants.{Done}
+use Rattle.table.specs.declared.Stepped.{Stepped}
+use Rattle.table.specs.Valid.{validOf}
+
+abbrev pub ValidDone : Stepped → Type 0
+ValidDone s = s .answer ≡ Done → validOf (s .table) (s .pool) ≡ true

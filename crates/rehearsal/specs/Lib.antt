@@ -1,0 +1,11 @@
+pub mod Rehearsal
+pub mod Asks
+pub mod Checks
+pub mod Same
+pub mod Whole
+pub mod Next
+pub mod Singly
+pub mod Over
+pub mod Proved
+pub mod Unique
+pub mod Tried
