@@ -15,14 +15,13 @@ use Rattle.table.specs.declared.Table.{Table}
 use Rattle.table.specs.declared.Stepped.{Stepped}
 use Rattle.table.specs.Step.{isSound}
 use Rattle.table.specs.Valid.{validOf}
-use Rattle.sound.specs.Sound.{sound}
+use Rattle.format.specs.Theorems.{total-most}
 use Rattle.format.specs.Format.{totalOf}
 use Rattle.format.specs.Write.{notWritten, wroteOf}
 use Rattle.wire.specs.Wire.{wroteBy}
 use Rattle.listing.specs.Print.{listingOf}
 use Rattle.listing.specs.List.{room, listOf, listing-short}
 
--- the longest file has 64 nodes and 256 messages
 pub wrote-small : (t : Table) (p : Pool) (out : List ℕ) → wroteOf t p 256 out .count ≤ 18464
 unfolding wroteOf isSound
 wrote-small t p out = go (validOf t p) refl (ltb (length out) (totalOf (t .n) (p .count))) refl
@@ -30,7 +29,7 @@ wrote-small t p out = go (validOf t p) refl (ltb (length out) (totalOf (t .n) (p
     go : (v : Bool) → validOf t p ≡ v → (b : Bool) → ltb (length out) (totalOf (t .n) (p .count)) ≡ b → wroteOf t p 256 out .count ≤ 18464
     go false e b h = rw e (omega arith)
     go true e true h = rw (e, h) (omega arith)
-    go true e false h = let s = sound t p e in rw (e, h) (omega (arith, s .numbers .n-high, s .counted))
+    go true e false h = rw (e, h) (total-most t p e)
 
 pub wrote-by-small : (s : Stepped) (out : List ℕ) → wroteBy s out .count ≤ 18464
 unfolding wroteBy

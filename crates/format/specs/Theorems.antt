@@ -47,7 +47,7 @@ load-of-file t p t′ p′ k v =
     rw (le-ltb (length (fileOf t p)) 32 long, file-header-fits t p s k, file-offsets-fit t p s k, file-statuses t p s k)
     (rw (file-table t p s k, file-pool t p s k, sound-valid (laid-told s (k .places))))
 
-is-sound : (t : Table) (p : Pool) → validOf t p ≡ true → isSound t p 256 ≡ true
+pub is-sound : (t : Table) (p : Pool) → validOf t p ≡ true → isSound t p 256 ≡ true
 unfolding isSound
 is-sound t p v = v
 
@@ -55,7 +55,16 @@ is-valid : (t : Table) (p : Pool) (len : ℕ) → isSound t p len ≡ true → v
 unfolding isSound
 is-valid t p len e = and-right (eqb len messagesHigh) (validOf t p) e
 
--- what is written when there is room
+-- the longest file has 64 nodes and 256 messages
+pub total-most : (t : Table) (p : Pool) → validOf t p ≡ true → totalOf (t .n) (p .count) ≤ 18464
+total-most t p v = let s = sound t p v in omega (arith, s .numbers .n-high, s .counted)
+
+-- what is counted and written when there is room
+pub counted : (t : Table) (p : Pool) (len : ℕ) (buf : List ℕ) → isSound t p len ≡ true → totalOf (t .n) (p .count) ≤ length buf
+    → wroteOf t p len buf .count ≡ totalOf (t .n) (p .count)
+unfolding wroteOf
+counted t p len buf s h = rw (s, le-ltb (length buf) (totalOf (t .n) (p .count)) h)
+
 pub written : (t : Table) (p : Pool) (len : ℕ) (buf : List ℕ) → isSound t p len ≡ true → totalOf (t .n) (p .count) ≤ length buf
     → writtenOf t p len buf ≡ fileOf t p ++ drop (totalOf (t .n) (p .count)) buf
 unfolding writtenOf

@@ -6,20 +6,19 @@ use mathlib.Core.List.{List, [], _∷_}
 use Prim.Native.Nat.{ℕ, suc, _+_, _<_, _≤_}
 use native.Mathlib.Numerals.{unary-clauses}
 use native.Mathlib.Omega.{arith}
-use borrow.Author.Tests.{eq-eqb, ne-eqb, le-ltb, ltb-true}
+use borrow.Author.Tests.{eq-eqb, ne-eqb, ltb-true}
 use lib.Dec.{eqb}
 use lib.ListN.{length, getD, take, drop, length-append}
 use lib.Seq.{drop-cons, drop-length, take-at}
 use Rattle.marks.specs.Bools.{opposed}
 use Rattle.rules.specs.declared.Pool.{Pool}
 use Rattle.table.specs.declared.Table.{Table}
-use Rattle.table.specs.Step.{isSound}
 use Rattle.table.specs.Valid.{validOf}
 use Rattle.sound.specs.Sound.{sound}
 use Rattle.format.specs.File.{file-long}
 use Rattle.format.specs.Format.{totalOf, fileOf}
 use Rattle.format.specs.Rows.{Held}
-use Rattle.format.specs.Theorems.{written}
+use Rattle.format.specs.Theorems.{is-sound, total-most, counted, written}
 use Rattle.format.specs.Write.{wroteOf, writtenOf}
 use Rattle.rehearsal.specs.Rehearsal.{same, mostSteps, isOpen}
 use Rattle.rehearsal.specs.declared.Verdict.{Verdict}
@@ -57,23 +56,18 @@ same-end xs ys e = rw (drop-length xs, ← e, drop-length ys)
 
 module _ (t : Table) (p : Pool) (buf : List ℕ) (k : Held t p) (v : validOf t p ≡ true) (long : 18464 ≡ length buf) where
   room : totalOf (t .n) (p .count) ≤ length buf
-  room = let s = sound t p v in omega (arith, s .numbers .n-high, s .counted)
-
-  sound-256 : isSound t p 256 ≡ true
-  unfolding isSound
-  sound-256 = v
+  room = omega (arith, total-most t p v)
 
   count-is : wroteOf t p 256 buf .count ≡ totalOf (t .n) (p .count)
-  unfolding wroteOf
-  count-is = rw (sound-256, le-ltb (length buf) (totalOf (t .n) (p .count)) room)
+  count-is = counted t p 256 buf (is-sound t p v) room
 
   -- the bytes that are counted are there, and they are the file
   pub whole-long : wroteOf t p 256 buf .count ≤ length (writtenOf t p 256 buf)
   whole-long =
-      rw (count-is, written t p 256 buf sound-256 room, length-append, file-long t p (sound t p v) k) (omega arith)
+      rw (count-is, written t p 256 buf (is-sound t p v) room, length-append, file-long t p (sound t p v) k) (omega arith)
 
   pub whole-file : take (wroteOf t p 256 buf .count) (writtenOf t p 256 buf) ≡ fileOf t p
-  whole-file = rw (count-is, written t p 256 buf sound-256 room) (take-at (fileOf t p) _ _ (file-long t p (sound t p v) k))
+  whole-file = rw (count-is, written t p 256 buf (is-sound t p v) room) (take-at (fileOf t p) _ _ (file-long t p (sound t p v) k))
 
 -- ---- a checker that is open
 

@@ -20,13 +20,14 @@ use Rattle.keeps.specs.Proved.{keeps-valid}
 use Rattle.format.specs.Rows.{Held}
 use Rattle.format.specs.Theorems.{load-of-file}
 use Rattle.entry.specs.Laid.{step-neat}
+use Rattle.wire.specs.Kept.{not-done}
 use Rattle.wire.specs.Wire.{loadedOf, nextOf}
 use Rattle.rehearsal.specs.declared.Verdict.the-variants.{Accepted, Bad}
 use Rattle.rehearsal.specs.declared.Checker.{Checker}
 use Rattle.rehearsal.specs.Rehearsal.{Claim, mostSteps, verdictFrom, verdictOf, beginOf}
 use Rattle.rehearsal.specs.Checks.{Loads, made, Agrees, handedOver, checkerOf, lastFile, SinglyWhole, SinglyFirst, LastTable, OnLastFile}
 use Rattle.rehearsal.specs.Same.{agrees-or-not}
-use Rattle.rehearsal.specs.Whole.{not-bad, not-done, goes-on, ends-there, Started, started}
+use Rattle.rehearsal.specs.Whole.{not-bad, goes-on, ends-there, Started, started}
 use Rattle.rehearsal.specs.Next.{end-stays, good, bad, full-stays, good-next, bad-next}
 
 -- ---- the claims in turn

@@ -12,8 +12,8 @@ use Rattle.marks.specs.Bools.{lt-or-le}
 use Rattle.rules.specs.declared.Answer.{Answer}
 use Rattle.rules.specs.declared.Answer.the-variants.{Done, Refused}
 use Rattle.rules.specs.declared.Pool.{Pool}
-use Rattle.rules.specs.declared.Refusal.{Refusal}
 use Rattle.table.specs.declared.Table.{Table}
+use Rattle.wire.specs.Kept.{not-done}
 use Rattle.wire.specs.Wire.{loadedOf}
 use Rattle.rehearsal.specs.declared.Verdict.the-variants.{Accepted, Bad}
 use Rattle.rehearsal.specs.Rehearsal.{Claim, verdictFrom, verdictOf}
@@ -25,9 +25,6 @@ not-bad e = let z : _≡_ {A = ℕ} 0 1 = cc in omega arith
 
 bad-same : {j k : ℕ} → Bad j ≡ Bad k → j ≡ k
 bad-same e = cc
-
-pub not-done : {w : Answer} {why : Refusal} → w ≡ Refused why → w ≡ Done → ⊥
-not-done e d = let z : _≡_ {A = ℕ} 0 1 = cc in omega arith
 
 -- ---- fewer claims
 

@@ -4,7 +4,7 @@
 use mathlib.Core.Path.{_≡_, refl, sym, _∙_, ap}
 use mathlib.Core.Bool.{Bool, true, false, cond, _&&_, not}
 use mathlib.Core.List.{List, []}
-use Prim.Native.Nat.{ℕ, _^_}
+use Prim.Native.Nat.{ℕ, _^_, _≤_}
 use native.Mathlib.Omega.{arith}
 use borrow.Author.Tests.{ltb-false}
 use lib.Dec.{ltb}
@@ -29,15 +29,15 @@ use Rattle.format.specs.Exactly.{noRoom, write-exactly, write-leaves}
 use Rattle.format.specs.Format.{totalOf}
 use Rattle.format.specs.Load.{loadOf}
 use Rattle.format.specs.Rows.{Held}
-use Rattle.format.specs.Theorems.{read-of-write}
+use Rattle.format.specs.Theorems.{is-sound, counted, read-of-write}
 use Rattle.format.specs.Write.{notWritten, wroteOf, writtenOf}
 use Rattle.entry.specs.Entry.{startStep}
 use Rattle.entry.specs.Laid.{Neat, refused-neat, step-neat, load-neat, start-neat}
 use Rattle.wire.specs.Wire.{loadedOf, nextOf, begunOf, wroteBy, leftBy}
 use Rattle.wire.specs.Unique.{Filed}
 
-not-done : (why : Refusal) → Refused why ≡ Done → ⊥
-not-done why e = let z : _≡_ {A = ℕ} 0 1 = cc in omega arith
+pub not-done : {w : Answer} {why : Refusal} → w ≡ Refused why → w ≡ Done → ⊥
+not-done e d = let z : _≡_ {A = ℕ} 0 1 = cc in omega arith
 
 -- ---- what is written
 
@@ -70,12 +70,11 @@ module _ (t : Table) (p : Pool) (out : List ℕ) (e : wroteOf t p 256 out .answe
   roomy : noRoom t p out ≡ false
   roomy = bool-false (noRoom t p out) (λ n. opposed (and-right (isSound t p 256) (not (noRoom t p out)) fits) (true-not n))
 
-  counts : wroteOf t p 256 out .count ≡ totalOf (t .n) (p .count)
-  unfolding wroteOf
-  counts = rw (and-left (isSound t p 256) (not (noRoom t p out)) fits, roomy)
+  room : totalOf (t .n) (p .count) ≤ length out
+  room = ltb-false (length out) (totalOf (t .n) (p .count)) roomy
 
   back : Held t p → (t′ : Table) (p′ : Pool) → loadOf (take (wroteOf t p 256 out .count) (writtenOf t p 256 out)) t′ p′ 256 ≡ doneOf t (laid (waiting p))
-  back k t′ p′ = rw counts (read-of-write t p out t′ p′ k valid (ltb-false (length out) (totalOf (t .n) (p .count)) roomy))
+  back k t′ p′ = rw (counted t p 256 out (is-sound t p valid) room) (read-of-write t p out t′ p′ k valid room)
 
 -- ---- pools that are laid out
 
@@ -109,7 +108,7 @@ module _ (out cs : List ℕ) (r : Wrote) where
           rw (f, c) (back (s .table) (s .pool) out (ap (λ (x : Wrote). x .answer) (sym f) ∙ e) k noTable (laid []))
           ∙ ap (doneOf (s .table)) (sym (neat q))
           ∙ ap (λ (w : Answer). record { answer = w; table = s .table; pool = s .pool }) (sym q)
-      go (Refused why) q = absurd (not-done why (ap (λ (x : Wrote). x .answer) (sym (h .0 ∙ wrote-not s out why q)) ∙ e))
+      go (Refused why) q = absurd (not-done (ap (λ (x : Wrote). x .answer) (h .0 ∙ wrote-not s out why q)) e)
 
   pub reload-kept : (file : List ℕ) → let s = loadedOf file in Held (s .table) (s .pool) → Filed s out cs r → r .answer ≡ Done
       → loadedOf (take (r .count) cs) ≡ s
