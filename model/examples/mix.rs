@@ -14,6 +14,9 @@ fn name(request: &[u8]) -> String {
         Some(Request::List { .. }) => return "list".to_string(),
         Some(Request::Begin { .. }) => return "begin".to_string(),
         Some(Request::Next { .. }) => return "next".to_string(),
+        Some(Request::Records) => return "records".to_string(),
+        Some(Request::Place { .. }) => return "place".to_string(),
+        Some(Request::Sum) => return "sum".to_string(),
         Some(Request::Step { action, file }) => (action, file),
     };
     let (mut table, mut pool) = (Table::BLANK, EMPTY_POOL);

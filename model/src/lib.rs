@@ -24,6 +24,7 @@ mod table;
 mod take;
 mod valid;
 mod view;
+mod water;
 pub mod wire;
 
 pub use file::{load, load_as, total, write, write_as, HEADER, LARGEST, MESSAGE, NODE};
@@ -38,3 +39,4 @@ pub use start::{start, start_as};
 pub use step::{step, step_as, Action};
 pub use table::{Node, Sides, Status, Table};
 pub use valid::is_valid;
+pub use water::{Held, Record, Store};

@@ -512,4 +512,49 @@ slips! {
     StatedLonger,
     /// A stated file that is cut short is good.
     StatedShorter,
+
+    // Water records (T-13).
+
+    /// Month 0 is in range.
+    MonthZero,
+    /// Month 13 is in range.
+    MonthThirteen,
+    /// An amount of 100,000 is out of range.
+    AmountTopRefused,
+    /// An amount of 100,001 is in range.
+    AmountPastTop,
+    /// A record's key may be 2^M.
+    RecordKeyAtN,
+    /// 15 is given before 14.
+    FifteenBeforeFourteen,
+    /// 16 is given before 15.
+    SixteenBeforeFifteen,
+    /// A table that is not settled takes records where a ready node covers the key.
+    UnsettledTaken,
+    /// At most 511 records are held.
+    RecordsTo511,
+    /// 513 records may be held.
+    RecordsTo513,
+    /// Copies count among the 512 records.
+    CopiesTakeRoom,
+    /// A full store gives 16 also for a key and month that it holds.
+    NoRoomToReplace,
+    /// The same key and month again is held beside the earlier one.
+    RepeatAdded,
+    /// The same key replaces the earlier record, whatever the month.
+    MonthIgnored,
+    /// The earlier record goes though the one of its key and month is refused.
+    RefusedRepeatGoes,
+    /// The holder gets a copy too.
+    CopyAtHolder,
+    /// A holder that is alone gets a copy of its own.
+    LoneCopiesItself,
+    /// Only the left neighbour gets a copy.
+    CopyLeftOnly,
+    /// Every member of the holder's leaf set gets a copy.
+    CopiesAtAllLeaves,
+    /// Copies count in the sum.
+    CopiesInSum,
+    /// Runoff adds to the stored water.
+    RunoffAdded,
 }

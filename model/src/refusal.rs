@@ -28,6 +28,12 @@ pub enum Refusal {
     NoRoom = 11,
     /// A rehearsal's further step after an end or beyond 1,000.
     Over = 12,
+    /// A number of a water record is out of range.
+    Record = 14,
+    /// The table is not settled.
+    Unsettled = 15,
+    /// There is no room for a new key and month.
+    Full = 16,
 }
 
 impl Refusal {

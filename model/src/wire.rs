@@ -1,11 +1,12 @@
 //! Requests and replies of the driver, without their length words.
 //!
-//! A request is a kind byte, its arguments as 64-bit words, and a table file (for a start the ids).
-//! A reply is a 32-bit number and, where it is 0, the result. Between requests a rehearsal is held.
+//! A request is a kind byte, its arguments as 64-bit words, and a table file (for a start the ids, for
+//! kinds 7 and 9 nothing). A reply is a 32-bit number and, where it is 0, the result. Between requests a
+//! rehearsal and the water records are held.
 
 use crate::file::{load_as, write_as, LARGEST};
 use crate::listing::listing_as;
-use crate::message::EMPTY_POOL;
+use crate::message::{Pool, EMPTY_POOL};
 use crate::reading::Reading;
 use crate::refusal::Refusal;
 use crate::rehearsal::{Rehearsal, Verdict};
@@ -13,6 +14,7 @@ use crate::settled::settled_as;
 use crate::start::start_as;
 use crate::step::{step_as, Action};
 use crate::table::Table;
+use crate::water::{Held, Record, Store};
 
 /// The longest request: the driver's buffer.
 pub const LONGEST: usize = 65_536;
@@ -30,6 +32,9 @@ pub enum Request<'a> {
     List { file: &'a [u8] },
     Begin { file: &'a [u8] },
     Next { action: Action, stated: &'a [u8] },
+    Records,
+    Place { record: Record, file: &'a [u8] },
+    Sum,
 }
 
 impl<'a> Request<'a> {
@@ -45,7 +50,7 @@ impl<'a> Request<'a> {
                 Some(Request::Step { action, file })
             }
             2 => {
-                let ([m, l, ready], ids) = three_words(file)?;
+                let ([m, l, ready], ids) = words(file)?;
                 let (ids, []) = ids.as_chunks() else {
                     return None;
                 };
@@ -63,6 +68,13 @@ impl<'a> Request<'a> {
                 let (action, stated) = action(file)?;
                 Some(Request::Next { action, stated })
             }
+            7 if file.is_empty() => Some(Request::Records),
+            8 => {
+                let ([key, month, rain, evapotranspiration, runoff], file) = words(file)?;
+                let record = Record { key, month, rain, evapotranspiration, runoff };
+                Some(Request::Place { record, file })
+            }
+            9 if file.is_empty() => Some(Request::Sum),
             _ => None,
         }
     }
@@ -80,6 +92,12 @@ impl<'a> Request<'a> {
             Request::List { file } => put_parts(out, 4, [], file),
             Request::Begin { file } => put_parts(out, 5, [], file),
             Request::Next { action, stated } => put_parts(out, 6, action_words(*action), stated),
+            Request::Records => put_parts(out, 7, [], &[]),
+            Request::Place { record, file } => {
+                let Record { key, month, rain, evapotranspiration, runoff } = *record;
+                put_parts(out, 8, [key, month, rain, evapotranspiration, runoff], file);
+            }
+            Request::Sum => put_parts(out, 9, [], &[]),
         }
     }
 }
@@ -90,15 +108,16 @@ fn put_parts<const N: usize>(out: &mut Vec<u8>, kind: u8, words: [u64; N], rest:
     out.extend_from_slice(rest);
 }
 
-fn three_words(bytes: &[u8]) -> Option<([u64; 3], &[u8])> {
-    let (words, rest) = bytes.split_first_chunk::<24>()?;
+/// The words at the front, and what stands after them.
+fn words<const N: usize>(bytes: &[u8]) -> Option<([u64; N], &[u8])> {
+    let (words, rest) = bytes.split_at_checked(8 * N)?;
     let word = |i: usize| u64::from_le_bytes(std::array::from_fn(|byte| words[8 * i + byte]));
-    Some(([word(0), word(1), word(2)], rest))
+    Some((std::array::from_fn(word), rest))
 }
 
 /// An action, and what stands after it.
 fn action(bytes: &[u8]) -> Option<(Action, &[u8])> {
-    let ([number, first, second], rest) = three_words(bytes)?;
+    let ([number, first, second], rest) = words(bytes)?;
     let slot = |word: u64| usize::try_from(word).unwrap_or(usize::MAX);
     let (node, partner) = (slot(first), slot(second));
     let action = match number {
@@ -124,15 +143,17 @@ fn action_words(action: Action) -> [u64; 3] {
     }
 }
 
-/// A driver by one reading, and the rehearsal that it holds. Before the first it is one without a start.
+/// A driver by one reading, with the rehearsal and the records that it holds. Before the first rehearsal
+/// it is one without a start.
 pub struct Server<R> {
     r: R,
     rehearsal: Rehearsal,
+    store: Store,
 }
 
 impl<R: Reading> Server<R> {
     pub fn new(r: R) -> Server<R> {
-        Server { r, rehearsal: Rehearsal::begin_as(r, &[]) }
+        Server { r, rehearsal: Rehearsal::begin_as(r, &[]), store: Store::default() }
     }
 
     /// Puts the reply to a request after `out`.
@@ -153,37 +174,44 @@ impl<R: Reading> Server<R> {
         let r = self.r;
         let (mut table, mut pool) = (Table::BLANK, EMPTY_POOL);
         match request {
-            Request::Load { file } => load_as(r, file, &mut table, &mut pool)?,
+            Request::Load { file } => {
+                load_as(r, file, &mut table, &mut pool)?;
+                put_file(r, &table, &pool, out)?;
+            }
             Request::Step { action, file } => {
                 load_as(r, file, &mut table, &mut pool)?;
                 step_as(r, &mut table, &mut pool, *action)?;
+                put_file(r, &table, &pool, out)?;
             }
             Request::Start { m, l, ready, ids } => {
                 start_as(r, *m, *l, ids, *ready, &mut table, &mut pool)?;
+                put_file(r, &table, &pool, out)?;
             }
             Request::Settled { file } => {
                 load_as(r, file, &mut table, &mut pool)?;
                 out.push(settled_as(r, &table, &pool)?.into());
-                return Ok(());
             }
-            Request::List { file } => {
-                out.extend_from_slice(&listing_as(r, file));
-                return Ok(());
-            }
+            Request::List { file } => out.extend_from_slice(&listing_as(r, file)),
             Request::Begin { file } => {
                 self.rehearsal = Rehearsal::begin_as(r, file);
                 self.put_verdict(out);
-                return Ok(());
             }
             Request::Next { action, stated } => {
                 self.rehearsal.next_as(r, *action, stated)?;
                 self.put_verdict(out);
-                return Ok(());
+            }
+            Request::Records => self.store = Store::default(),
+            Request::Place { record, file } => {
+                load_as(r, file, &mut table, &mut pool)?;
+                let held = self.store.place_as(r, &table, &pool, *record)?;
+                put_held(r, &held, out);
+            }
+            Request::Sum => {
+                let count = self.store.held().len() as u32;
+                out.extend_from_slice(&count.to_le_bytes());
+                out.extend_from_slice(&self.store.sum_as(r).to_le_bytes());
             }
         }
-        let mut buffer = [0; LARGEST];
-        let length = write_as(r, &table, &pool, &mut buffer)?;
-        out.extend_from_slice(&buffer[..length]);
         Ok(())
     }
 
@@ -197,4 +225,18 @@ impl<R: Reading> Server<R> {
             }
         }
     }
+}
+
+fn put_file<R: Reading>(r: R, table: &Table, pool: &Pool, out: &mut Vec<u8>) -> Result<(), Refusal> {
+    let mut buffer = [0; LARGEST];
+    let length = write_as(r, table, pool, &mut buffer)?;
+    out.extend_from_slice(&buffer[..length]);
+    Ok(())
+}
+
+/// The holder's slot, the copies as marks and the change.
+fn put_held<R: Reading>(r: R, held: &Held, out: &mut Vec<u8>) {
+    out.extend_from_slice(&(held.holder as u32).to_le_bytes());
+    out.extend_from_slice(&held.copies.to_le_bytes());
+    out.extend_from_slice(&held.change_as(r).to_le_bytes());
 }

@@ -2,10 +2,10 @@
 
 mod common;
 
-use common::Bench;
+use common::{node, Bench, READY, WAIT};
 use model::gen::Requests;
 use model::wire::{Request, Server, LONGEST};
-use model::{Action, Right, Slip, Slipped};
+use model::{Action, Record, Right, Slip, Slipped};
 
 fn reply_of(server: &mut Server<Right>, request: &[u8]) -> (u32, Vec<u8>) {
     let mut out = Vec::new();
@@ -62,11 +62,15 @@ fn files_that_do_not_load_answer_their_number() {
 fn malformed_requests_have_their_own_number() {
     let malformed = (u32::MAX, vec![]);
     assert_eq!(reply(&[]), malformed);
-    assert_eq!(reply(&[7]), malformed);
+    assert_eq!(reply(&[10]), malformed);
     assert_eq!(reply(&[255]), malformed);
     assert_eq!(reply(&[1; 24]), malformed, "too short for its arguments");
     assert_eq!(reply(&[6; 24]), malformed, "too short for its arguments");
     assert_eq!(reply(&[2; 24]), malformed, "too short for its arguments");
+    assert_eq!(reply(&[8; 40]), malformed, "too short for its arguments");
+    assert_eq!(reply(&[8; 41]), (7, vec![]));
+    assert_eq!(reply(&[7, 0]), malformed, "bytes behind a begin");
+    assert_eq!(reply(&[9, 0]), malformed, "bytes behind a sum");
     assert_eq!(reply(&[0; LONGEST + 1]), malformed, "too long");
     assert_eq!(reply(&[0; LONGEST]), (8, vec![]));
     for number in [0u64, 7, 1 << 32 | 1, u64::MAX] {
@@ -111,6 +115,38 @@ fn a_rehearsal_is_held_between_requests() {
     assert_eq!(reply_of(&mut server, &no_action), (u32::MAX, vec![]));
     let request = Request::Next { action: Action::Lookup { at: 2, key: 200 }, stated: &start };
     assert_eq!(ask_of(&mut server, request), (0, vec![0, 1, 0, 0, 0]), "the request before it did not count");
+}
+
+#[test]
+fn records_are_held_between_requests() {
+    let file = Bench::start(8, 1, &[17, 18, 65, 95], &[0, 1, 2, 3]).file();
+    let joining = Bench::of(8, 1, &[node(17, READY, &[], &[]), node(18, WAIT, &[], &[])]).file();
+    let mut server = Server::new(Right);
+    let mut ask = |request: Request| ask_of(&mut server, request);
+    let place = |key: u64, rain: u64| {
+        let record = Record { key, month: 5, rain, evapotranspiration: 120, runoff: 68 };
+        Request::Place { record, file: &file }
+    };
+    let bytes = |words: &[(i64, usize)]| {
+        words.iter().flat_map(|(word, width)| word.to_le_bytes()[..*width].to_vec()).collect::<Vec<u8>>()
+    };
+    let held = |holder: i64, copies: i64, change: i64| (0, bytes(&[(holder, 4), (copies, 8), (change, 8)]));
+    let sum = |count: i64, sum: i64| (0, bytes(&[(count, 4), (sum, 8)]));
+    assert_eq!(ask(Request::Sum), sum(0, 0), "none is held");
+    assert_eq!(ask(place(20, 300)), held(1, 5, 112));
+    assert_eq!(ask(place(200, 0)), held(0, 10, -188));
+    assert_eq!(ask(Request::Sum), sum(2, -76));
+    assert_eq!(ask(place(20, 0)), held(1, 5, -188), "in place of the first");
+    assert_eq!(ask(place(256, 0)), (14, vec![]));
+    let record = Record { key: 20, month: 5, rain: 0, evapotranspiration: 0, runoff: 0 };
+    assert_eq!(ask(Request::Place { record, file: &joining }), (15, vec![]));
+    assert_eq!(ask(Request::Place { record, file: &file[..31] }), (7, vec![]));
+    assert_eq!(ask(Request::Begin { file: &file }), (0, vec![1]), "in between");
+    assert_eq!(ask(Request::Sum), sum(2, -376));
+    assert_eq!(ask(Request::Records), (0, vec![]));
+    assert_eq!(ask(Request::Sum), sum(0, 0));
+    let lookup = Request::Next { action: Action::Lookup { at: 9, key: 0 }, stated: &file };
+    assert_eq!(ask(lookup), (0, vec![0, 1, 0, 0, 0]), "the rehearsal stands");
 }
 
 #[test]

@@ -1,26 +1,28 @@
 -- Who holds a key in a settled table. The idea: each ready node's neighbours are the next ready ids, so it is flanked (Joined) and they are
 -- ready themselves (Next of crate ring): it covers a key exactly if it is the ready node nearest it, and a key that it does not cover is
--- nearer to a neighbour. And of two nodes at equal distance, the one below the key is the nearer. Assumes nothing.
+-- nearer to a neighbour, so that the nearest of all covers it. And of two nodes at equal distance, the one below the key is the nearer.
+-- Assumes nothing.
 use mathlib.Core.Path.{_≡_, sym, _∙_, ap}
-use mathlib.Core.Logic.{_⊎_, ⊎-elim}
+use mathlib.Core.Logic.{_⊎_, inl, inr, ⊎-elim}
 use mathlib.Core.Bool.{true, false, _||_, not}
 use Prim.Native.Nat.{ℕ, _^_, _<_, _≤_}
 use native.Mathlib.Omega.{arith}
 use lib.Dec.{eqb}
-use borrow.Author.Tests.{eq-eqb, eqb-true, eqb-false, not-true}
+use borrow.Author.Tests.{eq-eqb, eqb-true, eqb-false, ltb-true, not-true}
 use Rattle.ring.specs.Distance.{nearer}
 use Rattle.ring.specs.Falls as falls
-use Rattle.ring.specs.Order.{nearer-transitive, nearer-irreflexive, tie-below}
+use Rattle.ring.specs.Order.{rank, nearer-rank, nearer-transitive, nearer-irreflexive, tie-below}
 use Rattle.ring.specs.Nearest.{Next, nearest-covers, uncovered}
-use Rattle.marks.specs.Bools.{eq-or-ne}
+use Rattle.marks.specs.Bools.{bool-true, eq-or-ne}
 use Rattle.marks.specs.Marks.{has, allTo, meet, sizeOf}
-use Rattle.marks.specs.Laws.{has-remove, each, listed-has, listed-gather, member, remove-below, size-remove, size-zero}
+use Rattle.marks.specs.Laws.{has-remove, each, gather-none, listed-has, listed-gather, member, remove-below, size-remove, size-zero}
 use Rattle.rules.specs.declared.Way.{Way}
 use Rattle.rules.specs.declared.Way.the-variants.{Up, Down}
 use Rattle.rules.specs.declared.Pool.{Pool}
 use Rattle.rules.specs.Leaf.{coversOf, seenFrom, wayUp, wayDown}
 use Rattle.rules.specs.Pick.{idAt}
 use Rattle.rules.specs.Plans.{isDead, isReady}
+use Rattle.laws.specs.Closest.{Most, nearest}
 use Rattle.laws.specs.Leaf.{seen-in, seen-leads, seen-up, seen-down}
 use Rattle.laws.specs.Steps.{ids-inj}
 use Rattle.table.specs.declared.Table.{Table}
@@ -31,8 +33,12 @@ use Rattle.sound.specs.Sound.{Sound, sound}
 use Rattle.demand.specs.Demand.{Nearer, Ready, NearestReady, TieBelow, CoversNearest}
 use Rattle.demand.specs.Fates.{coversAt}
 use Rattle.demand.specs.Joined.{restOf, ReadyId, around, ready-low, id-in, ready-below, rest-has, flanks, covers-first}
-use Rattle.demand.specs.Joining.{leftAt, rightAt, Flanked, SettledFlanked}
+use Rattle.demand.specs.Joining.{leftAt, rightAt, Flanked, SettledFlanked, SettledHeld, SettledBeside}
 use Rattle.demand.specs.Tracks.{ready-is}
+
+-- the rank of a slot's id (Order of crate ring)
+abbrev slotRank : Table → ℕ → ℕ → ℕ
+slotRank t k j = rank (2 ^ t .m) k (idAt (idsOf t) j)
 
 -- ---- what settled says of a ready node
 
@@ -54,6 +60,13 @@ settled-test t i e =
     record { left = eqb-true _ _ (a .0); right = eqb-true _ _ (b .0); trusts = eqb-true _ 0 (b .1) }
 
 module _ (t : Table) (s : isSettled t ≡ true) where
+  -- some node is ready
+  some-ready : ((i : ℕ) → i < t .n → has (readySet t) i ≡ false) → ⊥
+  unfolding isSettled readySet
+  some-ready none =
+      eqb-false (readySet t) 0 (not-true _ (both (not (eqb (readySet t) 0)) _ s .0))
+      (gather-none (t .n) _ (λ i h. sym (ready-is t i h) ∙ none i h))
+
   pub dead-or-ready : (i : ℕ) → i < t .n → (isDead (nodeAt t i .status) || isReady (nodeAt t i .status)) ≡ true
   unfolding isSettled
   dead-or-ready i h =
@@ -167,8 +180,36 @@ module _ {t : Table} {p : Pool} (v : Sound t p) where
           rw (settled-at t s i r .left, settled-at t s i r .right) at
           (uncovered (2 ^ t .m) (around v) (ReadyId t) (ready-below v) k hk _ _ _ (id-in v i r) next-is c)
 
+    -- the ready node of least rank covers: no neighbour of it is nearer
+    module _ (k : ℕ) (hk : k < 2 ^ t .m) where
+      least-covers : (i : ℕ) → Ready t i → ((j : ℕ) → Ready t j → slotRank t k i ≤ slotRank t k j) → coversAt t i k ≡ true
+      least-covers i r least =
+          bool-true (coversAt t i k) (λ c.
+          ⊎-elim (beaten (nextOf Up t i) (next-ready i r Up)) (beaten (nextOf Down t i) (next-ready i r Down)) (not-covered k hk i r c))
+        where
+          beaten : (j : ℕ) → Ready t j → Nearer t k j i → ⊥
+          beaten j u near = omega (arith, least j u, ltb-true (slotRank t k j) (slotRank t k i) (rw nearer-rank at near))
+
+      some-covers : (i : ℕ) × Ready t i × (coversAt t i k ≡ true)
+      some-covers = go (nearest (slotRank t k) (t .n) (has (readySet t)))
+        where
+          go : ((i : ℕ) × Most (λ a b. slotRank t k a ≤ slotRank t k b) (t .n) (has (readySet t)) i)
+              ⊎ ((j : ℕ) → j < t .n → has (readySet t) j ≡ false) → (i : ℕ) × Ready t i × (coversAt t i k ≡ true)
+          go (inl (i, m)) =
+              let r : Ready t i = (m .below, m .holds) in
+              (i, r, least-covers i r (λ j u. m .tops j (u .0) (u .1)))
+          go (inr none) = absurd (some-ready t s none)
+
 pub settled-flanked : SettledFlanked
 settled-flanked t p e s = flanked (sound t p e) s
+
+pub settled-held : SettledHeld
+settled-held t p k e s hk = some-covers (sound t p e) s k hk
+
+pub settled-beside : SettledBeside
+settled-beside t p i e s r =
+    let v = sound t p e in
+    (rw (settled-at t s i r .left) (next-ready v i r Up), rw (settled-at t s i r .right) (next-ready v i r Down))
 
 pub covers-nearest-ready : CoversNearest
 covers-nearest-ready t p k i e s hk r = (cover-nearest (sound t p e) s k hk i r, nearest-cover (sound t p e) s k hk i r)

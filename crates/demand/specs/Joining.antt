@@ -65,3 +65,14 @@ pub record NobodyCovers (t : Table) (p : Pool) (k : ℕ) : Type 0 where
 
 abbrev pub SomeUnheld : Type 0
 SomeUnheld = (t : Table) × (p : Pool) × (k : ℕ) × NobodyCovers t p k
+
+-- In a settled table there are none: some ready node covers k
+abbrev pub SettledHeld : Type 0
+SettledHeld =
+    (t : Table) (p : Pool) (k : ℕ) → validOf t p ≡ true → isSettled t ≡ true → k < 2 ^ t .m
+    → (i : ℕ) × Ready t i × (coversAt t i k ≡ true)
+
+-- and the neighbours of a ready node are ready
+abbrev pub SettledBeside : Type 0
+SettledBeside =
+    (t : Table) (p : Pool) (i : ℕ) → validOf t p ≡ true → isSettled t ≡ true → Ready t i → Ready t (leftAt t i) × Ready t (rightAt t i)

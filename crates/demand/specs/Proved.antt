@@ -1,7 +1,7 @@
 -- Proved, by name: each statement of Demand (demand 3), then each of Joining (one holder while others are joining). Assumes nothing.
 use Rattle.sound.specs.Sound.{sound}
 use Rattle.demand.specs.Demand.{EveryLookup, FatesHold, GoesNearer, FewRoutings, SettledArrives, TieBelow, CoversNearest}
-use Rattle.demand.specs.Joining.{OneHolder, HolderNearest, SettledFlanked, SomeUnheld}
+use Rattle.demand.specs.Joining.{OneHolder, HolderNearest, SettledFlanked, SomeUnheld, SettledHeld, SettledBeside}
 use Rattle.demand.specs.Stands as stands
 use Rattle.demand.specs.Tracks as tracks
 use Rattle.demand.specs.Routings as routings
@@ -42,3 +42,9 @@ settled-flanked = holder.settled-flanked
 
 pub some-unheld : SomeUnheld
 some-unheld = unheld.some-unheld
+
+pub settled-held : SettledHeld
+settled-held = holder.settled-held
+
+pub settled-beside : SettledBeside
+settled-beside = holder.settled-beside

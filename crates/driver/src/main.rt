@@ -1,9 +1,11 @@
-// Answers requests on standard input until it ends. All numbers are little-endian. A request: a word of 32 bits, its length, then a byte, its
-// kind, then its arguments as words of 64 bits, then a table file (for a start the ids, words of 32 bits). The answer: a word of 32 bits, its
-// length, a word of 32 bits, its number, then, where the number is 0, the result. docs/DRIVER.md has the kinds. Between requests nothing is held
-// but the checker of a rehearsal.
+// Answers requests on standard input until it ends. All numbers are little-endian. A request: a word of 32 bits, its length, then a byte,
+// its kind, then its arguments as words of 64 bits, then a table file (for a start the ids, words of 32 bits; for kinds 7 and 9 nothing).
+// The answer: a word of 32 bits, its length, a word of 32 bits, its number, then, where the number is 0, the result. docs/DRIVER.md has
+// the kinds. Between requests nothing is held but the checker of a rehearsal and the water records.
 ghost use mathlib.Core.Path.{_≡_};
 ghost use lib.ListN.{length};
+ghost use mir.Syntax.{w64};
+ghost use mir.Val.{ofZ};
 use abi::Asked;
 use entry::Rest;
 use format::Wrote;
@@ -13,6 +15,12 @@ use rehearsal::Checker;
 use rehearsal::Handed;
 use rehearsal::Verdict;
 use rules::Answer;
+use table::Stepped;
+use water::Held;
+use water::Looked;
+use water::Placed;
+use water::Record;
+use water::Store;
 
 // A number, and how many bytes of the buffer are the result.
 struct Reply {
@@ -30,6 +38,18 @@ struct Heard {
 struct Served {
     more: bool,
     checker: Checker,
+}
+
+// A reply, and the records after it.
+struct Kept {
+    reply: Reply,
+    store: Store,
+}
+
+// Whether there is more to serve, and the records.
+struct Stored {
+    more: bool,
+    store: Store,
 }
 
 // The end of the input, or a request of so many bytes.
@@ -180,6 +200,26 @@ fn put(out: &mut [u8], at: usize, x: usize) {
     }
 }
 
+// Writes a word of 32 bits where there is room for it.
+fn put32(out: &mut [u8], at: usize, x: usize) {
+    if at >= 65536 {
+        return;
+    }
+    put(out, at, x);
+    put(out, at + 1, x / 256);
+    put(out, at + 2, x / 65536);
+    put(out, at + 3, x / 16777216);
+}
+
+// Writes a word of 64 bits where there is room for it.
+fn put64(out: &mut [u8], at: usize, x: u64) {
+    if at >= 65536 {
+        return;
+    }
+    put32(out, at, (x % 4294967296) as usize);
+    put32(out, at + 4, (x / 4294967296) as usize);
+}
+
 // The verdict so far as bytes: 1, or 0 and then the number of the first bad step in 32 bits.
 fn tell(v: Verdict, out: &mut [u8]) -> Reply {
     match v {
@@ -192,10 +232,7 @@ fn tell(v: Verdict, out: &mut [u8]) -> Reply {
         }
         Verdict::Bad(k) => {
             put(out, 0, 0);
-            put(out, 1, k);
-            put(out, 2, k / 256);
-            put(out, 3, k / 65536);
-            put(out, 4, k / 16777216);
+            put32(out, 1, k);
             Reply {
                 number: 0,
                 count: 5,
@@ -249,6 +286,117 @@ fn hear(c: Checker, request: &[u8], out: &mut [u8]) -> Heard {
         5 => judged(rehearsal::begin(&request[1..]), out),
         6 => next_step(c, &request[1..], out),
         _ => unmoved(c, malformed()),
+    }
+}
+
+// The bits of a signed number: two's complement.
+fn bits_of(x: i64) -> u64
+    ensures { λ r. ⌜ r ≡ ofZ w64 x ⌝ }
+{
+    if x < 0 {
+        18446744073709551615 - (-1 - x) as u64
+    } else {
+        x as u64
+    }
+}
+
+// A reply, and the records as they are then.
+fn beside(s: Store, reply: Reply) -> Kept {
+    Kept { reply, store: s }
+}
+
+// A word as a field of a record, which has 32 bits. A larger one is out of range, and so is the largest field.
+fn field(x: u64) -> u32 {
+    if x < 4294967296 { x as u32 } else { 4294967295 }
+}
+
+fn record_of(rest: &[u8]) -> Record {
+    Record {
+        key: word64(rest, 0),
+        month: field(word64(rest, 8)),
+        rain: field(word64(rest, 16)),
+        evapotranspiration: field(word64(rest, 24)),
+        runoff: field(word64(rest, 32)),
+    }
+}
+
+// A held record as bytes: the slot of its holder in 32 bits, its copies as marks and its change in 64 bits each.
+fn tell_held(h: Held, out: &mut [u8]) -> Reply {
+    let r = h.original;
+    put32(out, 0, h.holder);
+    put64(out, 4, h.copies);
+    put64(out, 12, bits_of(water::change(r)));
+    Reply {
+        number: 0,
+        count: 20,
+    }
+}
+
+// What is said of a record that was handed over. One that was accepted is found.
+fn tell_placed(p: Placed, r: Record, out: &mut [u8]) -> Kept {
+    let reply = p.reply;
+    let store = p.store;
+    let number = water::number(reply);
+    if number != 0 {
+        return beside(store, refused(number));
+    }
+    match water::look_up(store, r.key, r.month) {
+        Looked::At(h) => beside(store, tell_held(h, out)),
+        Looked::Nothing => beside(store, malformed()),
+    }
+}
+
+// Places a record on the table of a file, where it loads.
+fn place_on(s: Store, r: Record, file: Stepped, out: &mut [u8]) -> Kept {
+    let answer = file.answer;
+    let t = file.table;
+    let p = file.pool;
+    match answer {
+        Answer::Done => tell_placed(water::place(t, p, 256, s, r), r, out),
+        Answer::Refused(why) => beside(s, refused(parts::answer_number(Answer::Refused(why)))),
+    }
+}
+
+fn place(s: Store, rest: &[u8], out: &mut [u8]) -> Kept {
+    if rest.len() < 40 {
+        return beside(s, malformed());
+    }
+    let r = record_of(rest);
+    place_on(s, r, wire::loaded(&rest[40..]), out)
+}
+
+// The number of records and the sum of their changes as bytes, in 32 and in 64 bits.
+fn tell_sum(s: Store, out: &mut [u8]) -> Reply {
+    put32(out, 0, s.count);
+    put64(out, 4, bits_of(water::sum(s)));
+    Reply {
+        number: 0,
+        count: 12,
+    }
+}
+
+// The reply to a request of records.
+fn keep(s: Store, request: &[u8], out: &mut [u8]) -> Kept {
+    if request.len() == 0 {
+        return beside(s, malformed());
+    }
+    let kind = wide(request[0]);
+    if kind == 8 {
+        return place(s, &request[1..], out);
+    }
+    if request.len() > 1 {
+        return beside(s, malformed());
+    }
+    match kind {
+        7 => beside(
+            water::empty(),
+            Reply {
+                number: 0,
+                count: 0,
+            },
+        ),
+        9 => beside(s, tell_sum(s, out)),
+        _ => beside(s, malformed()),
     }
 }
 
@@ -354,16 +502,20 @@ fn receive(body: &mut [u8]) -> Came {
     Came::End
 }
 
-// Is the request in the buffer one of a rehearsal?
-fn rehearses(body: &[u8], n: usize) -> bool {
+// The kind of the request in the buffer; 255, which is none, where it has no byte.
+fn kind_of(body: &[u8], n: usize) -> u64 {
     if n == 0 {
-        return false;
+        return 255;
     }
     if body.len() == 0 {
-        return false;
+        return 255;
     }
-    let kind = wide(body[0]);
-    kind == 5 || kind == 6
+    wide(body[0])
+}
+
+// Is it the kind of a request of a rehearsal or of records?
+fn is_held(kind: u64) -> bool {
+    5 <= kind && kind <= 9
 }
 
 // Answers a request of a rehearsal: whether the reply was sent, and the checker after it.
@@ -383,6 +535,23 @@ fn rehearse(c: Checker, body: &[u8], n: usize, out: &mut [u8]) -> Served {
     }
 }
 
+// Answers a request of records: whether the reply was sent, and the records after it.
+fn record(s: Store, body: &[u8], n: usize, out: &mut [u8]) -> Stored {
+    if n > body.len() {
+        return Stored {
+            more: false,
+            store: s,
+        };
+    }
+    let k = keep(s, &body[..n], out);
+    let reply = k.reply;
+    let store = k.store;
+    Stored {
+        more: send(reply, out),
+        store,
+    }
+}
+
 // Answers a request of another kind: whether the reply was sent.
 fn answer(body: &[u8], n: usize, out: &mut [u8]) -> bool {
     if n > body.len() {
@@ -392,14 +561,14 @@ fn answer(body: &[u8], n: usize, out: &mut [u8]) -> bool {
     send(r, out)
 }
 
-// Answers requests until one of a rehearsal has come.
+// Answers requests until one of a rehearsal or of records has come.
 fn serve_others(body: &mut [u8], out: &mut [u8]) -> Came {
     let mut turns = u64::MAX;
     while turns > 0 {
         let Came::Request(n) = receive(body) else {
             return Came::End;
         };
-        if rehearses(body, n) {
+        if is_held(kind_of(body, n)) {
             return Came::Request(n);
         }
         if !answer(body, n, out) {
@@ -410,25 +579,40 @@ fn serve_others(body: &mut [u8], out: &mut [u8]) -> Came {
     Came::End
 }
 
-// Answers all requests. The checker begins with an empty file, which is no start.
-fn serve_all(body: &mut [u8], out: &mut [u8]) {
-    let mut checker = rehearsal::begin(&body[..0]);
+// Answers all requests, with a checker and records to begin with. Neither is moved but for its own requests.
+fn serve_all(first: Checker, none: Store, body: &mut [u8], out: &mut [u8]) {
+    let mut checker = first;
+    let mut store = none;
     let mut turns = u64::MAX;
     while turns > 0 {
+        turns -= 1;
         let Came::Request(n) = serve_others(body, out) else {
             return;
         };
-        let s = rehearse(checker, body, n, out);
+        if kind_of(body, n) < 7 {
+            let s = rehearse(checker, body, n, out);
+            if !s.more {
+                return;
+            }
+            checker = s.checker;
+            continue;
+        }
+        let s = record(store, body, n, out);
         if !s.more {
             return;
         }
-        checker = s.checker;
-        turns -= 1;
+        store = s.store;
     }
 }
 
+// The checker begins with an empty file, which is no start.
 fn main() {
     let mut body = io::large_buffer();
     let mut out = io::large_buffer();
-    serve_all(&mut body, &mut out);
+    serve_all(
+        rehearsal::begin(&body[..0]),
+        water::empty(),
+        &mut body,
+        &mut out,
+    );
 }

@@ -1,9 +1,10 @@
-//! Seeded requests: tables, walks, damaged files, rehearsals and malformed requests.
+//! Seeded requests: tables, walks, damaged files, rehearsals, water records and malformed requests.
 
 mod case;
 mod damage;
 mod messages;
 mod prime;
+mod records;
 mod rehearsals;
 mod requests;
 mod rng;

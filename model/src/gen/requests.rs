@@ -4,6 +4,7 @@ use super::case::Case;
 use super::damage::damaged;
 use super::messages::{fill, key};
 use super::prime::primed;
+use super::records::Records;
 use super::rehearsals::Rehearsals;
 use super::rng::Rng;
 use super::starts::start;
@@ -12,27 +13,31 @@ use super::walk::Walk;
 use crate::message::Message;
 use crate::wire::{Request, LONGEST};
 
-/// One kind that is none, and all but the start of a rehearsal: what is being handed over goes on.
-const KINDS: [u8; 7] = [0, 1, 2, 3, 4, 7, 6];
+/// One kind that is none, and all but the start of a rehearsal and those of records: what is held goes on.
+const KINDS: [u8; 7] = [0, 1, 2, 3, 4, 10, 6];
 
 /// An endless source of requests, the same for the same seed.
 pub struct Requests {
     rng: Rng,
     walks: Vec<Walk>,
     rehearsals: Rehearsals,
+    records: Records,
 }
 
 impl Requests {
     pub fn new(seed: u64) -> Requests {
         let mut rng = Rng::new(seed);
         let walks = (0..4).map(|_| Walk::new(&mut rng)).collect();
-        Requests { rng, walks, rehearsals: Rehearsals::new(seed) }
+        Requests { rng, walks, rehearsals: Rehearsals::new(seed), records: Records::new(seed) }
     }
 
     /// Puts the bytes of the next request after `out`, without a length word.
     pub fn put(&mut self, out: &mut Vec<u8>) {
         if self.rehearsals.due() {
             return self.rehearsals.put(out);
+        }
+        if self.records.due() {
+            return self.records.put(out);
         }
         let rng = &mut self.rng;
         match rng.below(100) {
@@ -135,7 +140,7 @@ impl Requests {
         let rng = &mut self.rng;
         match rng.below(8) {
             0 => {}
-            1 => out.push(rng.pick(&[7, 6, 255, 128, 0, 1, 2, 3, 4])),
+            1 => out.push(rng.pick(&[10, 6, 255, 128, 0, 1, 2, 3, 4])),
             2 => {
                 let (case, action) = primed(rng);
                 Request::Step { action, file: &case.file() }.put(out);

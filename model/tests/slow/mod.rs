@@ -1,5 +1,5 @@
-//! The bench once more, slowly, with sets of slots and straight from the sentences of 01 and T-09. It shares
-//! no code with the model and takes the same requests.
+//! The bench once more, slowly, with sets of slots and straight from the sentences of 01, T-09 and T-13. It
+//! shares no code with the model and takes the same requests.
 
 #![allow(dead_code)]
 
@@ -9,9 +9,11 @@ pub mod others;
 pub mod rehearsal;
 pub mod ring;
 pub mod step;
+pub mod water;
 
 use rehearsal::Rehearsal;
 use std::collections::BTreeSet;
+use water::Records;
 
 pub type Set = BTreeSet<usize>;
 
@@ -82,14 +84,25 @@ impl Verdict {
     }
 }
 
-/// What a request deserves, after those that the rehearsal has seen.
-pub fn judge(rehearsal: &mut Rehearsal, request: &[u8]) -> Verdict {
+/// What is held between requests.
+#[derive(Default)]
+pub struct Memory {
+    rehearsal: Rehearsal,
+    records: Records,
+}
+
+/// What a request deserves, after those before it.
+pub fn judge(memory: &mut Memory, request: &[u8]) -> Verdict {
     let malformed = || Verdict::refused(BTreeSet::from([u32::MAX]));
     if request.is_empty() || request.len() > 65_536 {
         return malformed();
     }
-    let arguments = if matches!(request[0], 1 | 2 | 6) { 24 } else { 0 };
-    if request[0] > 6 || request.len() < 1 + arguments {
+    let arguments = match request[0] {
+        1 | 2 | 6 => 24,
+        8 => 40,
+        _ => 0,
+    };
+    if request[0] > 9 || request.len() < 1 + arguments {
         return malformed();
     }
     let words: Vec<u64> = request[1..1 + arguments]
@@ -102,8 +115,11 @@ pub fn judge(rehearsal: &mut Rehearsal, request: &[u8]) -> Verdict {
         2 if !rest.len().is_multiple_of(4) => malformed(),
         2 => others::start(words[0], words[1], words[2], rest),
         4 => Verdict::done(others::listing(rest)),
-        5 => rehearsal.begin(rest),
-        6 => rehearsal.next(words[0], words[1], words[2], rest),
+        5 => memory.rehearsal.begin(rest),
+        6 => memory.rehearsal.next(words[0], words[1], words[2], rest),
+        7 | 9 if !rest.is_empty() => malformed(),
+        7 => memory.records.begin(),
+        9 => memory.records.sum(),
         kind => {
             let numbers = file::refusals(rest);
             if !numbers.is_empty() {
@@ -113,7 +129,8 @@ pub fn judge(rehearsal: &mut Rehearsal, request: &[u8]) -> Verdict {
             match kind {
                 0 => Verdict::done(file::bytes(&table)),
                 1 => step::judge(&table, words[0], words[1], words[2]),
-                _ => Verdict::done(vec![u8::from(others::settled(&table))]),
+                3 => Verdict::done(vec![u8::from(others::settled(&table))]),
+                _ => memory.records.place(&table, &words),
             }
         }
     }

@@ -32,8 +32,11 @@ same-length-2 c = search needs
 returns : tie.Need-returns Inv-loop μ-loop
 returns c = search needs
 
-rehearses-requires : tie.Need-rehearses-requires Inv-loop μ-loop
-rehearses-requires c κs = search needs
+kind-of-requires : tie.Need-kind-of-requires Inv-loop μ-loop
+kind-of-requires c κs = search needs
+
+is-held-requires : tie.Need-is-held-requires Inv-loop μ-loop
+is-held-requires c κs = search needs
 
 same-length-3 : tie.Need-same-length-3 Inv-loop μ-loop
 same-length-3 c = search needs
@@ -87,7 +90,8 @@ serve-others-spec =
     same-length
     same-length-2
     returns
-    rehearses-requires
+    kind-of-requires
+    is-held-requires
     same-length-3
     same-length-4
     returns-2

@@ -61,6 +61,9 @@ fn name(request: &[u8]) -> String {
         Some(Request::List { .. }) => "list".to_string(),
         Some(Request::Begin { .. }) => "begin".to_string(),
         Some(Request::Next { .. }) => "next".to_string(),
+        Some(Request::Records) => "records".to_string(),
+        Some(Request::Place { .. }) => "place".to_string(),
+        Some(Request::Sum) => "sum".to_string(),
         Some(Request::Step { action, file }) => format!("step {}", action_name(action, file)),
     }
 }

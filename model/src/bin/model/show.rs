@@ -59,6 +59,9 @@ pub fn request(bytes: &[u8]) -> String {
         Some(Request::Next { action, stated }) => {
             format!("next step of the rehearsal {action:?}, stated\n{}", file(stated))
         }
+        Some(Request::Records) => "begin records\n".to_string(),
+        Some(Request::Place { record, file: bytes }) => format!("place {record:?}\n{}", file(bytes)),
+        Some(Request::Sum) => "sum\n".to_string(),
     }
 }
 
@@ -70,10 +73,10 @@ fn reply(asked: &[u8], bytes: &[u8]) -> String {
     let number = u32::from_le_bytes(*number);
     let number = if number == MALFORMED { "malformed".to_string() } else { number.to_string() };
     let result = match Request::parse(asked) {
-        Some(Request::List { .. }) => String::from_utf8_lossy(result).into_owned(),
-        Some(Request::Settled { .. } | Request::Begin { .. } | Request::Next { .. }) => format!("{result:?}"),
         _ if result.is_empty() => String::new(),
-        _ => file(result),
+        Some(Request::List { .. }) => String::from_utf8_lossy(result).into_owned(),
+        Some(Request::Load { .. } | Request::Step { .. } | Request::Start { .. }) => file(result),
+        _ => format!("{result:?}"),
     };
     format!("{number} and {} bytes\n{result}", bytes.len() - 4)
 }

@@ -1,0 +1,14 @@
+pub mod Water
+pub mod History
+pub mod Records
+pub mod Mixed
+pub mod Alike
+pub mod Lists
+pub mod Last
+pub mod Range
+pub mod Seats
+pub mod Replies
+pub mod After
+pub mod Proved
+pub mod Unique
+pub mod Tried
