@@ -84,7 +84,7 @@ module _ (t : Table) (s : isSettled t ≡ true) where
 
 -- ---- the other ready nodes, as seen from one
 
-ready-listed : (t : Table) (s : ℕ) → s < 64 → has (readySet t) s ≡ true → s < t .n
+pub ready-listed : (t : Table) (s : ℕ) → s < 64 → has (readySet t) s ≡ true → s < t .n
 unfolding readySet
 ready-listed t s l p = listed-has (t .n) (readySet t) s (listed-gather (t .n) _) l p
 

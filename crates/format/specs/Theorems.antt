@@ -28,7 +28,7 @@ use Rattle.format.specs.Format.{totalOf, fileOf}
 use Rattle.format.specs.Load.{headerFits, offsetsFit, statusesFit, fileTable, filePool, loadOf}
 use Rattle.format.specs.Write.{notWritten, wroteOf, writtenOf}
 use Rattle.format.specs.Rows.{Held}
-use Rattle.sound.specs.Sound.{sound, sound-valid}
+use Rattle.sound.specs.Sound.{sound, sound-valid, is-valid, is-sound}
 use Rattle.format.specs.Told.{laid-told}
 use Rattle.format.specs.File.{file-long, file-header-fits, file-offsets-fit, file-statuses, file-table}
 use Rattle.format.specs.File.{file-pool}
@@ -46,14 +46,6 @@ load-of-file t p t′ p′ k v =
     let long : 32 ≤ length (fileOf t p) = omega (arith, file-long t p s k) in
     rw (le-ltb (length (fileOf t p)) 32 long, file-header-fits t p s k, file-offsets-fit t p s k, file-statuses t p s k)
     (rw (file-table t p s k, file-pool t p s k, sound-valid (laid-told s (k .places))))
-
-pub is-sound : (t : Table) (p : Pool) → validOf t p ≡ true → isSound t p 256 ≡ true
-unfolding isSound
-is-sound t p v = v
-
-is-valid : (t : Table) (p : Pool) (len : ℕ) → isSound t p len ≡ true → validOf t p ≡ true
-unfolding isSound
-is-valid t p len e = and-right (eqb len messagesHigh) (validOf t p) e
 
 -- the longest file has 64 nodes and 256 messages
 pub total-most : (t : Table) (p : Pool) → validOf t p ≡ true → totalOf (t .n) (p .count) ≤ 18464

@@ -3,17 +3,15 @@
 use mathlib.Core.Path.{_≡_, refl, subst}
 use mathlib.Core.Bool.{Bool, true, false, cond}
 use Prim.Native.Nat.{ℕ, _^_, _<_, _≤_}
-use lib.Dec.{eqb, ltb}
+use lib.Dec.{ltb}
 use borrow.Author.Tests.{lt-ltb, le-ltb, ltb-true, ltb-false}
-use Rattle.marks.specs.Bools.{and-right}
 use Rattle.marks.specs.declared.Found.the-variants.{At}
 use Rattle.rules.specs.declared.Pool.{Pool}
 use Rattle.rules.specs.declared.Refusal.the-variants as no
-use Rattle.rules.specs.Limits.{messagesHigh}
 use Rattle.table.specs.declared.Table.{Table}
 use Rattle.table.specs.Settled.{isSettled}
 use Rattle.table.specs.Step.{isSound}
-use Rattle.table.specs.Valid.{validOf}
+use Rattle.sound.specs.Sound.{is-valid}
 use Rattle.holder.specs.declared.Holding.{Holding}
 use Rattle.holder.specs.declared.Holding.the-variants.{NotAsked, OutOfRange, Unsettled, By}
 use Rattle.holder.specs.Holder.{coveredBy, copiesOf, heldAt, holdingOf}
@@ -29,12 +27,8 @@ Says t p len k Unsettled = (isSound t p len ≡ true) × (k < 2 ^ t .m) × (isSe
 Says t p len k (By h c) = SettledKey t p len k × (coveredBy t k ≡ At h) × (c ≡ copiesOf t h)
 
 module _ (t : Table) (p : Pool) (len k : ℕ) where
-  valid : isSound t p len ≡ true → validOf t p ≡ true
-  unfolding isSound
-  valid e = and-right (eqb len messagesHigh) (validOf t p) e
-
   found : SettledKey t p len k → (h : ℕ) × (coveredBy t k ≡ At h)
-  found a = covered t p k (valid (a .sound)) (a .settled) (a .key)
+  found a = covered t p k (is-valid t p len (a .sound)) (a .settled) (a .key)
 
   says : Says t p len k (holdingOf t p len k)
   unfolding holdingOf
@@ -64,7 +58,7 @@ every-key-held t p len k e hk s =
 pub held-by-cover : HeldByCover
 held-by-cover t p len k h c e =
     let (a, d, same) = said t p len k (By h c) e in
-    let v = valid t p len k (a .sound) in
+    let v = is-valid t p len (a .sound) in
     let holds = covered-holds t p k v (a .settled) (a .key) h d in
     (holds, rw same (copies t p v (a .settled) h (holds .nearest .ready)))
 

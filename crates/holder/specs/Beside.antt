@@ -11,7 +11,7 @@ use borrow.Author.Tests.{eq-eqb, ne-eqb, eqb-true, eqb-false, not-true}
 use Rattle.ring.specs.Falls.{rounds-apart, fall-inj-left}
 use Rattle.marks.specs.Bools.{bool-false, and-left, and-right, and-both, or-left, or-right, or-cases, or-fails, false-not, eq-or-ne}
 use Rattle.marks.specs.Marks.{has, single, addOf, sizeOf}
-use Rattle.marks.specs.Laws.{has-single, has-add, has-remove, remove-below, empty, listed-has, listed-gather, size-same}
+use Rattle.marks.specs.Laws.{has-single, has-add, has-remove, remove-below, empty, size-same}
 use Rattle.rules.specs.declared.Pool.{Pool}
 use Rattle.rules.specs.Leaf.{wayUp, wayDown}
 use Rattle.rules.specs.Pick.{idAt}
@@ -22,6 +22,8 @@ use Rattle.table.specs.Settled.{readySet, isSettled}
 use Rattle.table.specs.Valid.{validOf}
 use Rattle.sound.specs.Sound.{sound}
 use Rattle.demand.specs.Demand.{Ready}
+use Rattle.demand.specs.Holder.{ready-listed}
+use Rattle.demand.specs.Joined.{ready-low, id-in as ready-id-in}
 use Rattle.demand.specs.Joining.{leftAt, rightAt, NotItsOwn, Flanked}
 use Rattle.demand.specs.Proved.{settled-flanked, settled-beside}
 use Rattle.holder.specs.Holder.{copiesOf}
@@ -82,14 +84,10 @@ module _ (t : Table) (p : Pool) (e : validOf t p ≡ true) (settled : isSettled 
   flanked = settled-flanked t p e settled
 
   low : (i : ℕ) → Ready t i → i < 64
-  low i r = omega (arith, sound t p e .numbers .n-high)
-
-  ready-of : (i : ℕ) → i < 64 → has (readySet t) i ≡ true → Ready t i
-  unfolding readySet
-  ready-of i l q = (listed-has (t .n) (readySet t) i (listed-gather (t .n) _) l q, q)
+  low = ready-low (sound t p e)
 
   id-in : (i : ℕ) → Ready t i → idAt (idsOf t) i < 2 ^ t .m
-  id-in i r = sound t p e .listed .ids-in i (low i r)
+  id-in = ready-id-in (sound t p e)
 
   ids-same : (i j : ℕ) → Ready t i → Ready t j → idAt (idsOf t) i ≡ idAt (idsOf t) j → i ≡ j
   ids-same i j r u q = ids-inj (sound t p e .listed) i j (r .0) (u .0) q
@@ -140,7 +138,7 @@ module _ (t : Table) (p : Pool) (e : validOf t p ≡ true) (settled : isSettled 
 
         go : (z : ℕ) × (z < 64) × (has (readySet t) z ≡ true) × (z ≡ h → ⊥) × (z ≡ leftAt t h → ⊥) → ⊥
         go (z, l, q, d, apart) =
-            let u = ready-of z l q in
+            let u : Ready t z = (ready-listed t z l q, q) in
             let close = flanked .close h z r u (λ f. d (sym f)) in
             apart (closest-one h (leftAt t h) z r left-ready u own d (close .left) (rw same (close .right)))
 

@@ -9,7 +9,7 @@ use native.Mathlib.Omega.{arith}
 use lib.Dec.{eqb, leb}
 use lib.ListN.{length}
 use borrow.Author.Tests.{eqb-true, ltb-true, leb-true, leb-false}
-use Rattle.marks.specs.Bools.{and-left, and-right}
+use Rattle.marks.specs.Bools.{and-left}
 use Rattle.rules.specs.declared.Message.{Message}
 use Rattle.rules.specs.declared.Pool.{Pool}
 use Rattle.rules.specs.declared.Action.{Action}
@@ -35,7 +35,7 @@ use Rattle.table.specs.Settled.{deadSet}
 use Rattle.table.specs.Step.{inRange, actOf, isSound, stepOf}
 use Rattle.table.specs.Valid.{validOf}
 use Rattle.sound.specs.Obeys.{obeys}
-use Rattle.sound.specs.Sound.{Sound, sound}
+use Rattle.sound.specs.Sound.{Sound, sound, is-valid}
 
 -- ---- what an action plans
 
@@ -128,7 +128,7 @@ slot-in-range {t} {p} s (Take place) e = obeys (ringOf t) (messageAt p place) (s
 sound-parts : (t : Table) (p : Pool) (len : ℕ) → isSound t p len ≡ true → (len ≡ 256) × Sound t p
 unfolding isSound
 sound-parts t p len e =
-    (eqb-true len 256 (and-left (eqb len 256) (validOf t p) e), sound t p (and-right (eqb len 256) (validOf t p) e))
+    (eqb-true len 256 (and-left (eqb len 256) (validOf t p) e), sound t p (is-valid t p len e))
 
 pub by-step : (C : Stepped → Type 0) (t : Table) (p : Pool) (len : ℕ) (a : Action)
     → ((why : Refusal) → RefusedFor t p len a why → C (refusedOf t p why))

@@ -1,6 +1,6 @@
 -- Two runs of bytes, compared from the front: lengths that differ tell them apart, and else each turn leaves what is behind the two bytes. And a
 -- buffer for the longest file holds the file of every valid table. Assumes nothing.
-use mathlib.Core.Path.{_≡_, refl, sym, ap}
+use mathlib.Core.Path.{_≡_, refl, ap}
 use mathlib.Core.Bool.{Bool, true, false, _&&_}
 use mathlib.Core.List.{List, [], _∷_}
 use Prim.Native.Nat.{ℕ, suc, _+_, _<_, _≤_}
@@ -14,11 +14,11 @@ use Rattle.marks.specs.Bools.{opposed}
 use Rattle.rules.specs.declared.Pool.{Pool}
 use Rattle.table.specs.declared.Table.{Table}
 use Rattle.table.specs.Valid.{validOf}
-use Rattle.sound.specs.Sound.{sound}
+use Rattle.sound.specs.Sound.{sound, is-sound}
 use Rattle.format.specs.File.{file-long}
 use Rattle.format.specs.Format.{totalOf, fileOf}
 use Rattle.format.specs.Rows.{Held}
-use Rattle.format.specs.Theorems.{is-sound, total-most, counted, written}
+use Rattle.format.specs.Theorems.{total-most, counted, written}
 use Rattle.format.specs.Write.{wroteOf, writtenOf}
 use Rattle.rehearsal.specs.Rehearsal.{same, mostSteps, isOpen}
 use Rattle.rehearsal.specs.declared.Verdict.{Verdict}

@@ -28,6 +28,7 @@ use Rattle.rules.specs.Pool.{messageAt, waiting}
 use Rattle.table.specs.declared.Table.{Table}
 use Rattle.table.specs.Table.{nodeAt, idsOf, ringOf}
 use Rattle.table.specs.Ids.{ids-at}
+use Rattle.table.specs.Step.{isSound}
 use Rattle.table.specs.Valid.{nodesFit, messagesFit, poolFits, validOf}
 use Rattle.sound.specs.Nodes.{both}
 
@@ -209,3 +210,13 @@ unfolding validOf nodesFit poolFits messagesFit
 sound-valid {t} {p} r =
     and-both (numbers-fit (r .numbers)) (and-both (all-of 64 _ (slot-fits r))
     (and-both (le-leb (p .count) 256 (r .counted)) (and-both (all-of (p .count) _ (r .message)) (r .different))))
+
+-- ---- a table that is looked at (isSound of Step) is valid, and a valid one is looked at with a list of 256 places
+
+pub is-valid : (t : Table) (p : Pool) (len : ℕ) → isSound t p len ≡ true → validOf t p ≡ true
+unfolding isSound
+is-valid t p len e = and-right (eqb len 256) (validOf t p) e
+
+pub is-sound : (t : Table) (p : Pool) → validOf t p ≡ true → isSound t p 256 ≡ true
+unfolding isSound
+is-sound t p v = v

@@ -2,10 +2,10 @@
 use mathlib.Core.Path.{_≡_, refl, sym, _∙_, ap}
 use mathlib.Core.Bool.{Bool, true, false, cond, _&&_}
 use mathlib.Core.List.{List}
-use Prim.Native.Nat.{ℕ, _^_, _<_, _≤_}
+use Prim.Native.Nat.{ℕ, _<_, _≤_}
 use native.Mathlib.Nat.{lt-of-lt-of-le}
 use native.Mathlib.Omega.{arith}
-use lib.Dec.{eqb, ltb}
+use lib.Dec.{ltb}
 use borrow.Author.Tests.{ltb-true}
 use Rattle.marks.specs.Bools.{clash, and-left, and-right}
 use Rattle.rules.specs.declared.Action.{Action}
@@ -19,7 +19,7 @@ use Rattle.rules.specs.Mail.{removedAt}
 use Rattle.rules.specs.Pool.{waiting, messageAt}
 use Rattle.mail.specs.Laws.{removed-none, waiting-short}
 use Rattle.sound.specs.Obeys.{obeys}
-use Rattle.sound.specs.Sound.{sound}
+use Rattle.sound.specs.Sound.{sound, is-valid}
 use Rattle.settle.specs.Plans.{lookup-slotted, join-slotted, request-slotted, lease-slotted, grant-slotted, take-slotted}
 use Rattle.settle.specs.Slots.{Slotted, Fitting}
 use Rattle.table.specs.declared.Stepped.{Stepped}
@@ -125,7 +125,7 @@ module _ (t : Table) (p : Pool) (a : Action) where
       → cond s (cond (inRange t p a) (actOf t p a) (refusedOf t p no.OutOfRange)) (refusedOf t p no.Invalid) ≡ carried t p (askedOf s t p a)
   unfolding settle askedOf isSound
   sound-step len false e = refl
-  sound-step len true e = in-range (and-right (eqb len 256) (validOf t p) e) (inRange t p a) refl
+  sound-step len true e = in-range (is-valid t p len e) (inRange t p a) refl
 
   pub step-asked : (len : ℕ) → stepOf t p len a ≡ carried t p (askedOf (isSound t p len) t p a)
   unfolding stepOf

@@ -2,29 +2,26 @@
 -- nothing.
 use mathlib.Core.Path.{_≡_, refl, sym, _∙_, ap}
 use mathlib.Core.Bool.{true, false}
-use mathlib.Core.Logic.{_⊎_, inl, inr, ⊎-elim}
+use mathlib.Core.Logic.{_⊎_, inl, inr}
 use mathlib.Core.List.{List, [], _∷_, _++_}
 use Prim.Native.Nat.{ℕ, suc, _+_, _*_, _^_, _<_, _≤_}
 use native.Mathlib.Numerals.{add-one}
 use native.Mathlib.Omega.{arith}
-use borrow.Author.Tests.{lt-ltb, le-ltb}
 use lib.IntN.{ℤ, pos, natAbs, _+ℤ_, +ℤ-assoc, +ℤ-idl, +ℤ-idr}
 use lib.ListN.{length, length-map, getD, take, drop, drop-of-length-le}
 use lib.Seq.{length-take-le, getD-take, take-suc, drop-cons, take-length}
 use mir.Syntax.{w64}
 use mir.Val.{Val, SFits}
 use denote.Laws.{Is}
-use Rattle.marks.specs.Bools.{bool-cases, lt-or-le}
+use Rattle.marks.specs.Bools.{bool-cases}
 use Rattle.water.specs.declared.Record.{Record}
 use Rattle.water.specs.declared.Held.{Held}
 use Rattle.water.specs.declared.Store.{Store}
 use Rattle.water.specs.declared.Looked.the-variants.{At, Nothing}
 use Rattle.water.specs.Water.{foundIn, alike, noneHeld, countOf, heldOf, seatOf, changeOf, totalOf}
+use Rattle.water.specs.Seats.{count-most}
 use Rattle.water.proofs.Signed.{size-sum, fits}
 use Rattle.water.proofs.Store as store
-
-pub count-low : (n : ℕ) → countOf n ≤ 512
-count-low n = ⊎-elim (λ p. rw (lt-ltb n 512 p) (omega arith)) (λ p. rw (le-ltb n 512 p) (omega arith)) (lt-or-le n 512)
 
 -- a store by value has 512 places
 pub record Full (s : Store) : Type 0 where
@@ -36,7 +33,7 @@ full s vs is = record { places = sym (length-map (s .places) _) ∙ is .1 .1 .1 
 module _ (s : Store) (f : Full s) where
   pub held-length : length (heldOf s) ≡ countOf (s .count)
   unfolding heldOf
-  held-length = length-take-le (countOf (s .count)) (s .places) (rw (f .places) (count-low (s .count)))
+  held-length = length-take-le (countOf (s .count)) (s .places) (rw (f .places) (count-most (s .count)))
 
   module _ (i : ℕ) (l : i < countOf (s .count)) where
     pub held-at : getD (heldOf s) i noneHeld ≡ getD (s .places) i noneHeld
@@ -117,7 +114,7 @@ module _ (s : Store) (f : Full s) (i : ℕ) (z d : ℤ) (p : Summed (heldOf s) i
   sum-small = omega (arith, size-sum z d, p .small)
 
   pub sum-fits : SFits w64 (z +ℤ d)
-  sum-fits = fits (z +ℤ d) (omega (arith, sum-small, count-low (s .count)))
+  sum-fits = fits (z +ℤ d) (omega (arith, sum-small, count-most (s .count)))
 
   pub summed-more : Summed (heldOf s) (i + 1) (z +ℤ d)
   summed-more =

@@ -1,16 +1,15 @@
 -- The last of each key and month: `lastEach` lists exactly those behind which none is the same, each once. Assumes nothing.
 use mathlib.Core.Path.{_≡_, refl, sym, _∙_, ap, subst}
-use mathlib.Core.Bool.{true, false, cond}
+use mathlib.Core.Bool.{true, false}
 use mathlib.Core.List.{List, [], _∷_, _++_}
 use mathlib.Core.Logic.{_⊎_, inl, inr, ⊎-elim, _↔_}
-use Prim.Native.Nat.{ℕ, _<_}
+use Prim.Native.Nat.{ℕ}
 use native.Mathlib.Omega.{arith}
-use lib.ListN.{length, getD}
-use Rattle.marks.specs.Bools.{bool-cases, bool-false, opposed, or-cases, or-left, or-right}
+use Rattle.marks.specs.Bools.{bool-cases, bool-false, opposed}
 use Rattle.water.specs.declared.Record.{Record}
 use Rattle.water.specs.declared.Held.{Held}
 use Rattle.water.specs.declared.Looked.the-variants.{At, Nothing}
-use Rattle.water.specs.Water.{alike, noneHeld, foundIn}
+use Rattle.water.specs.Water.{alike, foundIn}
 use Rattle.water.specs.History.{anyAlike, lastEach}
 use Rattle.water.specs.Records.{Same, In, here, there, LastOf, EachOnce, LastEachIs}
 use Rattle.water.specs.Mixed.{none-in, in-cases}

@@ -43,7 +43,7 @@ seat-none (h ∷ hs) r e =
     rw (or-fails-left (alike (h .original) r) (anyAlike hs r) e)
     (ap suc (seat-none hs r (or-fails-right (alike (h .original) r) (anyAlike hs r) e)))
 
-count-most : (n : ℕ) → countOf n ≤ mostRecords
+pub count-most : (n : ℕ) → countOf n ≤ mostRecords
 count-most n = ⊎-elim (λ e. rw e (omega (arith, ltb-true n mostRecords e))) (λ e. rw e (omega arith)) (bool-cases (ltb n mostRecords))
 
 held-most : (s : Store) → length (heldOf s) ≤ mostRecords

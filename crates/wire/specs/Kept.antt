@@ -24,12 +24,13 @@ use Rattle.table.specs.Settle.{refusedOf, doneOf}
 use Rattle.table.specs.Start.{noTable}
 use Rattle.table.specs.Step.{isSound}
 use Rattle.table.specs.Valid.{validOf}
+use Rattle.sound.specs.Sound.{is-sound}
 use Rattle.format.specs.declared.Wrote.{Wrote}
 use Rattle.format.specs.Exactly.{noRoom, write-exactly, write-leaves}
 use Rattle.format.specs.Format.{totalOf}
 use Rattle.format.specs.Load.{loadOf}
 use Rattle.format.specs.Rows.{Held}
-use Rattle.format.specs.Theorems.{is-sound, counted, read-of-write}
+use Rattle.format.specs.Theorems.{counted, read-of-write}
 use Rattle.format.specs.Write.{notWritten, wroteOf, writtenOf}
 use Rattle.entry.specs.Entry.{startStep}
 use Rattle.entry.specs.Laid.{Neat, refused-neat, step-neat, load-neat, start-neat}

@@ -1,6 +1,6 @@
 -- `holder::copies` meets its contract: it makes the set as the definition does. Assumes nothing.
 use borrow.Author.Needs.{needs}
-use mathlib.Core.Path.{_≡_, sym, _∙_}
+use mathlib.Core.Path.{_∙_}
 use Rattle.holder.specs.Holder.{copiesOf}
 use Rattle.holder.proofs.copies.Statement.{statement}
 use Rattle.holder.proofs.copies.Tie as tie

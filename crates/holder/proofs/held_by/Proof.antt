@@ -4,21 +4,17 @@ use borrow.Author.Needs.{needs}
 use mathlib.Core.Path.{_≡_, refl, sym, _∙_, ap}
 use mathlib.Core.Bool.{Bool, true, false, cond}
 use Prim.Native.Nat.{ℕ}
-use lib.Dec.{eqb}
-use Rattle.marks.specs.Bools.{and-right}
 use Rattle.entry.specs.declared.Rest.{Rest}
 use Rattle.entry.specs.declared.Rest.the-variants.{Settled, Unsettled, NotAsked}
 use Rattle.entry.specs.Entry.{restOf}
 use Rattle.rules.specs.declared.Pool.{Pool}
-use Rattle.rules.specs.declared.Refusal.{Refusal}
 use Rattle.rules.specs.declared.Refusal.the-variants as no
 use Rattle.rules.specs.Asks.{Listed}
-use Rattle.sound.specs.Sound.{sound}
+use Rattle.sound.specs.Sound.{sound, is-valid}
 use Rattle.table.specs.declared.Table.{Table}
 use Rattle.table.specs.Table.{ringOf, idsOf}
 use Rattle.table.specs.Settled.{isSettled}
 use Rattle.table.specs.Step.{isSound}
-use Rattle.table.specs.Valid.{validOf}
 use Rattle.holder.specs.declared.Holding.{Holding}
 use Rattle.holder.specs.declared.Holding.the-variants as held
 use Rattle.holder.specs.Holder.{holdingIn, holdingOf}
@@ -48,8 +44,7 @@ module _ (t : Table) (p : Pool) (len : ℕ) where
       go false b = refl
 
   listed-of : (r : Rest) → r ≡ restOf t p len → lookedAt r ≡ true → Listed (ringOf t) (idsOf t)
-  unfolding isSound
-  listed-of r e l = sound t p (and-right (eqb len 256) (validOf t p) (sym sound-is ∙ rw (← e) l)) .listed
+  listed-of r e l = sound t p (is-valid t p len (sym sound-is ∙ rw (← e) l)) .listed
 
 module _ (t : Table) (p : Pool) (len k : ℕ) where
   by-rest : answered (restOf t p len) t k ≡ holdingOf t p len k

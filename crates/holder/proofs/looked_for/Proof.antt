@@ -1,7 +1,7 @@
 -- `holder::looked_for` meets its contract: 1 shifted by M is 2^M, and a key below it has 32 bits. Assumes nothing.
 use borrow.Author.Needs.{needs}
 use borrow.Author.Tests.{lt-ltb, le-ltb}
-use mathlib.Core.Path.{_≡_, sym, _∙_}
+use mathlib.Core.Path.{_≡_, _∙_}
 use mathlib.Core.Bool.{Bool, true, false}
 use Prim.Native.Nat.{ℕ, _*_, _%_, _^_, _<_, _≤_}
 use native.Mathlib.Nat.{one-mul}

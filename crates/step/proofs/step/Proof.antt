@@ -1,12 +1,13 @@
 -- `step::step` meets its contract: it carries out what it asks. Assumes nothing.
 use borrow.Author.Needs.{needs}
 use mathlib.Core.Path.{_≡_, sym, _∙_, ap, subst}
-use mathlib.Core.Bool.{Bool, true, _&&_}
+use mathlib.Core.Bool.{Bool, _&&_}
 use Prim.Native.Nat.{ℕ}
 use lib.Dec.{eqb}
 use Rattle.marks.specs.Bools.{and-right}
 use Rattle.rules.specs.declared.Action.{Action}
 use Rattle.rules.specs.declared.Pool.{Pool}
+use Rattle.sound.specs.Sound.{is-valid}
 use Rattle.table.specs.declared.Table.{Table}
 use Rattle.table.specs.Step.{isSound, stepOf}
 use Rattle.table.specs.Valid.{validOf}
@@ -17,17 +18,13 @@ use Rattle.step.proofs.step.Statement.{statement}
 use Rattle.step.proofs.step.Tie as tie
 
 module _ (t : Table) (p : Pool) (len : ℕ) (a : Action) where
-  valid-sound : isSound t p len ≡ true → validOf t p ≡ true
-  unfolding isSound
-  valid-sound e = and-right (eqb len 256) (validOf t p) e
-
   module _ (valid : Bool) (v : valid ≡ validOf t p) (job : Task) (w : job ≡ askedOf (eqb len 256 && valid) t p a) where
     asks : job ≡ askedOf (isSound t p len) t p a
     unfolding isSound
     asks = w ∙ ap (λ (s : Bool). askedOf (eqb len 256 && s) t p a) v
 
     fits : Fits p job
-    fits = subst (λ (x : Task). Fits p x) (sym asks) (asked-fits t p a (isSound t p len) valid-sound)
+    fits = subst (λ (x : Task). Fits p x) (sym asks) (asked-fits t p a (isSound t p len) (is-valid t p len))
 
     gives : carried t p job ≡ stepOf t p len a
     gives = ap (carried t p) asks ∙ sym (step-asked t p a len)

@@ -1,8 +1,6 @@
 -- `water::difference` meets its contract: each amount has 32 bits, so every difference is read back as the number meant. Assumes nothing.
 use borrow.Author.Needs.{needs}
-use mathlib.Core.Path.{_≡_}
-use Prim.Native.Nat.{ℕ}
-use mir.Syntax.{w32, w64}
+use mir.Syntax.{w32}
 use mir.Val.{Fits}
 use Rattle.water.specs.Water.{changeOf}
 use Rattle.water.proofs.Signed.{two-fit, three-fit, three-is, change-small}

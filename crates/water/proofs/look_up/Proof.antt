@@ -3,14 +3,14 @@ use borrow.Author.Needs.{needs}
 use mathlib.Core.Path.{_≡_, sym, _∙_, ap}
 use Prim.Native.Nat.{ℕ, _<_, _≤_}
 use native.Mathlib.Omega.{arith}
-use lib.ListN.{length, getD}
+use lib.ListN.{getD}
 use Rattle.water.specs.declared.Record.{Record}
 use Rattle.water.specs.declared.Held.{Held}
-use Rattle.water.specs.declared.Looked.{Looked}
 use Rattle.water.specs.declared.Looked.the-variants.{At, Nothing}
 use Rattle.water.specs.declared.Store.{Store}
 use Rattle.water.specs.Water.{noneHeld, countOf, heldOf, seatOf, foundIn}
-use Rattle.water.proofs.Places.{count-low, Full, full, held-length, held-at, look-found, look-none}
+use Rattle.water.specs.Seats.{count-most}
+use Rattle.water.proofs.Places.{Full, full, held-length, held-at, look-found, look-none}
 use Rattle.water.proofs.look_up.Statement.{statement}
 use Rattle.water.proofs.look_up.Tie as tie
 
@@ -32,12 +32,12 @@ held-count-requires c κs = search needs
 mul-h : tie.Need-mul-h
 mul-h c =
     let n = c .before in
-    omega (arith, n .held-count .ensures, count-low (n .before .before .args .t1 .count))
+    omega (arith, n .held-count .ensures, count-most (n .before .before .args .t1 .count))
 
 element-copy-out-h : tie.Need-element-copy-out-h
 element-copy-out-h c =
     let n = c .before in
-    omega (arith, n .held-count .ensures, count-low (n .before .before .args .t1 .count))
+    omega (arith, n .held-count .ensures, count-most (n .before .before .args .t1 .count))
 
 returns : tie.Need-returns
 returns c =

@@ -1,6 +1,6 @@
 -- `water::place` meets its contract: it asks who holds the key, and goes by the answer. Assumes nothing.
 use borrow.Author.Needs.{needs}
-use mathlib.Core.Path.{_≡_, _∙_}
+use mathlib.Core.Path.{_∙_}
 use Rattle.water.specs.Water.{placeOf}
 use Rattle.water.proofs.place.Statement.{statement}
 use Rattle.water.proofs.place.Tie as tie

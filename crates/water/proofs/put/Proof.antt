@@ -1,11 +1,10 @@
 -- `water::put` meets its contract: there is room exactly if the seat is one of the 512 places. Assumes nothing.
 use borrow.Author.Needs.{needs}
 use borrow.Author.Tests.{lt-ltb, le-ltb}
-use mathlib.Core.Path.{_≡_, sym, _∙_}
+use mathlib.Core.Path.{_≡_, _∙_}
 use Prim.Native.Nat.{ℕ, _<_, _≤_}
 use Rattle.water.specs.declared.Record.{Record}
 use Rattle.water.specs.declared.Store.{Store}
-use Rattle.water.specs.declared.Placed.{Placed}
 use Rattle.water.specs.declared.Reply.the-variants.{Accepted}
 use Rattle.water.specs.declared.Why.the-variants.{NoRoom}
 use Rattle.water.specs.Water.{heldOf, seatOf, keptAt, refusedOf, putOf}

@@ -2,10 +2,11 @@
 -- left. Assumes nothing.
 use borrow.Author.Needs.{needs}
 use mathlib.Core.Path.{_≡_, sym, _∙_}
-use Prim.Native.Nat.{ℕ, _-_, _≤_}
+use Prim.Native.Nat.{_-_, _≤_}
 use native.Mathlib.Omega.{arith}
 use Rattle.water.specs.Water.{heldOf}
-use Rattle.water.proofs.Places.{count-low, Full, full, Passed, none-passed, passed-all, found, passed-more}
+use Rattle.water.specs.Seats.{count-most}
+use Rattle.water.proofs.Places.{Full, full, Passed, none-passed, passed-all, found, passed-more}
 use Rattle.water.proofs.seat.Statement.{statement}
 use Rattle.water.proofs.seat.Tie as tie
 
@@ -22,7 +23,7 @@ loop-holds : tie.Need-loop-holds Inv-loop μ-loop
 loop-holds c = (omega arith, none-passed _ _)
 
 low : (l : tie.At-loop Inv-loop μ-loop) → l .before .held-count .result ≤ 512
-low l = rw (l .before .held-count .ensures) (count-low (l .before .before .args .t1 .count))
+low l = rw (l .before .held-count .ensures) (count-most (l .before .before .args .t1 .count))
 
 -- the store has all its places
 whole : (l : tie.At-loop Inv-loop μ-loop) → Full (l .before .before .args .t1)

@@ -1,15 +1,14 @@
 -- `water::sum` meets its contract. The invariant: the sum of the first i changes, each of them at most 2^34 in size. The measure: the
 -- places left. Assumes nothing.
 use borrow.Author.Needs.{needs}
-use mathlib.Core.Path.{_≡_, refl, sym, _∙_}
-use Prim.Native.Nat.{ℕ, _+_, _-_, _*_, _^_, _≤_}
+use Prim.Native.Nat.{_+_, _-_, _^_, _≤_}
 use native.Mathlib.Omega.{arith}
 use lib.IntN.{natAbs, _+ℤ_}
-use lib.ListN.{take}
 use mir.Syntax.{w64}
 use mir.Val.{toZ}
-use Rattle.water.specs.Water.{heldOf, totalOf}
-use Rattle.water.proofs.Places.{count-low, Full, full, Summed, none-summed, sum-fits, summed-more, summed-all}
+use Rattle.water.specs.Water.{heldOf}
+use Rattle.water.specs.Seats.{count-most}
+use Rattle.water.proofs.Places.{Full, full, Summed, none-summed, sum-fits, summed-more, summed-all}
 use Rattle.water.proofs.Signed.{stored}
 use Rattle.water.proofs.sum.Statement.{statement}
 use Rattle.water.proofs.sum.Tie as tie
@@ -27,7 +26,7 @@ loop-holds : tie.Need-loop-holds Inv-loop μ-loop
 loop-holds c = (omega arith, none-summed _)
 
 low : (l : tie.At-loop Inv-loop μ-loop) → l .before .held-count .result ≤ 512
-low l = rw (l .before .held-count .ensures) (count-low (l .before .before .args .t1 .count))
+low l = rw (l .before .held-count .ensures) (count-most (l .before .before .args .t1 .count))
 
 -- the store has all its places
 whole : (l : tie.At-loop Inv-loop μ-loop) → Full (l .before .before .args .t1)
