@@ -4,21 +4,17 @@ use mathlib.Core.Path.{_≡_, refl, sym, _∙_, ap}
 use mathlib.Core.Bool.{Bool, true, false, cond}
 use mathlib.Core.List.{List}
 use Prim.Native.Nat.{ℕ}
-use native.Mathlib.Omega.{arith}
 use lib.Dec.{eqb, ltb}
 use lib.ListN.{length}
 use borrow.Author.Tests.{ne-eqb}
 use Rattle.rules.specs.declared.Action.{Action}
-use Rattle.rules.specs.declared.Answer.{Answer}
-use Rattle.rules.specs.declared.Answer.the-variants.{Done, Refused}
+use Rattle.rules.specs.declared.Answer.the-variants.{Refused}
 use Rattle.rules.specs.declared.Message.{Message}
-use Rattle.rules.specs.declared.Pool.{Pool}
 use Rattle.rules.specs.declared.Refusal.{Refusal}
 use Rattle.rules.specs.declared.Refusal.the-variants as no
 use Rattle.table.specs.declared.Stepped.{Stepped}
 use Rattle.table.specs.declared.Table.{Table}
 use Rattle.table.specs.Settle.{refusedOf}
-use Rattle.table.specs.Start.{startOf}
 use Rattle.table.specs.Step.{isSound, stepOf}
 use Rattle.keeps.specs.Proved.{refusal-keeps}
 use Rattle.format.specs.declared.Wrote.{Wrote}
@@ -26,7 +22,8 @@ use Rattle.format.specs.Exactly.{load-leaves, write-leaves}
 use Rattle.format.specs.Load.{headerFits, offsetsFit, loadOf}
 use Rattle.format.specs.Write.{notWritten, wroteOf}
 use Rattle.entry.specs.declared.Rest.the-variants.{NotAsked}
-use Rattle.entry.specs.Entry.{began, startStep, restOf}
+use Rattle.entry.specs.Entry.{startStep, restOf}
+use Rattle.entry.specs.Laid.{start-leaves}
 use Rattle.bench.specs.declared.Reply.{Reply}
 use Rattle.bench.specs.Lent.{blanks, takenOf, givenOf, lent, lentStep, lentStart, lentLoad, lentRest, Handed, Filed}
 
@@ -43,18 +40,6 @@ given-taken ys = go (eqb (length ys) 256)
     go : (b : Bool) → cond b (cond b ys blanks) ys ≡ ys
     go true = refl
     go false = refl
-
--- the start, by value
-start-leaves : (t : Table) (p : Pool) (len m l : ℕ) (ids : List ℕ) (a : ℕ) (why : Refusal)
-    → startStep t p len m l ids a .answer ≡ Refused why → startStep t p len m l ids a ≡ refusedOf t p why
-unfolding startStep
-start-leaves t p len m l ids a why h = go (eqb len 256) (startOf m l ids a .answer) h
-  where
-    go : (b : Bool) (w : Answer) → cond b (began w (startOf m l ids a .table) t p) (refusedOf t p no.Invalid) .answer ≡ Refused why
-        → cond b (began w (startOf m l ids a .table) t p) (refusedOf t p no.Invalid) ≡ refusedOf t p why
-    go true Done e = absurd (let z : _≡_ {A = ℕ} 0 1 = cc in omega arith)
-    go true (Refused w) e = ap (λ (x : Answer). record { answer = x; table = t; pool = p }) e
-    go false w e = ap (λ (x : Answer). record { answer = x; table = t; pool = p }) e
 
 module _ (t : Table) (ys : List Message) (n : ℕ) where
   module _ (zs : List Message) (r : Reply) where

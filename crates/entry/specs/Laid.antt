@@ -1,4 +1,5 @@
--- A step, a load or a start that is done leaves a pool that is laid out: its places past the count are blank. Assumes nothing.
+-- A step, a load or a start that is done leaves a pool that is laid out: its places past the count are blank; and a start that is refused leaves table
+-- and pool. Assumes nothing.
 use mathlib.Core.Path.{_≡_, refl, sym, ap}
 use mathlib.Core.Bool.{Bool, true, false, cond}
 use mathlib.Core.List.{List, map}
@@ -58,3 +59,16 @@ module _ (t : Table) (p : Pool) (len : ℕ) where
       go true Done e = refl
       go true (Refused why) e = refused-neat t p why e
       go false w e = refused-neat t p no.Invalid e
+
+-- ---- a start that is refused
+
+pub start-leaves : (t : Table) (p : Pool) (len m l : ℕ) (ids : List ℕ) (a : ℕ) (why : Refusal)
+    → startStep t p len m l ids a .answer ≡ Refused why → startStep t p len m l ids a ≡ refusedOf t p why
+unfolding startStep
+start-leaves t p len m l ids a why h = go (eqb len 256) (startOf m l ids a .answer) h
+  where
+    go : (b : Bool) (w : Answer) → cond b (began w (startOf m l ids a .table) t p) (refusedOf t p no.Invalid) .answer ≡ Refused why
+        → cond b (began w (startOf m l ids a .table) t p) (refusedOf t p no.Invalid) ≡ refusedOf t p why
+    go true Done e = absurd (let z : _≡_ {A = ℕ} 0 1 = cc in omega arith)
+    go true (Refused w) e = ap (λ (x : Answer). record { answer = x; table = t; pool = p }) e
+    go false w e = ap (λ (x : Answer). record { answer = x; table = t; pool = p }) e

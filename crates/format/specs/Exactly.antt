@@ -9,6 +9,7 @@ use native.Mathlib.Omega.{arith}
 use borrow.Author.Tests.{eqb-true, eq-eqb}
 use lib.Dec.{eqb, ltb}
 use lib.ListN.{length, drop}
+use Rattle.marks.specs.Bools.{and-right}
 use Rattle.rules.specs.declared.Pool.{Pool}
 use Rattle.rules.specs.declared.Refusal.{Refusal}
 use Rattle.rules.specs.declared.Refusal.the-variants as no
@@ -140,6 +141,14 @@ module _ (bs : List ℕ) (t : Table) (p : Pool) (len : ℕ) where
   load-makes h =
       made (fileTable bs) (filePool bs) t p (tooShort bs) (headerFits bs) (offsetsFit bs) (eqb len messagesHigh)
       (statusesFit bs && validOf (fileTable bs) (filePool bs)) h
+
+  -- a done load leaves a valid table
+  pub load-valid : loadOf bs t p len .answer ≡ Done → validOf (loadOf bs t p len .table) (loadOf bs t p len .pool) ≡ true
+  load-valid e =
+      let none : loadNumber bs t p len ≡ 0 = ap answerNumber e in
+      let fits = load-exactly bs t p len .done .0 none in
+      let records = and-right (offsetsFit bs) _ (and-right (headerFits bs) _ (and-right (not (tooShort bs)) _ fits)) in
+      rw (load-makes none) (and-right (statusesFit bs) _ (and-right (eqb len messagesHigh) _ records))
 
   pub load-leaves : (why : Refusal) → loadOf bs t p len .answer ≡ Refused why → loadOf bs t p len ≡ refusedOf t p why
   unfolding loadOf

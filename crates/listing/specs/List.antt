@@ -1,20 +1,19 @@
 -- The listing of any file, in a buffer of the caller's: what `list` leaves, for every file and buffer. Then that a loaded table is valid, how
 -- long a listing can be, and that the bytes so counted are the listing. Assumes nothing.
-use mathlib.Core.Path.{_≡_, refl, ap}
-use mathlib.Core.Bool.{Bool, true, false, cond, not}
+use mathlib.Core.Path.{_≡_, refl}
+use mathlib.Core.Bool.{Bool, true, false, cond}
 use mathlib.Core.List.{List, [], _++_}
 use Prim.Native.Nat.{ℕ, _+_, _*_, _≤_}
 use native.Mathlib.Omega.{arith}
-use lib.Dec.{eqb, ltb}
+use lib.Dec.{ltb}
 use borrow.Author.Tests.{le-ltb}
 use lib.ListN.{length, take, drop, length-append}
 use lib.Seq.{take-append-seam}
-use Rattle.marks.specs.Bools.{and-right}
 use Rattle.rules.specs.declared.Pool.{Pool}
 use Rattle.rules.specs.declared.Answer.{Answer}
 use Rattle.rules.specs.declared.Answer.the-variants.{Done, Refused}
 use Rattle.rules.specs.declared.Refusal.the-variants as no
-use Rattle.rules.specs.Numbers.{refusalNumber, answerNumber}
+use Rattle.rules.specs.Numbers.{refusalNumber}
 use Rattle.rules.specs.Pool.{laid, waiting}
 use Rattle.mail.specs.Laws.{waiting-short}
 use Rattle.table.specs.declared.Table.{Table}
@@ -23,9 +22,9 @@ use Rattle.table.specs.Start.{noTable}
 use Rattle.table.specs.Valid.{validOf}
 use Rattle.sound.specs.Sound.{sound}
 use Rattle.format.specs.declared.Wrote.{Wrote}
-use Rattle.format.specs.Load.{headerFits, offsetsFit, statusesFit, loadOf}
+use Rattle.format.specs.Load.{loadOf}
 use Rattle.format.specs.Write.{notWritten}
-use Rattle.format.specs.Exactly.{tooShort, load-exactly, load-makes}
+use Rattle.format.specs.Exactly.{load-valid}
 use Rattle.listing.specs.Print.{printed, printOf, listingOf}
 use Rattle.listing.specs.Text.{digits-most, lines-short}
 
@@ -48,14 +47,7 @@ pub record Loaded (s : Stepped) : Type 0 where
   pub valid : s .answer ≡ Done → validOf (s .table) (s .pool) ≡ true
 
 pub loaded : (bs : List ℕ) (t : Table) (p : Pool) (len : ℕ) → Loaded (loadOf bs t p len)
-loaded bs t p len = record { valid = valid }
-  where
-    valid : loadOf bs t p len .answer ≡ Done → validOf (loadOf bs t p len .table) (loadOf bs t p len .pool) ≡ true
-    valid e =
-        let none : answerNumber (loadOf bs t p len .answer) ≡ 0 = ap answerNumber e in
-        let fits = load-exactly bs t p len .done .0 none in
-        let records = and-right (offsetsFit bs) _ (and-right (headerFits bs) _ (and-right (not (tooShort bs)) _ fits)) in
-        rw (load-makes bs t p len none) (and-right (statusesFit bs) _ (and-right (eqb len 256) _ records))
+loaded bs t p len = record { valid = load-valid bs t p len }
 
 -- ---- how long a listing is
 
