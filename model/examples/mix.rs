@@ -17,6 +17,7 @@ fn name(request: &[u8]) -> String {
         Some(Request::Records) => return "records".to_string(),
         Some(Request::Place { .. }) => return "place".to_string(),
         Some(Request::Sum) => return "sum".to_string(),
+        Some(Request::Waiting { .. }) => return "waiting".to_string(),
         Some(Request::Step { action, file }) => (action, file),
     };
     let (mut table, mut pool) = (Table::BLANK, EMPTY_POOL);

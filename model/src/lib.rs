@@ -24,6 +24,7 @@ mod table;
 mod take;
 mod valid;
 mod view;
+mod waiting;
 mod water;
 pub mod wire;
 
@@ -39,4 +40,5 @@ pub use start::{start, start_as};
 pub use step::{step, step_as, Action};
 pub use table::{Node, Sides, Status, Table};
 pub use valid::is_valid;
+pub use waiting::{first_waiting, first_waiting_as};
 pub use water::{Held, Record, Store};

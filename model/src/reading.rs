@@ -557,4 +557,29 @@ slips! {
     CopiesInSum,
     /// Runoff adds to the stored water.
     RunoffAdded,
+
+    // What waits for a node (T-06).
+
+    /// The last message for the node is told in place of the first.
+    LastForFirst,
+    /// The place of the first message is counted from 1.
+    FirstFromOne,
+    /// A message waits for the node that its third word names.
+    NamedForDestination,
+    /// Only lookups wait for a node.
+    OnlyLookupsWait,
+    /// Nothing waits for a dead node.
+    NoneForDead,
+    /// The blank places past the count are looked at.
+    BlankPlacesWait,
+    /// A node without a message is refused as 1.
+    NoneIsRefused,
+    /// The slot n may be asked for.
+    PolledSlotAtN,
+    /// Every slot below 64 may be asked for.
+    PolledSlotTo64,
+    /// The slot is cut to 32 bits.
+    PolledSlotCut,
+    /// 1 is given for a slot above 63 before the file is loaded.
+    OneBeforeLoading,
 }

@@ -7,13 +7,14 @@
 use crate::file::{load_as, write_as, LARGEST};
 use crate::listing::listing_as;
 use crate::message::{Pool, EMPTY_POOL};
-use crate::reading::Reading;
-use crate::refusal::Refusal;
+use crate::reading::{Reading, Slip};
+use crate::refusal::{refuse_if, Refusal};
 use crate::rehearsal::{Rehearsal, Verdict};
 use crate::settled::settled_as;
 use crate::start::start_as;
 use crate::step::{step_as, Action};
 use crate::table::Table;
+use crate::waiting::first_waiting_as;
 use crate::water::{Held, Record, Store};
 
 /// The longest request: the driver's buffer.
@@ -35,6 +36,7 @@ pub enum Request<'a> {
     Records,
     Place { record: Record, file: &'a [u8] },
     Sum,
+    Waiting { slot: u64, file: &'a [u8] },
 }
 
 impl<'a> Request<'a> {
@@ -75,6 +77,10 @@ impl<'a> Request<'a> {
                 Some(Request::Place { record, file })
             }
             9 if file.is_empty() => Some(Request::Sum),
+            10 => {
+                let ([slot], file) = words(file)?;
+                Some(Request::Waiting { slot, file })
+            }
             _ => None,
         }
     }
@@ -98,6 +104,7 @@ impl<'a> Request<'a> {
                 put_parts(out, 8, [key, month, rain, evapotranspiration, runoff], file);
             }
             Request::Sum => put_parts(out, 9, [], &[]),
+            Request::Waiting { slot, file } => put_parts(out, 10, [*slot], file),
         }
     }
 }
@@ -211,6 +218,12 @@ impl<R: Reading> Server<R> {
                 out.extend_from_slice(&count.to_le_bytes());
                 out.extend_from_slice(&self.store.sum_as(r).to_le_bytes());
             }
+            Request::Waiting { slot, file } => {
+                let early = *slot >= Table::NODES as u64 && r.takes(Slip::OneBeforeLoading);
+                refuse_if(early, Refusal::OutOfRange)?;
+                load_as(r, file, &mut table, &mut pool)?;
+                put_first(first_waiting_as(r, &table, &pool, *slot)?, out);
+            }
         }
         Ok(())
     }
@@ -232,6 +245,14 @@ fn put_file<R: Reading>(r: R, table: &Table, pool: &Pool, out: &mut Vec<u8>) -> 
     let length = write_as(r, table, pool, &mut buffer)?;
     out.extend_from_slice(&buffer[..length]);
     Ok(())
+}
+
+/// 0, or 1 and the place of the first message.
+fn put_first(first: Option<usize>, out: &mut Vec<u8>) {
+    out.push(first.is_some().into());
+    if let Some(place) = first {
+        out.extend_from_slice(&(place as u32).to_le_bytes());
+    }
 }
 
 /// The holder's slot, the copies as marks and the change.

@@ -48,7 +48,7 @@ fn keys(rng: &mut Rng, m: u32) -> Vec<i64> {
 fn a_routed_lookup_comes_nearer() {
     let mut rng = Rng::new(11);
     let mut routed = 0;
-    for bench in tables(11, 3_000) {
+    for bench in tables(11, 3_500) {
         let m = bench.table.m;
         for at in slots(&bench, READY).into_iter().take(4) {
             for key in keys(&mut rng, m) {

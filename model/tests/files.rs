@@ -17,7 +17,7 @@ fn files(seed: u64, count: usize) -> Vec<Vec<u8>> {
         match Request::parse(&bytes) {
             Some(Request::Step { file, .. } | Request::Load { file }) => files.push(file.to_vec()),
             Some(Request::Begin { file } | Request::Next { stated: file, .. }) => files.push(file.to_vec()),
-            Some(Request::Place { file, .. }) => files.push(file.to_vec()),
+            Some(Request::Place { file, .. } | Request::Waiting { file, .. }) => files.push(file.to_vec()),
             _ => {}
         }
     }

@@ -41,6 +41,9 @@ fn requests_get_their_results() {
     assert_eq!(number, 0);
     assert_eq!(ask(Request::Step { action, file: &after }), (3, vec![]));
     assert_eq!(ask(Request::List { file: &after }), (0, b"key from to hops\n80 17 65 2\n".to_vec()));
+    assert_eq!(ask(Request::Waiting { slot: 0, file: &after }), (0, vec![1, 0, 0, 0, 0]));
+    assert_eq!(ask(Request::Waiting { slot: 1, file: &after }), (0, vec![0]));
+    assert_eq!(ask(Request::Waiting { slot: 4, file: &after }), (1, vec![]));
     let action = Action::Take { place: 0 };
     let (number, routed) = ask(Request::Step { action, file: &after });
     assert_eq!((number, routed.len()), (0, after.len()));
@@ -54,6 +57,7 @@ fn files_that_do_not_load_answer_their_number() {
         assert_eq!(ask(Request::Load { file: bytes }), (wanted, vec![]));
         assert_eq!(ask(Request::Step { action, file: bytes }), (wanted, vec![]));
         assert_eq!(ask(Request::Settled { file: bytes }), (wanted, vec![]));
+        assert_eq!(ask(Request::Waiting { slot: 99, file: bytes }), (wanted, vec![]));
         assert_eq!(ask(Request::List { file: bytes }), (0, format!("refused {wanted}\n").into_bytes()));
     }
 }
@@ -62,13 +66,15 @@ fn files_that_do_not_load_answer_their_number() {
 fn malformed_requests_have_their_own_number() {
     let malformed = (u32::MAX, vec![]);
     assert_eq!(reply(&[]), malformed);
-    assert_eq!(reply(&[10]), malformed);
+    assert_eq!(reply(&[11]), malformed);
     assert_eq!(reply(&[255]), malformed);
     assert_eq!(reply(&[1; 24]), malformed, "too short for its arguments");
     assert_eq!(reply(&[6; 24]), malformed, "too short for its arguments");
     assert_eq!(reply(&[2; 24]), malformed, "too short for its arguments");
     assert_eq!(reply(&[8; 40]), malformed, "too short for its arguments");
     assert_eq!(reply(&[8; 41]), (7, vec![]));
+    assert_eq!(reply(&[10; 8]), malformed, "too short for its argument");
+    assert_eq!(reply(&[10; 9]), (7, vec![]));
     assert_eq!(reply(&[7, 0]), malformed, "bytes behind a begin");
     assert_eq!(reply(&[9, 0]), malformed, "bytes behind a sum");
     assert_eq!(reply(&[0; LONGEST + 1]), malformed, "too long");

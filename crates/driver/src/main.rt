@@ -7,6 +7,9 @@ ghost use lib.ListN.{length};
 ghost use mir.Syntax.{w64};
 ghost use mir.Val.{ofZ};
 use abi::Asked;
+use counts::After;
+use counts::Counted;
+use counts::First;
 use entry::Rest;
 use format::Wrote;
 use libc::STDIN_FILENO;
@@ -220,6 +223,55 @@ fn put64(out: &mut [u8], at: usize, x: u64) {
     put32(out, at + 4, (x / 4294967296) as usize);
 }
 
+// A table of no node, for which nothing waits: what a file is loaded over.
+fn nothing() -> Counted {
+    Counted {
+        table: wire::no_table(),
+        pool: entry::no_messages(),
+        counts: [0u32; 64],
+    }
+}
+
+// What waits for a node as bytes: 1 and the place of its first message in 32 bits, or 0 where it has none.
+fn tell_first(f: First, out: &mut [u8]) -> Reply {
+    match f {
+        First::At(place) => {
+            put(out, 0, 1);
+            put32(out, 1, place);
+            Reply {
+                number: 0,
+                count: 5,
+            }
+        }
+        First::None => {
+            put(out, 0, 0);
+            Reply {
+                number: 0,
+                count: 1,
+            }
+        }
+        First::NotAsked(why) => refused(parts::answer_number(Answer::Refused(why))),
+    }
+}
+
+// What waits for a node of the table of a file, where it loads.
+fn first_in(loaded: After, slot: usize, out: &mut [u8]) -> Reply {
+    let answer = loaded.answer;
+    let x = loaded.counted;
+    match answer {
+        Answer::Done => tell_first(counts::first_message(x, 256, slot), out),
+        Answer::Refused(why) => refused(parts::answer_number(Answer::Refused(why))),
+    }
+}
+
+fn ask_waiting(rest: &[u8], out: &mut [u8]) -> Reply {
+    if rest.len() < 8 {
+        return malformed();
+    }
+    let slot = word64(rest, 0) as usize;
+    first_in(counts::load(&rest[8..], nothing(), 256), slot, out)
+}
+
 // The verdict so far as bytes: 1, or 0 and then the number of the first bad step in 32 bits.
 fn tell(v: Verdict, out: &mut [u8]) -> Reply {
     match v {
@@ -412,6 +464,7 @@ fn reply_to(request: &[u8], out: &mut [u8]) -> Reply {
         2 => make_start(&request[1..], out),
         3 => ask_settled(&request[1..], out),
         4 => print_list(&request[1..], out),
+        10 => ask_waiting(&request[1..], out),
         _ => malformed(),
     }
 }

@@ -11,7 +11,7 @@ use table::Stepped;
 use table::Table;
 
 // The table of no node.
-fn no_table() -> Table
+pub fn no_table() -> Table
     ensures { λ r. ⌜ r ≡ noTable ⌝ }
 {
     let none = table::no_node();

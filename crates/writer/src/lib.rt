@@ -144,7 +144,7 @@ fn total_of(n: usize, count: usize) -> usize
 }
 
 // A refusal, and no bytes.
-fn not_written(why: Refusal) -> Wrote
+pub fn not_written(why: Refusal) -> Wrote
     ensures { λ r. ⌜ r ≡ notWritten why ⌝ }
 {
     Wrote {

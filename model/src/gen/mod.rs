@@ -1,8 +1,9 @@
-//! Seeded requests: tables, walks, damaged files, rehearsals, water records and malformed requests.
+//! Seeded requests: tables, walks, damaged files, rehearsals, water records, polls and malformed requests.
 
 mod case;
 mod damage;
 mod messages;
+mod polls;
 mod prime;
 mod records;
 mod rehearsals;

@@ -3,6 +3,7 @@
 use super::case::Case;
 use super::damage::damaged;
 use super::messages::{fill, key};
+use super::polls::Polls;
 use super::prime::primed;
 use super::records::Records;
 use super::rehearsals::Rehearsals;
@@ -13,8 +14,8 @@ use super::walk::Walk;
 use crate::message::Message;
 use crate::wire::{Request, LONGEST};
 
-/// One kind that is none, and all but the start of a rehearsal and those of records: what is held goes on.
-const KINDS: [u8; 7] = [0, 1, 2, 3, 4, 10, 6];
+/// One kind that is none, and all but the start of a rehearsal, those of records and polls: what is held goes on.
+const KINDS: [u8; 7] = [0, 1, 2, 3, 4, 11, 6];
 
 /// An endless source of requests, the same for the same seed.
 pub struct Requests {
@@ -22,13 +23,15 @@ pub struct Requests {
     walks: Vec<Walk>,
     rehearsals: Rehearsals,
     records: Records,
+    polls: Polls,
 }
 
 impl Requests {
     pub fn new(seed: u64) -> Requests {
         let mut rng = Rng::new(seed);
         let walks = (0..4).map(|_| Walk::new(&mut rng)).collect();
-        Requests { rng, walks, rehearsals: Rehearsals::new(seed), records: Records::new(seed) }
+        let (rehearsals, records, polls) = (Rehearsals::new(seed), Records::new(seed), Polls::new(seed));
+        Requests { rng, walks, rehearsals, records, polls }
     }
 
     /// Puts the bytes of the next request after `out`, without a length word.
@@ -38,6 +41,9 @@ impl Requests {
         }
         if self.records.due() {
             return self.records.put(out);
+        }
+        if self.polls.due() {
+            return self.polls.put(out);
         }
         let rng = &mut self.rng;
         match rng.below(100) {
@@ -140,7 +146,7 @@ impl Requests {
         let rng = &mut self.rng;
         match rng.below(8) {
             0 => {}
-            1 => out.push(rng.pick(&[10, 6, 255, 128, 0, 1, 2, 3, 4])),
+            1 => out.push(rng.pick(&[11, 6, 255, 128, 0, 1, 2, 3, 4])),
             2 => {
                 let (case, action) = primed(rng);
                 Request::Step { action, file: &case.file() }.put(out);

@@ -1,5 +1,5 @@
-//! The bench once more, slowly, with sets of slots and straight from the sentences of 01, T-09 and T-13. It
-//! shares no code with the model and takes the same requests.
+//! The bench once more, slowly, with sets of slots and straight from the sentences of 01, T-06, T-09 and T-13.
+//! It shares no code with the model and takes the same requests.
 
 #![allow(dead_code)]
 
@@ -100,9 +100,10 @@ pub fn judge(memory: &mut Memory, request: &[u8]) -> Verdict {
     let arguments = match request[0] {
         1 | 2 | 6 => 24,
         8 => 40,
+        10 => 8,
         _ => 0,
     };
-    if request[0] > 9 || request.len() < 1 + arguments {
+    if request[0] > 10 || request.len() < 1 + arguments {
         return malformed();
     }
     let words: Vec<u64> = request[1..1 + arguments]
@@ -130,7 +131,8 @@ pub fn judge(memory: &mut Memory, request: &[u8]) -> Verdict {
                 0 => Verdict::done(file::bytes(&table)),
                 1 => step::judge(&table, words[0], words[1], words[2]),
                 3 => Verdict::done(vec![u8::from(others::settled(&table))]),
-                _ => memory.records.place(&table, &words),
+                8 => memory.records.place(&table, &words),
+                _ => others::waiting(&table, words[0]),
             }
         }
     }

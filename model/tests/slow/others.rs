@@ -1,4 +1,4 @@
-//! Start, settled and the listing, as written.
+//! Start, settled, the listing and what waits for a node, as written.
 
 use super::leaf::{covers, next_hop, Leaf};
 use super::ring::fall;
@@ -81,4 +81,16 @@ pub fn listing(bytes: &[u8]) -> Vec<u8> {
         text += &format!("{k} {} {end} {hops}\n", table.nodes[m.to].id);
     }
     text.into_bytes()
+}
+
+/// The least of all places whose message is for the node.
+pub fn waiting(table: &Table, slot: u64) -> Verdict {
+    if !(0..table.nodes.len() as u64).contains(&slot) {
+        return Verdict::refused(BTreeSet::from([1]));
+    }
+    let places = (0u32..).zip(&table.pool).filter(|(_, m)| m.to as u64 == slot).map(|(place, _)| place);
+    Verdict::done(match places.min() {
+        Some(place) => [&[1], &place.to_le_bytes()[..]].concat(),
+        None => vec![0],
+    })
 }

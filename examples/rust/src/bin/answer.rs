@@ -1,5 +1,5 @@
-//! answer: answers the driver's requests (docs/DRIVER.md) on standard input, but those of water records, by
-//! the five calls. A rehearsal is checked by step and `==`.
+//! answer: answers the driver's requests (docs/DRIVER.md) on standard input, but those of water records and of
+//! what waits for a node, by the five calls. A rehearsal is checked by step and `==`.
 
 use std::io::{self, Read, Write};
 use tarpudhriv::{Action, Refused};

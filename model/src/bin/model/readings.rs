@@ -64,6 +64,7 @@ fn name(request: &[u8]) -> String {
         Some(Request::Records) => "records".to_string(),
         Some(Request::Place { .. }) => "place".to_string(),
         Some(Request::Sum) => "sum".to_string(),
+        Some(Request::Waiting { .. }) => "waiting".to_string(),
         Some(Request::Step { action, file }) => format!("step {}", action_name(action, file)),
     }
 }

@@ -62,6 +62,7 @@ pub fn request(bytes: &[u8]) -> String {
         Some(Request::Records) => "begin records\n".to_string(),
         Some(Request::Place { record, file: bytes }) => format!("place {record:?}\n{}", file(bytes)),
         Some(Request::Sum) => "sum\n".to_string(),
+        Some(Request::Waiting { slot, file: bytes }) => format!("waiting for slot {slot}\n{}", file(bytes)),
     }
 }
 

@@ -1,0 +1,10 @@
+pub mod Counts
+pub mod Walk
+pub mod Laws
+pub mod Polls
+pub mod Truth
+pub mod Plain
+pub mod Asked
+pub mod Proved
+pub mod Unique
+pub mod Tried
