@@ -1,6 +1,6 @@
 -- The walk over the waiting messages: once the first `at` of them are looked at, the count of each slot is how many of these are for it. Assumes nothing.
 use mathlib.Core.Path.{_≡_, sym, _∙_, ap}
-use mathlib.Core.Bool.{cond, false}
+use mathlib.Core.Bool.{cond}
 use mathlib.Core.Logic.{⊎-elim}
 use mathlib.Core.List.{List}
 use Prim.Native.Nat.{ℕ, _+_, _<_, _≤_}
@@ -96,12 +96,3 @@ module _ (xs : List Message) where
   tallied-end c k =
       ext-getD 0 c (numbersTo 64 (countFor xs)) (k .long ∙ sym (numbers-length 64 (countFor xs)))
       (λ i h. let l : i < 64 = omega (arith, k .long) in k .told i l ∙ sym (numbers-at 64 (countFor xs) i l))
-
--- ---- the first for a node
-
-pub record NoneYet (xs : List Message) (i at : ℕ) : Type 0 where
-  pub none : (q : ℕ) → q < at → isFor xs i q ≡ false
-
-pub none-more : (xs : List Message) (i at : ℕ) → NoneYet xs i at → isFor xs i at ≡ false → NoneYet xs i (at + 1)
-none-more xs i at k e =
-    record { none = λ q h. ⊎-elim (k .none q) (λ l. let same : q ≡ at = omega arith in rw same e) (lt-or-le q at) }

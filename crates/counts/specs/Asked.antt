@@ -6,13 +6,13 @@ use mathlib.Core.Logic.{_⊎_, inl, inr, _↔_}
 use mathlib.Core.Bool.{Bool, true, false, cond}
 use Prim.Native.Nat.{ℕ, zero, suc, _<_, _≤_}
 use native.Mathlib.Omega.{arith}
-use borrow.Author.Tests.{eqb-true, eq-eqb, ne-eqb, lt-ltb, le-ltb, ltb-true, ltb-false}
+use borrow.Author.Tests.{eqb-true, eq-eqb, ne-eqb, lt-ltb, ltb-true, ltb-false}
 use lib.Dec.{eqb, ltb}
 use Rattle.marks.specs.declared.Found.{Found}
 use Rattle.marks.specs.declared.Found.the-variants.{At, Nothing}
 use Rattle.marks.specs.Bools.{bool-false, bool-same, opposed, lt-or-le}
 use Rattle.marks.specs.Marks.{has, gather, tally, firstTo}
-use Rattle.marks.specs.Laws.{tally-none, tally-zero, first-found, first-none, first-at, first-nothing, has-gather, gather-high}
+use Rattle.marks.specs.Laws.{first-found, first-none, first-at, first-nothing, has-gather, gather-high, tally-some, some-tally}
 use Rattle.rules.specs.declared.Refusal.the-variants as no
 use Rattle.rules.specs.Actions.{isFound}
 use Rattle.rules.specs.Numbers.{refusalNumber}
@@ -26,6 +26,7 @@ use Rattle.counts.specs.declared.First.the-variants as first
 use Rattle.counts.specs.declared.Polled.the-variants as polled
 use Rattle.counts.specs.Counts.{countAt, countFor, isSoundCounted, firstFor, firstSaid, hasOf, firstOf, polledOf}
 use Rattle.counts.specs.Counts.{hasNumber, firstNumber, polledNumber}
+use Rattle.counts.specs.Cases.{first-invalid, first-out, polled-invalid}
 use Rattle.counts.specs.Laws.{agree-at, count-none, count-some, some-count, waiting-first}
 use Rattle.counts.specs.Polls.{Good, WaitsAt, NoneBefore, AskedInvalidExactly, AskedOutOfRangeExactly, HasExactly, HasNotExactly}
 use Rattle.counts.specs.Polls.{FirstExactly, FirstNoneExactly, PolledExactly, CountTells}
@@ -130,12 +131,10 @@ Says x len i (first.NotAsked why) = ((why ≡ no.Invalid) × (Good x len → ⊥
 
 module _ (x : Counted) (len i : ℕ) where
   first-bad : (Good x len → ⊥) → firstOf x len i ≡ first.NotAsked no.Invalid
-  unfolding firstOf
-  first-bad bad = rw (not-counted x len bad)
+  first-bad bad = sym (first-invalid x len (not-counted x len bad) i)
 
-  first-out : Good x len → x .table .n ≤ i → firstOf x len i ≡ first.NotAsked no.OutOfRange
-  unfolding firstOf
-  first-out g h = rw (good-counted x len g, le-ltb i (x .table .n) h)
+  first-past : Good x len → x .table .n ≤ i → firstOf x len i ≡ first.NotAsked no.OutOfRange
+  first-past g h = sym (first-out x len (good-counted x len g) i h)
 
   first-asked : Good x len → i < x .table .n → firstOf x len i ≡ firstSaid (found x i)
   unfolding firstOf
@@ -252,7 +251,7 @@ module _ (x : Counted) (len i : ℕ) where
       go (first.NotAsked why) (inr s) e = absurd (omega (arith, ap refusalNumber (s .0)))
 
   first-one : (firstNumber (firstOf x len i) ≡ 1) ↔ (Good x len × (x .table .n ≤ i))
-  first-one = (go (firstOf x len i) (says x len i), λ (g, h). ap firstNumber (first-out x len i g h))
+  first-one = (go (firstOf x len i) (says x len i), λ (g, h). ap firstNumber (first-past x len i g h))
     where
       go : (r : First) → Says x len i r → firstNumber r ≡ 1 → Good x len × (x .table .n ≤ i)
       go (first.At q) s e = absurd (omega arith)
@@ -262,7 +261,7 @@ module _ (x : Counted) (len i : ℕ) where
 
   polled-ten : (polledNumber (polledOf x len) ≡ 10) ↔ (Good x len → ⊥)
   unfolding polledOf
-  polled-ten = (go (isSoundCounted x len) refl, λ bad. rw (not-counted x len bad))
+  polled-ten = (go (isSoundCounted x len) refl, λ bad. ap polledNumber (sym (polled-invalid x len (not-counted x len bad))))
     where
       go : (b : Bool) → isSoundCounted x len ≡ b
           → polledNumber (cond b (polled.Nodes (gather (x .table .n) (λ j. ltb 0 (countAt (x .counts) j)))) (polled.NotAsked no.Invalid)) ≡ 10
@@ -296,20 +295,6 @@ polled-exactly x len g = (gather (x .table .n) asks, rw (good-counted x len g), 
     told i h q w = has-gather (x .table .n) asks i h ∙ count-found x i len g h ∙ waits-found x i len g q w
 
 -- ---- the count tells
-
-tally-some : (n : ℕ) (f : ℕ → Bool) → 0 < tally n f → (q : ℕ) × (q < n) × (f q ≡ true)
-tally-some n f h = go (firstTo n f) refl
-  where
-    go : (r : Found) → firstTo n f ≡ r → (q : ℕ) × (q < n) × (f q ≡ true)
-    go (At q) e = let i = first-found n f q e in (q, i .below, i .holds)
-    go Nothing e = absurd (omega (arith, tally-none n f (first-none n f e)))
-
-some-tally : (n : ℕ) (f : ℕ → Bool) (q : ℕ) → q < n → f q ≡ true → 0 < tally n f
-some-tally n f q h e = go (tally n f) refl
-  where
-    go : (k : ℕ) → tally n f ≡ k → 0 < k
-    go zero z = absurd (opposed e (tally-zero n f q z h))
-    go (suc k) z = omega arith
 
 pub count-tells : CountTells
 count-tells x agrees i l = rw (agrees i l) (tells, λ (q, w). some-tally (x .pool .count) (here x i) q (w .below) (waits-here x i q w))

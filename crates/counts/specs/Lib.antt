@@ -1,6 +1,7 @@
 pub mod Counts
 pub mod Walk
 pub mod Laws
+pub mod Cases
 pub mod Polls
 pub mod Truth
 pub mod Plain

@@ -19,8 +19,8 @@ use Rattle.table.specs.declared.Table.{Table}
 use Rattle.table.specs.Settle.{refusedOf}
 use Rattle.table.specs.Start.{startOf}
 use Rattle.table.specs.Step.{isSound, stepOf}
-use Rattle.table.specs.Valid.{validOf}
 use Rattle.mail.specs.Laws.{waiting-short}
+use Rattle.sound.specs.Done.{ValidDone}
 use Rattle.sound.specs.Sound.{Sound, sound, is-valid, is-sound}
 use Rattle.keeps.specs.Numbers.{taken-waits}
 use Rattle.keeps.specs.Proved.{keeps-valid, refusal-keeps}
@@ -74,9 +74,6 @@ sound-exactly x len =
     (λ e. good-of x len (and-left s b e) (and-right s b e), λ g. and-both (g .sound) (good-agree x len g))
 
 -- ---- what a done call leaves is valid
-
-abbrev ValidDone : Stepped → Type 0
-ValidDone r = r .answer ≡ Done → validOf (r .table) (r .pool) ≡ true
 
 start-step-valid : (t : Table) (p : Pool) (len m l : ℕ) (ids : List ℕ) (a : ℕ) → ValidDone (startStep t p len m l ids a)
 unfolding startStep

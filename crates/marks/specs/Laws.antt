@@ -20,6 +20,7 @@ pub use Rattle.marks.specs.Bits.{gather-below, gather-high, gather-same,
 pub use Rattle.marks.specs.Slots.{tally-same, tally-mono, tally-none, tally-all, tally-le, tally-strict, tally-zero, tally-more}
 pub use Rattle.marks.specs.Slots.{tally-add, tally-or-one, tally-remove}
 pub use Rattle.marks.specs.Slots.{First, first-found, first-none, first-at, first-nothing, first-same}
+pub use Rattle.marks.specs.Slots.{NoneBelow, none-more, tally-some, some-tally}
 pub use Rattle.marks.specs.Slots.{each, all-of, more, fails, some-fails, all-same}
 
 -- ---- the members of each set

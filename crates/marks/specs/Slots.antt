@@ -184,6 +184,29 @@ first-same zero f g e = refl
 first-same (suc n) f g e =
     ap₂ (λ (r : Found) (b : Bool). orElse r (cond b (At n) Nothing)) (first-same n f g (λ s h. e s (omega arith))) (e n (omega arith))
 
+-- a walk that has found none yet
+pub record NoneBelow (f : ℕ → Bool) (s : ℕ) : Type 0 where
+  pub none : (i : ℕ) → i < s → f i ≡ false
+
+pub none-more : (f : ℕ → Bool) (s : ℕ) → NoneBelow f s → f s ≡ false → NoneBelow f (s + 1)
+none-more f s h e = record { none = λ i l. ⊎-elim (h .none i) (λ b. let same : i ≡ s = omega arith in rw same e) (lt-or-le i s) }
+
+-- ---- how many, and whether there is one
+
+pub tally-some : (n : ℕ) (f : ℕ → Bool) → 0 < tally n f → (s : ℕ) × (s < n) × (f s ≡ true)
+tally-some n f h = go (firstTo n f) refl
+  where
+    go : (r : Found) → firstTo n f ≡ r → (s : ℕ) × (s < n) × (f s ≡ true)
+    go (At s) e = let i = first-found n f s e in (s, i .below, i .holds)
+    go Nothing e = absurd (omega (arith, tally-none n f (first-none n f e)))
+
+pub some-tally : (n : ℕ) (f : ℕ → Bool) (s : ℕ) → s < n → f s ≡ true → 0 < tally n f
+some-tally n f s h e = go (tally n f) refl
+  where
+    go : (k : ℕ) → tally n f ≡ k → 0 < k
+    go zero z = absurd (opposed e (tally-zero n f s z h))
+    go (suc k) z = omega arith
+
 -- ---- all
 
 pub each : (n : ℕ) (f : ℕ → Bool) (s : ℕ) → allTo n f ≡ true → s < n → f s ≡ true

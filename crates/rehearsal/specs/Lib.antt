@@ -1,5 +1,4 @@
 pub mod Rehearsal
-pub mod Asks
 pub mod Checks
 pub mod Same
 pub mod Whole

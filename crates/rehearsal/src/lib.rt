@@ -7,7 +7,7 @@ ghost use lib.ListN.{length};
 ghost use Rattle.format.specs.Format.{fileOf};
 ghost use Rattle.table.specs.Valid.{validOf};
 ghost use Rattle.rehearsal.specs.Rehearsal.{mostSteps, same as sameOf, agreesWith, isOpen, startVerdict, checkedOf, beginOf, handedOf, replyNumber};
-ghost use Rattle.rehearsal.specs.Asks.{ValidDone};
+ghost use Rattle.sound.specs.Done.{ValidDone};
 use rules::Action;
 use rules::Answer;
 use rules::Pool;

@@ -7,17 +7,16 @@ use native.Mathlib.Omega.{arith}
 use lib.Dec.{eqb}
 use lib.ListN.{length}
 use lib.Seq.{getD-take}
-use Rattle.marks.specs.Laws.{first-at, first-nothing}
+use Rattle.marks.specs.Laws.{first-at, first-nothing, NoneBelow, none-more}
 use Rattle.rules.specs.declared.Message.{Message}
 use Rattle.rules.specs.Pool.{blank, messageAt, waiting}
 use Rattle.mail.proofs.Places.{waiting-counted}
 use Rattle.counts.specs.Counts.{isFor, firstFor}
-use Rattle.counts.proofs.Laws.{NoneYet, none-more}
 use Rattle.counts.proofs.first_for.Statement.{statement}
 use Rattle.counts.proofs.first_for.Tie as tie
 
 abbrev Inv-loop : tie.InvT-loop
-Inv-loop i p n at₀ at = (at ≤ n) × NoneYet (waiting p) i at
+Inv-loop i p n at₀ at = (at ≤ n) × NoneBelow (isFor (waiting p) i) at
 
 abbrev μ-loop : tie.MeasureT-loop
 μ-loop i p n at₀ at = n - at
@@ -59,7 +58,7 @@ loop-less c = omega arith
 loop-again : tie.Need-loop-again Inv-loop μ-loop
 loop-again c =
     let l = c .before .before .before .before in
-    (omega arith, none-more _ _ _ (l .loop .inv .1) (turn l _ (omega arith) (ne-eqb _ _ (c .if1 .left))))
+    (omega arith, none-more _ _ (l .loop .inv .1) (turn l _ (omega arith) (ne-eqb _ _ (c .if1 .left))))
 
 returns-2 : tie.Need-returns-2 Inv-loop μ-loop
 unfolding firstFor

@@ -6,7 +6,7 @@ use mathlib.Core.Bool.{true}
 use Prim.Native.Nat.{_<_}
 use native.Mathlib.Omega.{arith}
 use Rattle.counts.specs.Counts.{isSoundCounted}
-use Rattle.counts.proofs.Cases.{tells, first-invalid, first-out, first-none, first-walked}
+use Rattle.counts.specs.Cases.{tells, first-invalid, first-out, first-none, first-walked}
 use borrow.Author.Needs.{needs}
 use Rattle.counts.proofs.first_message.Statement.{statement}
 use Rattle.counts.proofs.first_message.Tie as tie

@@ -5,7 +5,7 @@ use mathlib.Core.Bool.{true}
 use Prim.Native.Nat.{_<_}
 use native.Mathlib.Omega.{arith}
 use Rattle.counts.specs.Counts.{isSoundCounted}
-use Rattle.counts.proofs.Cases.{tells, has-invalid, has-out, has-yes, has-no}
+use Rattle.counts.specs.Cases.{tells, has-invalid, has-out, has-yes, has-no}
 use borrow.Author.Needs.{needs}
 use Rattle.counts.proofs.has_message.Statement.{statement}
 use Rattle.counts.proofs.has_message.Tie as tie

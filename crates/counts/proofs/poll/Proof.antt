@@ -4,7 +4,7 @@ use borrow.Author.Tests.{not-true, not-false}
 use mathlib.Core.Bool.{true}
 use Rattle.counts.specs.declared.Polled.the-variants as polled
 use Rattle.counts.specs.Counts.{isSoundCounted}
-use Rattle.counts.proofs.Cases.{tells, polled-invalid, polled-nodes}
+use Rattle.counts.specs.Cases.{tells, polled-invalid, polled-nodes}
 use borrow.Author.Needs.{needs}
 use Rattle.counts.proofs.poll.Statement.{statement}
 use Rattle.counts.proofs.poll.Tie as tie

@@ -2,13 +2,11 @@
 -- Assumes nothing.
 use borrow.Author.Needs.{needs}
 use mathlib.Core.Path.{_≡_, sym, _∙_}
-use mathlib.Core.Logic.{⊎-elim}
-use mathlib.Core.Bool.{Bool, false, _&&_}
+use mathlib.Core.Bool.{Bool, _&&_}
 use mathlib.Core.List.{List}
-use Prim.Native.Nat.{ℕ, _+_, _-_, _<_, _≤_}
+use Prim.Native.Nat.{ℕ, _-_, _≤_}
 use native.Mathlib.Omega.{arith}
-use Rattle.marks.specs.Slots.{first-at, first-nothing}
-use Rattle.marks.specs.Bools.{lt-or-le}
+use Rattle.marks.specs.Laws.{first-at, first-nothing, NoneBelow, none-more}
 use Rattle.rules.specs.declared.Ring.{Ring}
 use Rattle.rules.specs.Leaf.{coversOf}
 use Rattle.rules.specs.Nodes.{sidesOf}
@@ -18,10 +16,6 @@ use Rattle.table.specs.Table.{nodeAt, idsOf, ringOf}
 use Rattle.holder.specs.Holder.{readyCovers, coveredBy}
 use Rattle.holder.proofs.covered_by.Statement.{statement}
 use Rattle.holder.proofs.covered_by.Tie as tie
-
--- no slot below s passes
-pub record NoneBelow (f : ℕ → Bool) (s : ℕ) : Type 0 where
-  pub none : (i : ℕ) → i < s → f i ≡ false
 
 abbrev Inv-loop : tie.InvT-loop
 Inv-loop k t g ids n s₀ s = (s ≤ n) × NoneBelow (readyCovers t k) s
@@ -44,9 +38,6 @@ turn : (l : tie.At-loop Inv-loop μ-loop) (r : Bool)
     → readyCovers (tableAt l) (l .before .before .before .args .k) (l .loop .s) ≡ r
 turn l r e = told (tableAt l) (l .before .before .before .args .k) (l .loop .s) _ _ r (l .before .before .ring-of .ensures)
     (l .before .ids .ensures) e
-
-more : (f : ℕ → Bool) (s : ℕ) → NoneBelow f s → f s ≡ false → NoneBelow f (s + 1)
-more f s h e = record { none = λ i l. ⊎-elim (h .none i) (λ b. let same : i ≡ s = omega arith in rw same e) (lt-or-le i s) }
 
 low : (l : tie.At-loop Inv-loop μ-loop) → tableAt l .n ≤ 64
 low l = l .before .before .before .pre .0 .n-high
@@ -89,7 +80,7 @@ loop-less c = omega arith
 loop-again : tie.Need-loop-again Inv-loop μ-loop
 loop-again c =
     let l = c .before .before .before .before .before in
-    (omega arith, more _ (l .loop .s) (l .loop .inv .1) (turn l _ (c .before .covers-at .ensures) ∙ c .if1 .left))
+    (omega arith, none-more _ (l .loop .s) (l .loop .inv .1) (turn l _ (c .before .covers-at .ensures) ∙ c .if1 .left))
 
 returns-2 : tie.Need-returns-2 Inv-loop μ-loop
 unfolding coveredBy

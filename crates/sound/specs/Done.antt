@@ -1,4 +1,4 @@
--- What functions of this crate ask of a step: where it is done, its table and messages are valid, as those of every done step are. Assumes nothing.
+-- What is asked of, and said of, what a step, a load or a start leaves: where it is done, its table and messages are valid. Assumes nothing.
 use mathlib.Core.Path.{_≡_}
 use mathlib.Core.Bool.{true}
 use Rattle.rules.specs.declared.Answer.the-variants.{Done}
