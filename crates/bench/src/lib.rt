@@ -49,11 +49,15 @@ fn replied(g: Stepped) -> Reply
     }
 }
 
-// The pool by value that a lent list holds: its places where there are 256, and blank ones where not.
+// The pool by value that a lent list holds: its places where there are 256, and blank ones where not. A list of another length has a way of its own: on the
+// other the compiler sees that every blank place is written over, and leaves the blanks out.
 fn take_in(pool: &[Message], count: usize) -> Pool
     ensures { λ r. ⌜ r ≡ poolOf count (takenOf (now (pool .entry))) ⌝ }
 {
     let n = places(pool.len());
+    if n == 0 {
+        return blank_pool(count);
+    }
     let mut x = blank_pool(count);
     let mut i: usize = 0;
     while i < n {

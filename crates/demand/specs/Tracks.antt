@@ -24,7 +24,6 @@ use Rattle.rules.specs.declared.Planned.{Planned}
 use Rattle.rules.specs.declared.Planned.the-variants.{No, Go}
 use Rattle.rules.specs.declared.Action.{Action}
 use Rattle.rules.specs.declared.Action.the-variants.{Lookup, Join, RequestLease, LeaseExpired, GrantExpired, Take}
-use Rattle.rules.specs.declared.Refusal.{Refusal}
 use Rattle.rules.specs.declared.Refusal.the-variants as no
 use Rattle.rules.specs.declared.Answer.{Answer}
 use Rattle.rules.specs.declared.Answer.the-variants.{Done, Refused}
@@ -43,7 +42,7 @@ use Rattle.table.specs.Settled.{readySet, deadSet}
 use Rattle.table.specs.Valid.{validOf}
 use Rattle.sound.specs.Obeys.{obeys}
 use Rattle.sound.specs.Sound.{Sound, sound}
-use Rattle.keeps.specs.By.{remainingOf, takenOf, plannedOf, DoneWith, leavesOf, step-refused, step-done}
+use Rattle.keeps.specs.By.{go-same, never-go, remainingOf, takenOf, plannedOf, DoneWith, leavesOf, step-refused, step-done}
 use Rattle.demand.specs.Fates.{others, coversAt, hopAt, Took, Tracked}
 use Rattle.demand.specs.Journey.{stepped, LookupAt, stays, landing, fateTaken, fateDone}
 use Rattle.demand.specs.Journey.{fateBy, fateOf}
@@ -65,12 +64,6 @@ pub data Treats (t : Table) (k d : ℕ) (x : Plan) : Type 0 where
   holds : coversAt t d k ≡ true → x ≡ quietPlan (nodeAt t d) → Treats t k d x
   sends : (h : ℕ) → coversAt t d k ≡ false → hopAt t d k ≡ To h → x ≡ sendPlan (nodeAt t d) (lookup k) h → Treats t k d x
   gives-up : coversAt t d k ≡ false → hopAt t d k ≡ NoRoute → x ≡ sendPlan (nodeAt t d) (noLegalRoute k) d → Treats t k d x
-
-go-same : {x y : Plan} → Go x ≡ Go y → y ≡ x
-go-same e = cc
-
-never-go : {why : Refusal} {y : Plan} → No why ≡ Go y → ⊥
-never-go e = let z : _≡_ {A = ℕ} 0 1 = cc in omega arith
 
 pub treats : (t : Table) (k d : ℕ) (x : Plan) → planAt t d k ≡ Go x → (isReady (nodeAt t d .status) ≡ true) × Treats t k d x
 unfolding planTakeLookup

@@ -32,14 +32,14 @@ pub fn start(t: Table, p: Pool, len: usize, m: u32, l: u32, ids: &[u32], a: u64)
     ensures { λ r. ⌜ r ≡ startStep t p len m l (now (ids .entry)) a ⌝ }
 {
     if len != 256 {
-        return settle::refused(t, p, Refusal::Invalid);
+        return answers::refused(t, p, Refusal::Invalid);
     }
     let made = Table::start(m, l, ids, a);
     let answer = made.answer;
     let table = made.table;
     match answer {
-        Answer::Done => settle::done(table, no_messages()),
-        Answer::Refused(why) => settle::refused(t, p, why),
+        Answer::Done => answers::done(table, no_messages()),
+        Answer::Refused(why) => answers::refused(t, p, why),
     }
 }
 

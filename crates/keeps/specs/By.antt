@@ -77,6 +77,14 @@ act-is t p (LeaseExpired i j) = refl
 act-is t p (GrantExpired i j) = refl
 act-is t p (Take place) = refl
 
+-- ---- what is planned
+
+pub go-same : {x y : Plan} → Go x ≡ Go y → y ≡ x
+go-same e = cc
+
+pub never-go : {why : Refusal} {y : Plan} → No why ≡ Go y → ⊥
+never-go e = let z : _≡_ {A = ℕ} 0 1 = cc in omega arith
+
 -- ---- what settles
 
 pub by-settle : (C : Stepped → Type 0) (t : Table) (p : Pool) (ys : List Message) (i : ℕ) (what : Planned)

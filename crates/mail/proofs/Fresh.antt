@@ -1,15 +1,15 @@
 -- The plan's new messages, as the functions come by them, and what makes the pool after it of what is left. Assumes nothing.
-use mathlib.Core.Path.{_≡_, sym, _∙_, ap, ap₂}
+use mathlib.Core.Path.{_≡_, refl, sym, _∙_, ap, ap₂}
 use mathlib.Core.Bool.{true, false, not}
 use mathlib.Core.List.{List, _++_, append-nil}
 use Prim.Native.Nat.{ℕ, _+_, _<_, _≤_}
 use native.Mathlib.Omega.{arith}
-use borrow.Author.Tests.{ltb-true, leb-true}
+use borrow.Author.Tests.{eqb-true, ltb-true, leb-true, not-false}
 use Rattle.marks.specs.declared.Found.{Found}
 use Rattle.marks.specs.declared.Found.the-variants.{At, Nothing}
 use Rattle.marks.specs.Marks.{has, without}
 use Rattle.marks.specs.Laws.{empty, has-zero, has-without, without-below}
-use Rattle.marks.specs.Bools.{and-fails-left}
+use Rattle.marks.specs.Bools.{clash, and-fails-left}
 use Rattle.rules.specs.declared.Message.{Message}
 use Rattle.rules.specs.declared.Plan.{Plan}
 use Rattle.rules.specs.declared.Pool.{Pool}
@@ -19,7 +19,7 @@ use Rattle.rules.specs.Actions.{waits}
 use Rattle.rules.specs.Plans.{mailed}
 use Rattle.mail.specs.declared.New.{New}
 use Rattle.mail.specs.Sending.{leftOf, leftCount, slotted, heldOf, heldWith, copyTo, copies}
-use Rattle.mail.specs.Sending.{newTo, newOne, newAll, newsOf, oneOrNone, newCount, Roomy}
+use Rattle.mail.specs.Sending.{newTo, newOne, newAll, newsOf, oneOrNone, newCount, sendsTo, sendsOf, firstNew, Roomy}
 use Rattle.mail.specs.Sends.{held-last}
 use Rattle.mail.specs.News.{new-slotted, mailed-news}
 
@@ -68,6 +68,24 @@ pub news-are : (x : Plan) (ys : List Message) (one : Found) (all : ℕ) → one 
     → all ≡ without (x .all) (heldOf (x .each) (ys ++ copyTo (x .first) one)) → news one all ≡ newsOf x ys
 unfolding newOne newAll
 news-are x ys one all e f = rw (f, e)
+
+-- of a plan that sends one message, and of one that sends none: what is new is told without looking, where no equal is left
+to-none : (to : Found) (all : ℕ) → sendsTo to all ≡ false → to ≡ Nothing
+to-none (At s) all e = absurd (clash e)
+to-none Nothing all e = refl
+
+all-zero : (to : Found) (all : ℕ) → sendsTo to all ≡ false → all ≡ 0
+all-zero (At s) all e = absurd (clash e)
+all-zero Nothing all e = eqb-true all 0 (not-false _ e)
+
+pub news-quiet : (x : Plan) (ys : List Message) → sendsOf x ≡ false → firstNew x ≡ newsOf x ys
+news-quiet x ys e =
+    let n = to-none (x .to) (x .all) e in
+    news-are x ys (x .to) 0 (n ∙ to-nowhere (x .first) (x .to) ys n) (all-none ys (x .first) (x .to) (x .each) (x .all) (all-zero (x .to) (x .all) e))
+
+pub news-one : (x : Plan) (ys : List Message) (s : ℕ) → x .to ≡ At s → x .all ≡ 0 → waits ys (placed (x .first) s) ≡ false → firstNew x ≡ newsOf x ys
+news-one x ys s e z w =
+    news-are x ys (x .to) 0 (e ∙ to-new (x .first) (x .to) ys s e w) (all-none ys (x .first) (x .to) (x .each) (x .all) z)
 
 -- ---- the pool after the plan
 

@@ -1,7 +1,7 @@
 -- When two messages are equal, and whether an equal one waits. Two messages are alike exactly if their nine fields are equal, so alike is
 -- an equivalence; an equal waits in two lists that follow each other exactly if one waits in either. Assumes nothing.
 use mathlib.Core.Path.{_≡_, refl, sym, _∙_, ap}
-use mathlib.Core.Bool.{Bool, true, false, cond, _||_, or-assoc, or-false}
+use mathlib.Core.Bool.{Bool, true, false, cond, _&&_, _||_, or-assoc, or-false}
 use mathlib.Core.List.{List, [], _∷_, _++_}
 use Prim.Native.Nat.{ℕ, zero, suc, _+_, _<_}
 use native.Mathlib.Omega.{arith}
@@ -12,11 +12,11 @@ use lib.Seq.{ext-getD}
 use Rattle.marks.specs.declared.Found.{Found}
 use Rattle.marks.specs.declared.Found.the-variants.{At, Nothing}
 use Rattle.marks.specs.Laws.{each, all-of}
-use Rattle.marks.specs.Bools.{bool-same}
+use Rattle.marks.specs.Bools.{clash, bool-false, bool-same, and-both, or-fails, or-fails-left, or-fails-right}
 use Rattle.rules.specs.declared.Message.{Message}
 use Rattle.rules.specs.Pool.{blank}
 use Rattle.rules.specs.Mail.{fieldsOf, alike, firstFrom, firstEqual, added}
-use Rattle.rules.specs.Actions.{isFound, waits}
+use Rattle.rules.specs.Actions.{isFound, waits, joinWaits}
 
 -- ---- two messages
 
@@ -104,6 +104,23 @@ pub waits-last : (xs : List Message) (x m : Message) → waits (xs ++ (x ∷ [])
 waits-last xs x m =
     let one : waits (x ∷ []) m ≡ alike x m = waits-cons x [] m ∙ rw (waits-nil m) (or-false (alike x m)) in
     waits-append xs (x ∷ []) m ∙ ap (λ (b : Bool). waits xs m || b) one
+
+-- where no JoinRequest of i waits, none waits that equals one of i
+no-join-here : (x m : Message) (i : ℕ) → m .kind ≡ 2 → m .word ≡ i → (eqb (x .kind) 2 && eqb (x .word) i) ≡ false → alike x m ≡ false
+no-join-here x m i k w e =
+    bool-false (alike x m)
+    (λ a.
+    let kind : x .kind ≡ 2 = ap (λ (r : List ℕ). getD r 1 0) (alike-same x m a) ∙ k in
+    let word : x .word ≡ i = ap (λ (r : List ℕ). getD r 2 0) (alike-same x m a) ∙ w in
+    clash (sym (and-both (eq-eqb (x .kind) 2 kind) (eq-eqb (x .word) i word)) ∙ e))
+
+pub no-join-waits : (xs : List Message) (m : Message) (i : ℕ) → m .kind ≡ 2 → m .word ≡ i → joinWaits xs i ≡ false → waits xs m ≡ false
+unfolding joinWaits
+no-join-waits [] m i k w e = waits-nil m
+no-join-waits (x ∷ xs) m i k w e =
+    waits-cons x xs m
+    ∙ or-fails (no-join-here x m i k w (or-fails-left (eqb (x .kind) 2 && eqb (x .word) i) (joinWaits xs i) e))
+    (no-join-waits xs m i k w (or-fails-right (eqb (x .kind) 2 && eqb (x .word) i) (joinWaits xs i) e))
 
 -- ---- adding
 

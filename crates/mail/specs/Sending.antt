@@ -1,10 +1,10 @@
 -- What a step leaves of the pool, and which of its plan's messages are new. "Once place `gone` is away": where gone is at or above the
 -- count, none is away. Definitions only; their laws are in Laid, Sends and News. Assumes nothing.
 use mathlib.Core.Path.{_≡_}
-use mathlib.Core.Bool.{Bool, true, cond}
+use mathlib.Core.Bool.{Bool, true, cond, not}
 use mathlib.Core.List.{List, [], _∷_, _++_}
 use Prim.Native.Nat.{ℕ, zero, suc, _+_, _-_, _≤_}
-use lib.Dec.{leb, ltb}
+use lib.Dec.{eqb, leb, ltb}
 use Rattle.marks.specs.Marks.{has, gather, addOf, without, sizeOf}
 use Rattle.marks.specs.declared.Found.{Found}
 use Rattle.marks.specs.declared.Found.the-variants.{At, Nothing}
@@ -78,6 +78,18 @@ newAll x ys = without (x .all) (heldOf (x .each) (ys ++ newOne x ys))
 abbrev pub newsOf : Plan → List Message → New
 newsOf x ys = record { one = newTo (x .first) (x .to) ys; all = newAll x ys }
 
+-- a plan sends something
+abbrev pub sendsTo : Found → ℕ → Bool
+sendsTo (At s) all = true
+sendsTo Nothing all = not (eqb all 0)
+
+abbrev pub sendsOf : Plan → Bool
+sendsOf x = sendsTo (x .to) (x .all)
+
+-- the first message is new, if there is one, and there is no other
+abbrev pub firstNew : Plan → New
+firstNew x = record { one = x .to; all = 0 }
+
 -- ---- how many there are after the step
 
 abbrev pub oneOrNone : Found → ℕ
@@ -92,7 +104,7 @@ newCount w = oneOrNone (w .one) + sizeOf (w .all)
 abbrev pub roomOf : ℕ → ℕ → New → Bool
 roomOf n gone w = leb (leftCount n gone + newCount w) 256
 
--- what making the pool after the plan asks: the new messages are told, they have room, and the first one's slot is one of the 64
+-- what the laws of the pool after the plan ask: the new messages are told, they have room, and the first one's slot is one of the 64
 pub record Roomy (p : Pool) (gone : ℕ) (x : Plan) (w : New) : Type 0 where
   pub counted : p .count ≤ 256
   pub to-slot : slotted (x .to) ≡ true

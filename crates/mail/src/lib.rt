@@ -1,18 +1,17 @@
-// The pool by value. A step reads first, and then builds the pool after it once: what is left, with the plan's new messages at the end and
-// blanks past the count. "Once place `gone` is away": where gone is at or above the count, none is away.
+// The pool by value, as a step reads it: whether a request waits, which of a plan's messages are new, and whether they have room. The pool after
+// the plan is made by the step itself. "Once place `gone` is away": where gone is at or above the count, none is away.
 ghost use mathlib.Core.Path.{_≡_};
 ghost use mathlib.Core.Bool.{true};
 ghost use mathlib.Core.List.{_++_};
 ghost use Prim.Native.Nat.{_≤_, _<_};
-ghost use Rattle.rules.specs.Mail.{fieldsOf, allDifferent, firstEqual};
+ghost use Rattle.rules.specs.Mail.{fieldsOf, firstEqual};
 ghost use Rattle.rules.specs.Mail.{alike as alikeOf};
 ghost use Rattle.rules.specs.Actions.{joinWaits};
 ghost use Rattle.rules.specs.Actions.{waits as waitsOf};
-ghost use Rattle.rules.specs.Plans.{mailed};
-ghost use Rattle.rules.specs.Pool.{waiting, laid};
+ghost use Rattle.rules.specs.Pool.{waiting};
 ghost use Rattle.marks.specs.Marks.{without};
 ghost use Rattle.mail.specs.Sending.{leftOf, leftCount, placeOf, slotted, heldOf, heldWith, copyTo};
-ghost use Rattle.mail.specs.Sending.{newTo, newsOf, roomOf, Roomy};
+ghost use Rattle.mail.specs.Sending.{newTo, newsOf, sendsOf, firstNew, roomOf};
 ghost use Rattle.mail.specs.Mix.{mixOf, bucketOf};
 use marks::Found;
 use rules::Message;
@@ -43,7 +42,7 @@ fn fields(m: Message) -> [u64; 9]
 }
 
 // Are the two equal in every field but the hops?
-fn alike(a: Message, b: Message) -> bool
+pub fn alike(a: Message, b: Message) -> bool
     ensures { λ r. ⌜ r ≡ alikeOf a b ⌝ }
 {
     (a.dest == b.dest)
@@ -58,7 +57,7 @@ fn alike(a: Message, b: Message) -> bool
 }
 
 // How many of n messages are left once place `gone` is away.
-fn left(n: usize, gone: usize) -> usize
+pub fn left_count(n: usize, gone: usize) -> usize
     ensures { λ r. ⌜ r ≡ leftCount n gone ⌝ }
 {
     if gone < n { n - 1 } else { n }
@@ -77,7 +76,7 @@ fn first_equal(p: Pool, gone: usize, m: Message) -> Found
     requires { ⌜ p .count ≤ 256 ⌝ }
     ensures { λ r. ⌜ r ≡ firstEqual (leftOf p gone) m ⌝ }
 {
-    let n = left(p.count, gone);
+    let n = left_count(p.count, gone);
     let b = fields(m);
     let mut at: usize = 0;
     let found = 'places: loop {
@@ -129,59 +128,22 @@ pub fn join_waits(p: Pool, i: u32) -> bool
     false
 }
 
-// A number made of the nine fields.
+// A number made of a message's fields, but for the flag.
 fn mix(m: Message) -> u64
     ensures { λ r. ⌜ r ≡ mixOf m ⌝ }
 {
     let low = (m.word as u64)
         ^ ((m.kind as u64) << 32)
         ^ ((m.dest as u64) << 36)
-        ^ ((m.flag as u64) << 42)
         ^ ((m.owner as u64) << 43);
-    low
-        ^ ((m.routing << 7) ^ (m.routing >> 57))
-        ^ ((m.left << 19) ^ (m.left >> 45))
-        ^ ((m.right << 31) ^ (m.right >> 33))
-        ^ ((m.failed << 47) ^ (m.failed >> 17))
+    low ^ m.routing ^ m.left ^ m.right ^ m.failed
 }
 
 // The bucket of a message, below 509.
-fn bucket(m: Message) -> usize
+pub fn bucket(m: Message) -> usize
     ensures { λ r. ⌜ r ≡ bucketOf m ⌝ }
 {
     (mix(m) % 509) as usize
-}
-
-// Are no two waiting messages equal? A message is compared only with the earlier ones of its own bucket: `heads` has one more than the
-// last place of each bucket, and `next` one more than the place before of the same bucket; 0 is none.
-pub fn all_different(p: Pool) -> bool
-    requires { ⌜ p .count ≤ 256 ⌝ }
-    ensures { λ r. ⌜ r ≡ allDifferent (waiting p) ⌝ }
-{
-    let n = p.count;
-    let mut heads = [0u32; 509];
-    let mut next = [0u32; 256];
-    let mut j: usize = 0;
-    let different = 'places: loop {
-        if n <= j {
-            break 'places true;
-        }
-        let m = p.places[j];
-        let h = bucket(m);
-        let first = heads[h];
-        let mut at = first as usize;
-        'chain: while 0 < at {
-            let q = p.places[at - 1];
-            if alike(q, m) {
-                break 'places false;
-            }
-            at = next[at - 1] as usize;
-        }
-        next[j] = first;
-        heads[h] = (j + 1) as u32;
-        j += 1;
-    };
-    different
 }
 
 // A set of slots, with q's if q equals m in all but the slot.
@@ -201,7 +163,7 @@ fn held(p: Pool, gone: usize, m: Message) -> u64
     requires { ⌜ p .count ≤ 256 ⌝ }
     ensures { λ r. ⌜ r ≡ heldOf m (leftOf p gone) ⌝ }
 {
-    let n = left(p.count, gone);
+    let n = left_count(p.count, gone);
     let mut set: u64 = 0;
     let mut at: usize = 0;
     while at < n {
@@ -244,6 +206,25 @@ fn new_all(p: Pool, gone: usize, first: Message, one: Found, m: Message, set: u6
     marks::less(set, held_with(have, q, m))
 }
 
+// Does the plan send anything?
+pub fn sends(plan: Plan) -> bool
+    ensures { λ r. ⌜ r ≡ sendsOf plan ⌝ }
+{
+    let to = plan.to;
+    match to {
+        Found::At(_) => true,
+        Found::Nothing => plan.all != 0,
+    }
+}
+
+// The plan's first message counted as new, if there is one, and no other.
+pub fn first_new(plan: Plan) -> New
+    ensures { λ r. ⌜ r ≡ firstNew plan ⌝ }
+{
+    let one = plan.to;
+    New { one, all: 0 }
+}
+
 // Which of the plan's messages are new once place `gone` is away.
 pub fn news(p: Pool, gone: usize, plan: Plan) -> New
     requires { ⌜ (p .count ≤ 256) × (slotted (plan .to) ≡ true) ⌝ }
@@ -266,43 +247,5 @@ pub fn room(n: usize, gone: usize, new: New) -> bool
         Found::At(_) => 1,
         Found::Nothing => 0,
     };
-    left(n, gone) + (more + marks::count(new.all) as usize) <= 256
-}
-
-// The pool after the plan: the gap at place `gone` is closed, the new messages are at the end, and places past the count are blank.
-pub fn after(p: Pool, gone: usize, plan: Plan, new: New) -> Pool
-    requires { ⌜ Roomy p gone plan new ⌝ }
-    ensures { λ r. ⌜ r ≡ laid (mailed plan (leftOf p gone)) ⌝ }
-{
-    let none = parts::blank_message();
-    let one = new.one;
-    let mut rest = new.all;
-    let mut n = left(p.count, gone);
-    let mut q = p;
-    let mut at = gone;
-    'gap: while at < n {
-        let x = q.places[at + 1];
-        q.places[at] = x;
-        at += 1;
-    }
-    if let Found::At(s) = one {
-        q.places[n] = parts::to_slot(plan.first, s as u32);
-        n += 1;
-    }
-    'slots: loop {
-        let next = marks::lowest(rest);
-        let Found::At(s) = next else {
-            break 'slots;
-        };
-        q.places[n] = parts::to_slot(plan.each, s as u32);
-        n += 1;
-        rest = marks::removed(rest, s);
-    }
-    q.count = n;
-    at = n;
-    'blanks: while at < 256 {
-        q.places[at] = none;
-        at += 1;
-    }
-    q
+    left_count(n, gone) + (more + marks::count(new.all) as usize) <= 256
 }

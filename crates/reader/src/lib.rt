@@ -215,14 +215,14 @@ fn load_records(file: &[u8], t: Table, p: Pool) -> Stepped
     ensures { λ r. ⌜ r ≡ recordsOf (now (file .entry)) t p ⌝ }
 {
     if !statuses_fit(file) {
-        return settle::refused(t, p, Refusal::Invalid);
+        return answers::refused(t, p, Refusal::Invalid);
     }
     let u = read_table(file);
     let q = read_messages(file);
     if !valid::is_valid(u, q) {
-        return settle::refused(t, p, Refusal::Invalid);
+        return answers::refused(t, p, Refusal::Invalid);
     }
-    settle::done(u, q)
+    answers::done(u, q)
 }
 
 // Reads a table file. 7 for a file shorter than 32 bytes, 8 for its header, 9 for its offsets, its total or its length, 10 for a list whose
@@ -231,16 +231,16 @@ pub fn load(file: &[u8], t: Table, p: Pool, len: usize) -> Stepped
     ensures { λ r. ⌜ r ≡ loadOf (now (file .entry)) t p len ⌝ }
 {
     if file.len() < 32 {
-        return settle::refused(t, p, Refusal::Short);
+        return answers::refused(t, p, Refusal::Short);
     }
     if !header_fits(file) {
-        return settle::refused(t, p, Refusal::Header);
+        return answers::refused(t, p, Refusal::Header);
     }
     if !offsets_fit(file) {
-        return settle::refused(t, p, Refusal::Offsets);
+        return answers::refused(t, p, Refusal::Offsets);
     }
     if len != 256 {
-        return settle::refused(t, p, Refusal::Invalid);
+        return answers::refused(t, p, Refusal::Invalid);
     }
     load_records(file, t, p)
 }

@@ -15,7 +15,7 @@ use Rattle.rules.specs.declared.Status.the-variants as status
 use Rattle.rules.specs.declared.Node.{Node}
 use Rattle.rules.specs.declared.Message.{Message}
 use Rattle.rules.specs.declared.Refusal.the-variants as no
-use Rattle.rules.specs.Nodes.{sidesOf, placed}
+use Rattle.rules.specs.Nodes.{sidesOf}
 use Rattle.rules.specs.Mail.{firstEqual}
 use Rattle.rules.specs.declared.Plan.{Plan}
 use Rattle.rules.specs.declared.Planned.{Planned}

@@ -1,7 +1,7 @@
 -- A table is valid if all numbers are in range, no mark is at n or above, each side has at most L marks, no node is in its own left, right, probing or failed,
 -- each message obeys its kind and no two messages are equal. Slots at n and above are blank (docs/DECISIONS.md). These are the rules of
 -- one slot and of one message; Valid of crate table puts them together. Definitions only. Assumes nothing.
-use mathlib.Core.Bool.{Bool, true, false, cond, _&&_, _||_, not}
+use mathlib.Core.Bool.{Bool, true, cond, _&&_, _||_, not}
 use mathlib.Core.List.{List}
 use Prim.Native.Nat.{ℕ, pred, _^_}
 use lib.Dec.{eqb, leb, ltb}

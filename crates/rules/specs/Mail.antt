@@ -1,6 +1,6 @@
 -- The waiting messages as a list, oldest first: equality, adding, removing, sending. Definitions only, each under 01's sentence; their laws are in the other
 -- files. Assumes nothing.
-use mathlib.Core.Bool.{Bool, true, false, cond, not}
+use mathlib.Core.Bool.{Bool, cond, not}
 use mathlib.Core.List.{List, [], _∷_, _++_}
 use Prim.Native.Nat.{ℕ, zero, suc, _+_}
 use lib.Dec.{eqb}
@@ -9,7 +9,6 @@ use Rattle.marks.specs.Marks.{has, allTo}
 use Rattle.marks.specs.declared.Found.{Found}
 use Rattle.marks.specs.declared.Found.the-variants.{At, Nothing}
 use Rattle.rules.specs.declared.Message.{Message}
-use Rattle.rules.specs.declared.Pool.{Pool}
 use Rattle.rules.specs.Nodes.{placed}
 use Rattle.rules.specs.Pool.{blank, waiting}
 

@@ -1,6 +1,6 @@
 -- Take(place), by kind, in 01's order: message m at its destination i, whose node is v. Each kind is refused with the lowest number that applies, or makes a plan.
--- Definitions only. Assumes nothing.
-use mathlib.Core.Bool.{Bool, true, false, cond, _&&_, _||_, not}
+-- 01's words stand above each kind; "several probes are sent in rising slot order" is Mail.sent. Definitions only. Assumes nothing.
+use mathlib.Core.Bool.{Bool, cond, _&&_, _||_, not}
 use mathlib.Core.List.{List}
 use Prim.Native.Nat.{ℕ}
 use lib.Dec.{eqb}
@@ -23,18 +23,19 @@ use Rattle.rules.specs.Hop.{nextHop}
 use Rattle.rules.specs.declared.Plan.{Plan}
 use Rattle.rules.specs.declared.Planned.{Planned}
 use Rattle.rules.specs.declared.Planned.the-variants.{No, Go}
-use Rattle.rules.specs.Letters.{lookup, joinRequest, joinReply, lsProbe, lsProbeReply, noLegalRoute, broadcastLSet, noSides}
+use Rattle.rules.specs.Letters.{lookup, joinRequest, joinReply, lsProbe, lsProbeReply, noLegalRoute, broadcastLSet}
 use Rattle.rules.specs.Plans.{isDead, isWait, isReady, isUp, withLeases, quietPlan, sendPlan}
 use Rattle.rules.specs.Actions.{isBeside, isNeighbour}
 
 -- ---- 1 Lookup
+-- 2 unless ready. If i covers k, delivered: nothing is added. Else Lookup goes to the next hop, or NoLegalRoute(k) to i.
 
 -- Lookup goes to the next hop, or NoLegalRoute(k) to i
 abbrev pub forwardPlan : Hop → Node → Message → ℕ → ℕ → Plan
 forwardPlan (To h) v m k i = sendPlan v m h
 forwardPlan NoRoute v m k i = sendPlan v (noLegalRoute k) i
 
--- 2 unless ready. If i covers k, delivered: nothing is added. Else Lookup goes to the next hop, or NoLegalRoute(k) to i.
+-- 2 unless ready. If i covers k, delivered: nothing is added
 unfoldable pub planTakeLookup : Ring → List ℕ → ℕ → ℕ → Node → ℕ → Planned
 planTakeLookup g ids dead i v k =
     cond (not (isReady (v .status))) (No no.Status)
@@ -42,9 +43,9 @@ planTakeLookup g ids dead i v k =
     (Go (forwardPlan (nextHop g ids dead i v k) v (lookup k) k i)))
 
 -- ---- 2 JoinRequest
-
 -- From j. 2 unless ready; 5 if j is in i's content. If i covers j's id, a JoinReply to j with m's routing set and i's leaf set.
 -- Else to the next hop with i's routing set joined in, or NoLegalRoute(id of j) to i.
+
 unfoldable pub planTakeJoinRequest : Ring → List ℕ → ℕ → ℕ → Node → ℕ → ℕ → Planned
 planTakeJoinRequest g ids dead i v j routing =
     cond (not (isReady (v .status))) (No no.Status)
@@ -53,6 +54,8 @@ planTakeJoinRequest g ids dead i v j routing =
     (Go (forwardPlan (nextHop g ids dead i v (idAt ids j)) v (joinRequest j (union routing (v .routing))) (idAt ids j) i))))
 
 -- ---- 3 JoinReply
+-- 2 if dead; 4 if the leaf set is not empty; 5 if probing is not empty. Routing set gains m's routing set and the content of m's leaf set; that content
+-- is added to the leaf set; probing = new content without i; failed = empty; LSProbe to each in probing, carrying the new leaf set and empty failed.
 
 -- routing set gains m's routing set and the content of m's leaf set; that content is added to the leaf set (s); probing = new content without i; failed = empty
 abbrev pub joinedNode : Node → ℕ → ℕ → ℕ → Sides → Node
@@ -84,7 +87,11 @@ planTakeJoinReply g ids i v m =
     (cond (not (eqb (v .probing) 0)) (No no.Partner)
     (Go (joinReplyPlan i v (m .routing) (contentOf (carriedOf m) (m .owner)) (leafWith g ids i (sidesOf v) (contentOf (carriedOf m) (m .owner)))))))
 
--- ---- 4 LSProbe and 5 LSProbeReply, from j: F, S and P
+-- ---- 4 LSProbe
+-- From j. 2 if dead; 4 if wait with empty leaf set; 5 if j = i. F = failed without j. S = leaf set, with j added unless in it. P1 = the members of content(S)
+-- that are also in m's failed. P2 = content of S after adding m's content without F, minus content(S). P = the union of P1 and P2, without members of
+-- probing or F and without i (document 001 lets a node probe itself; we do not). Set failed F, leaf set S, routing set plus j, probing plus P. Send
+-- LSProbeReply(S, F) to j, then LSProbe(S, F) to each of P.
 
 -- F = failed without j
 abbrev pub failedWithout : Node → ℕ → ℕ
@@ -102,7 +109,7 @@ probes2 g ids i s f m = without (contentOf (leafWith g ids i s (without (content
 unfoldable pub probesOf : Ring → List ℕ → ℕ → Node → Sides → ℕ → Message → ℕ
 probesOf g ids i v s f m = removeOf (without (union (probes1 i s m) (probes2 g ids i s f m)) (union (v .probing) f)) i
 
--- set failed F, leaf set S, routing set plus j, and probing
+-- set failed F, leaf set S, routing set plus j; probing and the status are the kind's own
 abbrev pub learntNode : Node → ℕ → Sides → ℕ → ℕ → Status → Node
 learntNode v j s f probing st =
     record {
@@ -121,11 +128,12 @@ learntNode v j s f probing st =
 abbrev pub waitsEmpty : Node → Bool
 waitsEmpty v = isWait (v .status) && isEmpty (sidesOf v)
 
--- probing plus P. Send LSProbeReply(S, F) to j, then LSProbe(S, F) to each of P.
+-- probing plus P. Send LSProbeReply(S, F) to j, then LSProbe(S, F) to each of P
 abbrev pub probePlan : ℕ → Node → ℕ → Sides → ℕ → ℕ → Plan
 probePlan i v j s f p =
     record { node = learntNode v j s f (union (v .probing) p) (v .status); first = lsProbeReply i s f; to = At j; each = lsProbe i s f; all = p }
 
+-- S = leaf set, with j added unless in it
 unfoldable pub probePlanOf : Ring → List ℕ → ℕ → Node → Message → Plan
 probePlanOf g ids i v m =
     let j = m .word in
@@ -140,6 +148,10 @@ planTakeProbe g ids i v m =
     (cond (waitsEmpty v) (No no.LeafSet)
     (cond (eqb (m .word) i) (No no.Partner)
     (Go (probePlanOf g ids i v m))))
+
+-- ---- 5 LSProbeReply
+-- As 4, but 5 also if j is not in probing, and no reply is sent. Probing becomes the union of probing and P, without members of the old failed and without
+-- j. If i is wait, this is empty, and S overlaps or is complete, i becomes ok. (The end of this action is cut in our copy; this paragraph decides.)
 
 -- probing becomes the union of probing and P, without members of the old failed and without j
 abbrev pub stillProbing : Node → ℕ → ℕ → ℕ
@@ -170,14 +182,19 @@ planTakeProbeReply g ids i v m =
     (cond (eqb (m .word) i || not (has (v .probing) (m .word))) (No no.Partner)
     (Go (replyPlanOf g ids i v m))))
 
--- ---- 7 LeaseRequest
+-- ---- 6 NoLegalRoute
+-- 5 always: in planTake below.
 
--- BroadcastLSet to j with i's leaf set, flag 1 if j is such a neighbour, else 0; if it is, grant gains j
+-- ---- 7 LeaseRequest
+-- From j. 2 unless ok or ready; 4 if the leaf set is empty. If j is left or right neighbour, grant gains j. BroadcastLSet to j with i's leaf set, flag 1 if
+-- j is such a neighbour, else 0.
+
+-- if j is left or right neighbour, grant gains j. BroadcastLSet to j with i's leaf set, flag 1 if j is such a neighbour, else 0
 abbrev pub grantPlan : ℕ → Node → ℕ → Bool → Plan
 grantPlan i v j near =
     sendPlan (withLeases v (v .lease) (cond near (addOf (v .grant) j) (v .grant)) (v .status)) (broadcastLSet i (sidesOf v) (cond near 1 0)) j
 
--- From j. 2 unless ok or ready; 4 if the leaf set is empty.
+-- 2 unless ok or ready; 4 if the leaf set is empty
 unfoldable pub planTakeLeaseRequest : Ring → List ℕ → ℕ → Node → ℕ → Planned
 planTakeLeaseRequest g ids i v j =
     cond (not (isUp (v .status))) (No no.Status)
@@ -185,6 +202,8 @@ planTakeLeaseRequest g ids i v j =
     (Go (grantPlan i v j (isNeighbour g ids i v j))))
 
 -- ---- 8 BroadcastLSet
+-- Owner j. 2 unless ok or ready; 4 if the leaf set is not complete; 5 if j = i. Add m's content without failed. If the flag is set and j is a new
+-- neighbour, lease gains j. If both new neighbours are in lease and equal the old neighbours, i becomes ready.
 
 -- the new neighbours equal the old neighbours, left to left and right to right
 abbrev pub sameNeighbours : Ring → List ℕ → ℕ → Sides → Sides → Bool
@@ -195,7 +214,7 @@ sameNeighbours g ids i s old =
 abbrev pub bothLeased : Ring → List ℕ → ℕ → Sides → ℕ → Bool
 bothLeased g ids i s lease = has lease (leftNeighbour g ids i s) && has lease (rightNeighbour g ids i s)
 
--- if the flag is set and j is a new neighbour (a neighbour in the new leaf set s), lease gains j
+-- if the flag is set and j is a new neighbour, lease gains j: a neighbour in the new leaf set s
 abbrev pub leaseAfter : Ring → List ℕ → ℕ → Node → Sides → ℕ → ℕ → ℕ
 leaseAfter g ids i v s j flag = cond (eqb flag 1 && isBeside g ids i s j) (addOf (v .lease) j) (v .lease)
 
@@ -224,7 +243,7 @@ broadcastPlan g ids i v m =
     let lease = leaseAfter g ids i v s (m .owner) (m .flag) in
     quietPlan (leasedNode v s lease (statusAfterLease g ids i v s lease))
 
--- Owner j. 2 unless ok or ready; 4 if the leaf set is not complete; 5 if j = i.
+-- 2 unless ok or ready; 4 if the leaf set is not complete; 5 if j = i
 unfoldable pub planTakeBroadcast : Ring → List ℕ → ℕ → Node → Message → Planned
 planTakeBroadcast g ids i v m =
     cond (not (isUp (v .status))) (No no.Status)
@@ -232,7 +251,7 @@ planTakeBroadcast g ids i v m =
     (cond (eqb (m .owner) i) (No no.Partner)
     (Go (broadcastPlan g ids i v m))))
 
--- ---- by kind; 6 NoLegalRoute: 5 always. A valid pool holds no other kind.
+-- ---- by kind; 6: 5 always. A valid pool holds no other kind than the eight.
 
 unfoldable pub planTake : ℕ → Ring → List ℕ → ℕ → ℕ → Node → Message → Planned
 planTake kind g ids dead i v m =

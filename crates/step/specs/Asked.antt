@@ -1,25 +1,25 @@
--- The step in the order in which the code makes it: what the action comes to is told first, then carried out (Settles has the law).
+-- The step in the order in which the code makes it: what of the pool an action looks at is told first, then its plan (Settles has the laws).
 -- Definitions only. Assumes nothing.
-use mathlib.Core.Bool.{Bool, cond}
-use Prim.Native.Nat.{ℕ}
+use mathlib.Core.Path.{_≡_}
+use mathlib.Core.Bool.{Bool, true, false, cond}
+use Prim.Native.Nat.{ℕ, _%_, _^_, _<_}
+use lib.Dec.{ltb}
 use Rattle.rules.specs.declared.Action.{Action}
 use Rattle.rules.specs.declared.Action.the-variants.{Lookup, Join, RequestLease, LeaseExpired, GrantExpired, Take}
+use Rattle.rules.specs.declared.Message.{Message}
 use Rattle.rules.specs.declared.Planned.{Planned}
-use Rattle.rules.specs.declared.Planned.the-variants.{No}
 use Rattle.rules.specs.declared.Pool.{Pool}
-use Rattle.rules.specs.declared.Refusal.{Refusal}
-use Rattle.rules.specs.declared.Refusal.the-variants as no
+use Rattle.rules.specs.Actions.{waits, joinWaits, planLookup, planJoin, planRequestLease, planLeaseExpired, planGrantExpired}
+use Rattle.rules.specs.Asks.{Listed}
+use Rattle.rules.specs.Fits.{messageFits}
+use Rattle.rules.specs.Letters.{lookup}
+use Rattle.rules.specs.Nodes.{placed}
+use Rattle.rules.specs.Pool.{waiting, messageAt}
 use Rattle.table.specs.declared.Table.{Table}
-use Rattle.table.specs.Step.{inRange}
-use Rattle.keeps.specs.By.{slotOf, plannedOf}
-use Rattle.step.specs.declared.Task.{Task}
+use Rattle.table.specs.Table.{nodeAt, idsOf, ringOf}
+use Rattle.keeps.specs.By.{takenOf}
 
--- the slot whose node acts, the place whose message goes, and what is planned
-abbrev pub taskAt : ℕ → ℕ → Planned → Task
-taskAt slot gone what = record { slot = slot; gone = gone; what = what }
-
-abbrev pub refusingWith : Refusal → Task
-refusingWith why = taskAt 0 256 (No why)
+-- ---- what an action says by itself
 
 -- the place whose message goes; past every count where none does
 abbrev pub goneOf : Action → ℕ
@@ -30,9 +30,75 @@ goneOf (LeaseExpired i j) = 256
 goneOf (GrantExpired i j) = 256
 goneOf (Take place) = place
 
-abbrev pub taskOf : Table → Pool → Action → Task
-taskOf t p a = taskAt (slotOf p a) (goneOf a) (plannedOf t p a)
+-- it is one of the two actions that 3 is for
+abbrev pub isRequest : Action → Bool
+isRequest (Lookup i k) = true
+isRequest (Join i seed) = true
+isRequest (RequestLease i) = false
+isRequest (LeaseExpired i j) = false
+isRequest (GrantExpired i j) = false
+isRequest (Take place) = false
 
--- 10 before anything else, then 1, then what the action comes to
-unfoldable pub askedOf : Bool → Table → Pool → Action → Task
-askedOf sound t p a = cond sound (cond (inRange t p a) (taskOf t p a) (refusingWith no.OutOfRange)) (refusingWith no.Invalid)
+-- ---- what it looks at in the pool
+
+-- the message that is read: the one taken, where one is
+abbrev pub readOf : Pool → Action → Message
+readOf p a = messageAt p (goneOf a % 256)
+
+-- the same request already waits
+abbrev pub repeatedOf : Pool → Action → Bool
+repeatedOf p (Lookup i k) = waits (waiting p) (placed (lookup k) i)
+repeatedOf p (Join i seed) = joinWaits (waiting p) i
+repeatedOf p (RequestLease i) = false
+repeatedOf p (LeaseExpired i j) = false
+repeatedOf p (GrantExpired i j) = false
+repeatedOf p (Take place) = false
+
+-- ---- what comes of it, where m was read and `there` says whether the same request waits
+
+-- the slot whose node acts
+abbrev pub slotWith : Message → Action → ℕ
+slotWith m (Lookup i k) = i
+slotWith m (Join i seed) = i
+slotWith m (RequestLease i) = i
+slotWith m (LeaseExpired i j) = i
+slotWith m (GrantExpired i j) = i
+slotWith m (Take place) = m .dest
+
+-- what is planned
+abbrev pub plannedWith : Table → Bool → Message → Action → Planned
+plannedWith t there m (Lookup i k) = planLookup there i k (nodeAt t i)
+plannedWith t there m (Join i seed) = planJoin there i (nodeAt t i) seed (nodeAt t seed)
+plannedWith t there m (RequestLease i) = planRequestLease (ringOf t) (idsOf t) i (nodeAt t i)
+plannedWith t there m (LeaseExpired i j) = planLeaseExpired (ringOf t) (idsOf t) i (nodeAt t i) j
+plannedWith t there m (GrantExpired i j) = planGrantExpired i (nodeAt t i) j (nodeAt t j)
+plannedWith t there m (Take place) = takenOf t m
+
+-- ---- what the functions ask
+
+-- a request's numbers have 32 digits
+abbrev pub Numbered : Action → Type 0
+Numbered (Lookup i k) = (i < 64) × (k < 2 ^ 32)
+Numbered (Join i seed) = i < 64
+Numbered (RequestLease i) = Unit {0}
+Numbered (LeaseExpired i j) = Unit {0}
+Numbered (GrantExpired i j) = Unit {0}
+Numbered (Take place) = Unit {0}
+
+-- the slots and the key that are looked at are in range, and the message taken obeys its kind
+abbrev pub Ranged : Table → Message → Action → Type 0
+Ranged t m (Lookup i k) = (i < 64) × (k < 2 ^ 32)
+Ranged t m (Join i seed) = (i < 64) × (seed < 64)
+Ranged t m (RequestLease i) = i < 64
+Ranged t m (LeaseExpired i j) = i < 64
+Ranged t m (GrantExpired i j) = (i < 64) × (j < 64)
+Ranged t m (Take place) = (m .dest < t .n) × (messageFits (ringOf t) m ≡ true)
+
+pub record Plannable (t : Table) (m : Message) (a : Action) : Type 0 where
+  pub listed : Listed (ringOf t) (idsOf t)
+  pub ranged : Ranged t m a
+
+-- ---- a number lowered where it is too large anyway
+
+abbrev pub atMost : ℕ → ℕ → ℕ
+atMost n most = cond (ltb n most) n most

@@ -1,21 +1,18 @@
-// The step: an action on a table and a pool by value. What the action asks of its node is planned first, reading only; then one function carries the plan out.
+// The step: an action on a table and a pool by value. What the action asks of its node is planned first, reading only; then the plan is carried out in place.
 ghost use mathlib.Core.Path.{_≡_};
 ghost use mathlib.Core.Bool.{true};
-ghost use Prim.Native.Nat.{ℕ, _^_, _<_, _≤_};
+ghost use Prim.Native.Nat.{_^_, _<_, _≤_};
 ghost use Rattle.rules.specs.Actions.{planLookup, planJoin, planRequestLease, planLeaseExpired, planGrantExpired};
-ghost use Rattle.rules.specs.Actions.{waits, joinWaits};
 ghost use Rattle.rules.specs.Asks.{Listed};
 ghost use Rattle.rules.specs.Fits.{messageFits};
-ghost use Rattle.rules.specs.Letters.{lookup};
-ghost use Rattle.rules.specs.Nodes.{placed};
-ghost use Rattle.rules.specs.Pool.{waiting, messageAt};
 ghost use Rattle.rules.specs.Take.{planTake};
 ghost use Rattle.table.specs.Table.{idsOf, nodeAt, ringOf};
-ghost use Rattle.table.specs.Valid.{validOf};
 ghost use Rattle.table.specs.Step.{inRange, stepOf};
 ghost use Rattle.keeps.specs.By.{takenOf};
-ghost use Rattle.step.specs.Asked.{taskAt, refusingWith, taskOf, askedOf};
+ghost use Rattle.step.specs.Asked.{goneOf, isRequest, repeatedOf, slotWith, plannedWith, Numbered, Plannable, atMost};
+use marks::Found;
 use rules::Action;
+use rules::Answer;
 use rules::Message;
 use rules::Node;
 use rules::Planned;
@@ -54,22 +51,18 @@ fn plan_of_take(t: Table, m: Message) -> Planned
     plan_take(table::ring_of(t), &ids, dead, i, v, m)
 }
 
-fn plan_of_lookup(t: Table, p: Pool, i: usize, k: u64) -> Planned
-    requires { ⌜ (p .count ≤ 256) × (i < 64) × (k < 2 ^ 32) ⌝ }
-    ensures { λ r. ⌜ r ≡ planLookup (waits (waiting p) (placed (lookup k) i)) i k (nodeAt t i) ⌝ }
+fn plan_of_lookup(t: Table, there: bool, i: usize, k: u64) -> Planned
+    requires { ⌜ (i < 64) × (k < 2 ^ 32) ⌝ }
+    ensures { λ r. ⌜ r ≡ planLookup there i k (nodeAt t i) ⌝ }
 {
-    let key = k as u32;
-    let wanted = parts::to_slot(route::lookup_of(key), i as u32);
-    let there = mail::waits(p, 256, wanted);
     let v = table::node_at(t, i);
-    route::plan_lookup(there, i, key, v)
+    route::plan_lookup(there, i, k as u32, v)
 }
 
-fn plan_of_join(t: Table, p: Pool, i: usize, seed: usize) -> Planned
-    requires { ⌜ (p .count ≤ 256) × (i < 64) × (seed < 64) ⌝ }
-    ensures { λ r. ⌜ r ≡ planJoin (joinWaits (waiting p) i) i (nodeAt t i) seed (nodeAt t seed) ⌝ }
+fn plan_of_join(t: Table, there: bool, i: usize, seed: usize) -> Planned
+    requires { ⌜ (i < 64) × (seed < 64) ⌝ }
+    ensures { λ r. ⌜ r ≡ planJoin there i (nodeAt t i) seed (nodeAt t seed) ⌝ }
 {
-    let there = mail::join_waits(p, i as u32);
     let v = table::node_at(t, i);
     let u = table::node_at(t, seed);
     route::plan_join(there, i as u32, v, seed, u)
@@ -117,77 +110,158 @@ fn in_range(t: Table, p: Pool, a: Action) -> bool
     }
 }
 
-// What an action comes to: the node that acts, the place whose message goes (past every count where none does), and what is planned.
-pub struct Task {
-    pub slot: usize,
-    pub gone: usize,
-    pub what: Planned,
-}
-
-pub fn task_at(slot: usize, gone: usize, what: Planned) -> Task
-    ensures { λ r. ⌜ r ≡ taskAt slot gone what ⌝ }
-{
-    Task { slot, gone, what }
-}
-
-pub fn refusing(why: Refusal) -> Task
-    ensures { λ r. ⌜ r ≡ refusingWith why ⌝ }
-{
-    task_at(0, 256, Planned::No(why))
-}
-
-fn message_at(p: Pool, place: usize) -> Message
-    requires { ⌜ place < 256 ⌝ }
-    ensures { λ r. ⌜ r ≡ messageAt p place ⌝ }
-{
-    p.places[place]
-}
-
-fn task_of_take(t: Table, p: Pool, place: usize) -> Task
-    requires { ⌜ (validOf t p ≡ true) × (place < p .count) ⌝ }
-    ensures { λ r. ⌜ r ≡ taskOf t p (Action.Take place) ⌝ }
-{
-    let m = message_at(p, place);
-    let what = plan_of_take(t, m);
-    task_at(m.dest as usize, place, what)
-}
-
-// What the action comes to, on a valid table and in range.
-fn task_of(t: Table, p: Pool, a: Action) -> Task
-    requires { ⌜ (validOf t p ≡ true) × (inRange t p a ≡ true) ⌝ }
-    ensures { λ r. ⌜ r ≡ taskOf t p a ⌝ }
+// The place whose message goes; past every count where none does.
+fn gone_of(a: Action) -> usize
+    ensures { λ r. ⌜ r ≡ goneOf a ⌝ }
 {
     match a {
-        Action::Lookup(i, k) => task_at(i, 256, plan_of_lookup(t, p, i, k)),
-        Action::Join(i, seed) => task_at(i, 256, plan_of_join(t, p, i, seed)),
-        Action::RequestLease(i) => task_at(i, 256, plan_of_request(t, i)),
-        Action::LeaseExpired(i, j) => task_at(i, 256, plan_of_lease(t, i, j)),
-        Action::GrantExpired(i, j) => task_at(i, 256, plan_of_grant(t, i, j)),
-        Action::Take(place) => task_of_take(t, p, place),
+        Action::Lookup(_, _) => 256,
+        Action::Join(_, _) => 256,
+        Action::RequestLease(_) => 256,
+        Action::LeaseExpired(_, _) => 256,
+        Action::GrantExpired(_, _) => 256,
+        Action::Take(place) => place,
     }
 }
 
-// 10 for a table that is not sound, then 1 for arguments out of range, then what the action comes to.
-fn asked(sound: bool, t: Table, p: Pool, a: Action) -> Task
-    requires { ⌜ (sound ≡ true → validOf t p ≡ true) ⌝ }
-    ensures { λ r. ⌜ r ≡ askedOf sound t p a ⌝ }
+// The slot whose node acts, where m is the message taken, if one is.
+fn slot_of(m: Message, a: Action) -> usize
+    ensures { λ r. ⌜ r ≡ slotWith m a ⌝ }
 {
-    if !sound {
-        return refusing(Refusal::Invalid);
+    match a {
+        Action::Lookup(i, _) => i,
+        Action::Join(i, _) => i,
+        Action::RequestLease(i) => i,
+        Action::LeaseExpired(i, _) => i,
+        Action::GrantExpired(i, _) => i,
+        Action::Take(_) => m.dest as usize,
     }
-    if !in_range(t, p, a) {
-        return refusing(Refusal::OutOfRange);
+}
+
+// Is it one of the actions that 3 is for?
+fn is_request(a: Action) -> bool
+    ensures { λ r. ⌜ r ≡ isRequest a ⌝ }
+{
+    match a {
+        Action::Lookup(_, _) => true,
+        Action::Join(_, _) => true,
+        Action::RequestLease(_) => false,
+        Action::LeaseExpired(_, _) => false,
+        Action::GrantExpired(_, _) => false,
+        Action::Take(_) => false,
     }
-    task_of(t, p, a)
+}
+
+// Does the same request already wait?
+fn repeated(p: Pool, a: Action) -> bool
+    requires { ⌜ (p .count ≤ 256) × Numbered a ⌝ }
+    ensures { λ r. ⌜ r ≡ repeatedOf p a ⌝ }
+{
+    match a {
+        Action::Lookup(i, k) => mail::waits(
+            p,
+            256,
+            parts::to_slot(route::lookup_of(k as u32), i as u32),
+        ),
+        Action::Join(i, _) => mail::join_waits(p, i as u32),
+        Action::RequestLease(_) => false,
+        Action::LeaseExpired(_, _) => false,
+        Action::GrantExpired(_, _) => false,
+        Action::Take(_) => false,
+    }
+}
+
+// What an action plans, where m is the message taken, if one is, and `there` says whether the same request waits.
+fn planned(t: Table, there: bool, m: Message, a: Action) -> Planned
+    requires { ⌜ Plannable t m a ⌝ }
+    ensures { λ r. ⌜ r ≡ plannedWith t there m a ⌝ }
+{
+    match a {
+        Action::Lookup(i, k) => plan_of_lookup(t, there, i, k),
+        Action::Join(i, seed) => plan_of_join(t, there, i, seed),
+        Action::RequestLease(i) => plan_of_request(t, i),
+        Action::LeaseExpired(i, j) => plan_of_lease(t, i, j),
+        Action::GrantExpired(i, j) => plan_of_grant(t, i, j),
+        Action::Take(_) => plan_of_take(t, m),
+    }
+}
+
+fn at_most(n: usize, most: usize) -> usize
+    ensures { λ r. ⌜ r ≡ atMost n most ⌝ }
+{
+    if n < most { n } else { most }
 }
 
 // One step: 10 for a list without 256 places or an invalid table, then 1 for arguments out of range, then what the action says. A refusal changes nothing.
+// One function, since it works on one copy of the table and one of the pool: every function that takes them, and looks at a place by its number, has
+// copies of its own. So the pool is handed to others only where they must look: to validity, where an n above 64 and a count above 256 are lowered first
+// and put back (else the compiler hands it one more copy of what came in); for a request, to see whether it is repeated, after which its message is known
+// to be new; and for a plan that sends. Where no message is taken place 0 is read, and nothing depends on it.
 pub fn step(t: Table, p: Pool, len: usize, a: Action) -> Stepped
     ensures { λ r. ⌜ r ≡ stepOf t p len a ⌝ }
 {
-    let valid = valid::is_valid(t, p);
-    let sound = (len == 256) & valid;
-    let job = asked(sound, t, p, a);
-    let what = job.what;
-    settle::settled_by(t, p, job.gone, job.slot, what)
+    let mut u = t;
+    let mut q = p;
+    u.n = at_most(t.n, 65);
+    q.count = at_most(p.count, 257);
+    let valid = valid::is_valid(u, q);
+    u.n = t.n;
+    q.count = p.count;
+    if !((len == 256) & valid) {
+        return answers::answered(u, q, Answer::Refused(Refusal::Invalid));
+    }
+    if !in_range(u, q, a) {
+        return answers::answered(u, q, Answer::Refused(Refusal::OutOfRange));
+    }
+    let gone = gone_of(a);
+    let m = q.places[gone % 256];
+    let request = is_request(a);
+    let mut there = false;
+    if request {
+        there = repeated(q, a);
+    }
+    let what = planned(u, there, m, a);
+    let Planned::Go(plan) = what else {
+        return answers::answered(u, q, Answer::Refused(answers::why_of(what)));
+    };
+    let mut new = mail::first_new(plan);
+    if mail::sends(plan) & !request {
+        new = mail::news(q, gone, plan);
+    }
+    if !mail::room(q.count, gone, new) {
+        return answers::answered(u, q, Answer::Refused(Refusal::Full));
+    }
+    let i = slot_of(m, a);
+    let v = plan.node;
+    u.nodes[i] = v;
+    let none = parts::blank_message();
+    let one = new.one;
+    let mut rest = new.all;
+    let mut n = mail::left_count(q.count, gone);
+    let mut at = gone;
+    'gap: while at < n {
+        let x = q.places[at + 1];
+        q.places[at] = x;
+        at += 1;
+    }
+    if let Found::At(s) = one {
+        q.places[n] = parts::to_slot(plan.first, s as u32);
+        n += 1;
+    }
+    'slots: loop {
+        let next = marks::lowest(rest);
+        let Found::At(s) = next else {
+            break 'slots;
+        };
+        q.places[n] = parts::to_slot(plan.each, s as u32);
+        n += 1;
+        rest = marks::removed(rest, s);
+    }
+    q.count = n;
+    at = n;
+    'blanks: while at < 256 {
+        q.places[at] = none;
+        at += 1;
+    }
+    answers::answered(u, q, Answer::Done)
 }

@@ -1,6 +1,6 @@
 // The table by value, with its limits, its start, and what stands in its slots.
 ghost use mathlib.Core.Path.{_≡_};
-ghost use Prim.Native.Nat.{ℕ, _^_, _<_, _≤_};
+ghost use Prim.Native.Nat.{_^_, _<_, _≤_};
 ghost use lib.Dec.{ltb};
 ghost use lib.ListN.{length};
 ghost use Rattle.rules.specs.Limits.{mLow, mHigh, lLow, lHigh, nodesHigh, messagesHigh};
@@ -8,7 +8,7 @@ ghost use Rattle.rules.specs.Asks.{Listed};
 ghost use Rattle.rules.specs.Nodes.{noNode};
 ghost use Rattle.table.specs.Start.{startOf, startFits, slotIds, idsRise, listFits, startNode, startNodes, notStarted};
 ghost use Rattle.table.specs.Starts.{idRises};
-ghost use Rattle.table.specs.Table.{nodeAt, withNode, idsOf, ringOf};
+ghost use Rattle.table.specs.Table.{nodeAt, idsOf, ringOf};
 use rules::Answer;
 use rules::Node;
 use rules::Pool;
@@ -114,15 +114,6 @@ pub fn node_at(t: Table, i: usize) -> Node
     ensures { λ r. ⌜ r ≡ nodeAt t i ⌝ }
 {
     t.nodes[i]
-}
-
-pub fn with_node(t: Table, i: usize, v: Node) -> Table
-    requires { ⌜ i < 64 ⌝ }
-    ensures { λ r. ⌜ r ≡ withNode t i v ⌝ }
-{
-    let mut u = t;
-    u.nodes[i] = v;
-    u
 }
 
 // The ids by slot.

@@ -1,12 +1,12 @@
 // Validity, decided: true exactly for a valid table and pool.
 ghost use mathlib.Core.Path.{_≡_};
 ghost use mathlib.Core.Bool.{_&&_};
-ghost use Prim.Native.Nat.{ℕ, _^_, _≤_, _<_};
+ghost use Prim.Native.Nat.{_^_, _≤_};
 ghost use lib.Dec.{leb, ltb};
 ghost use Rattle.marks.specs.Marks.{sizeOf};
 ghost use Rattle.rules.specs.Fits.{numbersFit, leafFits, nodeFits, isBlank, isKind, fieldsFit, messageFits};
 ghost use Rattle.rules.specs.Nodes.{carriedOf};
-ghost use Rattle.table.specs.Valid.{nodesFit, messagesFit, poolFits, validOf};
+ghost use Rattle.table.specs.Valid.{nodesFit, poolFits, validOf};
 ghost use Rattle.valid.specs.Alone.{carriesNone, wordAlone};
 ghost use Rattle.valid.specs.Nodes.{allNodes, isPart};
 use rules::Message;
@@ -214,33 +214,48 @@ fn message_fits(g: Ring, all: u64, m: Message) -> bool
     ((m.dest as usize) < g.n) & ((m.hops == 0) & kind_fits(m.kind, g, all, m))
 }
 
-fn messages_fit(g: Ring, all: u64, p: Pool) -> bool
-    requires { ⌜ (g .m ≤ 32) × (all ≡ allNodes (g .n)) × (p .count ≤ 256) ⌝ }
-    ensures { λ r. ⌜ r ≡ messagesFit g p ⌝ }
-{
-    let n = p.count;
-    let mut at: usize = 0;
-    while at < n {
-        let m = p.places[at];
-        if !message_fits(g, all, m) {
-            return false;
-        }
-        at += 1;
-    }
-    true
-}
-
+// Are there at most 256 messages, does each obey its kind, and are no two equal? A message is compared only with the earlier ones of its
+// own bucket: `heads` has one more than the last place of each bucket, and `next` one more than the place before of the same bucket; 0 is
+// none. Both loops stand in one function, which has one copy of the pool.
 fn pool_fits(g: Ring, all: u64, p: Pool) -> bool
     requires { ⌜ (g .m ≤ 32) × (all ≡ allNodes (g .n)) ⌝ }
     ensures { λ r. ⌜ r ≡ poolFits g p ⌝ }
 {
-    if 256 < p.count {
+    let n = p.count;
+    if 256 < n {
         return false;
     }
-    if !messages_fit(g, all, p) {
-        return false;
+    let mut k: usize = 0;
+    'tests: while k < n {
+        let m = p.places[k];
+        if !message_fits(g, all, m) {
+            return false;
+        }
+        k += 1;
     }
-    mail::all_different(p)
+    let mut heads = [0u32; 509];
+    let mut next = [0u32; 256];
+    let mut j: usize = 0;
+    let different = 'places: loop {
+        if n <= j {
+            break 'places true;
+        }
+        let m = p.places[j];
+        let h = mail::bucket(m);
+        let first = heads[h];
+        let mut at = first as usize;
+        'chain: while 0 < at {
+            let q = p.places[at - 1];
+            if mail::alike(q, m) {
+                break 'places false;
+            }
+            at = next[at - 1] as usize;
+        }
+        next[j] = first;
+        heads[h] = (j + 1) as u32;
+        j += 1;
+    };
+    different
 }
 
 // Is the table valid, with the messages of the pool?

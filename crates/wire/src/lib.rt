@@ -40,7 +40,7 @@ fn next(s: Stepped, a: Action) -> Stepped
     let p = s.pool;
     match answer {
         Answer::Done => step::step(t, p, 256, a),
-        Answer::Refused(why) => settle::refused(t, p, why),
+        Answer::Refused(why) => answers::refused(t, p, why),
     }
 }
 
@@ -65,10 +65,10 @@ fn begun(m: u64, l: u64, a: u64, ids: &[u32]) -> Stepped
     let t = no_table();
     let p = entry::no_messages();
     if m >= 4294967296 {
-        return settle::refused(t, p, Refusal::Header);
+        return answers::refused(t, p, Refusal::Header);
     }
     if l >= 4294967296 {
-        return settle::refused(t, p, Refusal::Header);
+        return answers::refused(t, p, Refusal::Header);
     }
     entry::start(t, p, 256, m as u32, l as u32, ids, a)
 }

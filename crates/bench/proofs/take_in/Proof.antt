@@ -1,14 +1,16 @@
--- `bench::take_in` meets its contract: a walk of its MIR, by hand. Each turn looks into the borrow for one message and stores it in the local pool, in place.
+-- `bench::take_in` meets its contract: a walk of its MIR, by hand. For a list without 256 places blank ones are returned at once, and the borrow is not looked into.
+-- For one that has them each turn looks into the borrow for one message and stores it in the local pool, in place.
 -- The loop's invariant: the first i places of the pool are those of the list. The measure is what is left of the places. Assumes nothing.
 use mathlib.Core.Path.{_≡_, refl, sym, _∙_, ap}
 use mathlib.Core.Option.{none, some as with}
 use mathlib.Core.WellFounded.{WellFounded, InvImage·wf}
 use mathlib.Core.List.{List, [], _∷_}
-use mathlib.Core.Logic.{dite}
+use mathlib.Core.Logic.{inl, inr, dite}
+use mathlib.Core.Bool.{Bool, cond}
 use Prim.Native.Nat.{ℕ, _+_, _-_, _<_, _≤_, _^_}
 use native.Mathlib.Decide.{decLt}
 use native.Mathlib.Omega.{arith}
-use lib.Dec.{lit<}
+use lib.Dec.{lit<, eqb→eq}
 use lib.ListN.{length, getD, set, length-set, length-replicate}
 use lib.WfN.{Nat·lt-wfRel}
 use borrow.Author.Needs.{scaled-fits}
@@ -28,7 +30,7 @@ use contract.Running.{givenOf, tables, tablesOf}
 use types.Kit.{Given, Item, Sq, runs, ‵, _⊛_, ⋆, anyQ, atRet, _$_, _∵_, !, qed, by, move, drop, use1, split, join, rewrite, fsplit, fjoin, suffices, frame, done}
 use types.Part.{whole, sub, store-in}
 use types.Run.{look, init, store, forget, stop, hop, fld, from, load, lit, of-opd, bin, addr, and-then, no-more, assigns, assigns-last}
-use types.Run.{first, blocks, stays, leaves-loop, loops, again, Below, returns, enter, params1, pass1, pass0, exec}
+use types.Run.{first, branches, skips, blocks, stays, leaves-loop, loops, again, Below, returns-within, returns, enter, params1, pass1, pass0, exec}
 use types.Share.{arr-parts}
 use sound.WpLaws.{FmC, fmOf, WpFn-mono}
 use denote.RattleType.{owns}
@@ -86,6 +88,12 @@ blank-facts : (r : Pool) (n : ℕ) → r ≡ poolOf n blanks → (r .count ≡ n
 blank-facts r n e =
     (ap (λ (p : Pool). p .count) e, (ap (λ (p : Pool). length (p .places)) e ∙ length-replicate 256 blank, ap (λ (p : Pool). p .places) e))
 
+-- where no place is copied, blank ones are what the clause says
+none-taken : (ys : List Message) (k : ℕ) → Either (length ys) k → k ≡ 0 → blanks ≡ takenOf ys
+unfolding takenOf
+none-taken ys k (inl h) z = absurd (omega (arith, h .0, z))
+none-taken ys k (inr h) z = sym (ap (λ (t : Bool). cond t ys blanks) (h .1))
+
 -- what is copied in the end is what the clause says
 copied-in : (ys zs bs : List Message) (k i : ℕ) → Either (length ys) k → k ≤ i → i ≤ k → length zs ≡ 256 → Copied blank ys zs i → (i ≡ 0 → zs ≡ bs)
     → bs ≡ blanks → zs ≡ takenOf ys
@@ -120,13 +128,13 @@ module _ {M : Type 1} (𝓤 : URA M) (H : Heap 𝓤) (A : Atoms 𝓤) (W : Given
   abbrev Left : List (Item 𝓤)
   Left = ‵ (flft κ q) ∷ ‵ (ShrSlice (named 0) κ T.the-row .own (x .0) (s ∷ [])) ∷ []
 
-  exits : (zs : List Message) → zs ≡ takenOf ys → Is P.the-row (poolOf n zs) (machP (poolOf n zs) ∷ []) → ent 𝓤 (⋆ 𝓤 H A Left) (Post (machP (poolOf n zs)))
-  exits zs e is =
+  exits : (r : Pool) → r ≡ poolOf n (takenOf ys) → Is P.the-row r (machP r ∷ []) → ent 𝓤 (⋆ 𝓤 H A Left) (Post (machP r))
+  exits r e is =
       qed W Left ∵
       suffices ! _
-      (ends-at 𝓤 H A f.ended stayed (f.clauses 𝓤 H A mem run) W (((κ, tt), (q, tt), tt, x, vals), tt) (machP (poolOf n zs)) (poolOf n zs) (tt, (tt, tt)) (tt, (tt, tt))) $
-      says ! (ap (poolOf n) e) $ nothing ! $ move ! (1 ∷ 0 ∷ []) $ join ! $ nothing ! $ has-word ! w64 n n-fits $ fjoin ! $ move ! (2 ∷ 0 ∷ []) $ fjoin ! $
-      move ! (1 ∷ 0 ∷ []) $ frame ! $ frame ! $ has-struct ! P.the-type P′.the-plain (poolOf n zs) _ is $ done !
+      (ends-at 𝓤 H A f.ended stayed (f.clauses 𝓤 H A mem run) W (((κ, tt), (q, tt), tt, x, vals), tt) (machP r) r (tt, (tt, tt)) (tt, (tt, tt))) $
+      says ! e $ nothing ! $ move ! (1 ∷ 0 ∷ []) $ join ! $ nothing ! $ has-word ! w64 n n-fits $ fjoin ! $ move ! (2 ∷ 0 ∷ []) $ fjoin ! $
+      move ! (1 ∷ 0 ∷ []) $ frame ! $ frame ! $ has-struct ! P.the-type P′.the-plain r _ is $ done !
 
   abbrev to-blank : Blank 𝓤 H A mem run .Ghost
   to-blank = ((tt, tt, tt, (n, tt), (vint w64 n ∷ [], tt)), tt)
@@ -162,7 +170,7 @@ module _ {M : Type 1} (𝓤 : URA M) (H : Heap 𝓤) (A : Atoms 𝓤) (W : Given
       abbrev En : Env 𝓤 H
       En = env (code.function .locals) at-locals
 
-      -- the context at the loop's head: local k stands at 32 - 2 · k
+      -- the context at the loop's head: local k stands at 34 - 2 · k
       abbrev At : Upto c bs → List (Item 𝓤)
       At u =
           ‵ (flft κ q) ∷ ‵ (fshr-bor κ (λ s. arr-parts (shares T.the-row) (length ys) .part s ys b o))
@@ -171,7 +179,7 @@ module _ {M : Type 1} (𝓤 : URA M) (H : Heap 𝓤) (A : Atoms 𝓤) (W : Given
 
       -- a turn's postcondition: one more place is copied, or the loop is left and the rest of the body runs
       abbrev Turned : Upto c bs → Out → SProp 𝓤
-      Turned u = afterTurn 𝓤 H (Below 𝓤 H A (Nearer c bs) At u) (afterBlock 𝓤 H (afterSeq 𝓤 H (Wp 𝓤 H C Λ En mirs.t-7 (atReturn 𝓤 H En Post)) (atReturn 𝓤 H En Post)))
+      Turned u = afterTurn 𝓤 H (Below 𝓤 H A (Nearer c bs) At u) (afterBlock 𝓤 H (afterSeq 𝓤 H (Wp 𝓤 H C Λ En mirs.t-9 (atReturn 𝓤 H En Post)) (atReturn 𝓤 H En Post)))
 
       -- a turn that copies one place
       more : (u : Upto c bs) → u .i < c → Sq W (At u) (runs C Λ En mirs.turn-1 (anyQ (Turned u)))
@@ -185,28 +193,28 @@ module _ {M : Type 1} (𝓤 : URA M) (H : Heap 𝓤) (A : Atoms 𝓤) (W : Given
           let lz : i < length zs = omega (arith, u .long, in-both .1) in
           let fs = scaled-fits i (length ys) 56 l (room .1) in
           let next-fits : Fits w64 (i + 1) = record { fits = omega (arith, in-both .1) } in
-          sets-as ! 16 refl (bin ! (loc ! 22 refl) (loc ! 26 refl) tt) (tt, tt) (ap vbool (lt-ltb i c h)) $ stays ! (loc ! 16 refl) $
-          sets ! 14 refl (bin ! (loc ! 22 refl) (lit ! tt) fs) (tt, fs) $
-          sets-as ! 12 refl (bin ! (ptr-of ! 30 refl refl) (loc ! 14 refl) tt) (tt, tt) (ap (vptr b) (sym (place-is 56 o i))) $
+          sets-as ! 16 refl (bin ! (loc ! 24 refl) (loc ! 28 refl) tt) (tt, tt) (ap vbool (lt-ltb i c h)) $ stays ! (loc ! 16 refl) $
+          sets ! 14 refl (bin ! (loc ! 24 refl) (lit ! tt) fs) (tt, fs) $
+          sets-as ! 12 refl (bin ! (ptr-of ! 32 refl refl) (loc ! 14 refl) tt) (tt, tt) (ap (vptr b) (sym (place-is 56 o i))) $
           move ! (1 ∷ 0 ∷ []) $
           looks-slice ! tt T.the-row (Is T.the-row) (shows 𝓤 H A T.the-row) (LL.vals T.the-type T′.the-laws) (LL.tells T.the-type T′.the-laws)
           (LL.copy T.the-type T′.the-copy 𝓤 H A W) ys b o (λ q′.
           elem-out ! T.the-row (Is T.the-row) (shows 𝓤 H A T.the-row) (LL.vals T.the-type T′.the-laws) (LL.tells T.the-type T′.the-laws) q′ ys i blank b o l (λ g.
           let wt = LL.lawful T.the-type T′.the-laws 𝓤 H A W .typed elem-i (mach elem-i ∷ []) g .0 in
-          -- [pool[i]; what it owns; the others; what shuts; the fractured borrow; res; pool's fact; _14; …; _0; …]
+          -- [pool[i]; what it owns; the others; what shuts; the fractured borrow; res; pool's fact; _15; …; _0; …]
           use1 W (‵ (fat q′ T′.mir b (place 56 o i) (mach elem-i))) (W .laws .raw-at q′ T′.mir b (place 56 o i) (mach elem-i)) $
           sets ! 13 refl (of-opd ! (load ! (from ! (hop ! (look ! 15 refl) (stop !))) (look ! 0 refl))) wt $
           use1 W (‵ (cellAt q′ (T.the-row .mir) (mach elem-i ∷ []) b (place 56 o i))) (W .laws .at-raw q′ T′.mir b (place 56 o i) (mach elem-i)) $
           elem-back ! T.the-row q′ ys i blank (mach elem-i ∷ []) b o l $ shuts-slice ! tt T.the-row q′ ys b o $
-          sets ! 8 refl (bin ! (loc ! 22 refl) (lit ! tt) fs) (tt, fs) $
+          sets ! 8 refl (bin ! (loc ! 24 refl) (lit ! tt) fs) (tt, fs) $
           sets ! 6 refl (addr ! (from ! (fld ! refl (stop !)))) (tt, tt) $
           sets-as ! 4 refl (bin ! (loc ! 6 refl) (loc ! 8 refl) tt) (tt, tt) (ap (vptr (spotOf 𝓤 H En 4 .1)) (sym (place-is 56 8 i))) $
           assigns ! (of-opd ! (loc ! 10 refl)) (from ! (hop ! (look ! 4 refl) (stop !)))
-          (store-in ! 24
+          (store-in ! 26
           (elem ! (words zs) i (mach blank) (mach (getD zs i blank)) (words-get zs i) (omega (arith, words-long zs)) (words-long zs ∙ u .long) (sub ! 1 refl (whole !))) wt) $
-          rewrite ! 24 (λ (ws : List Val). ‵ (fat fullShare P′.mir (spotOf 𝓤 H En 4 .1) 0 (vstruct (vcons (vint w64 n) (vcons (arrayVal ws) vnil)))))
+          rewrite ! 26 (λ (ws : List Val). ‵ (fat fullShare P′.mir (spotOf 𝓤 H En 4 .1) 0 (vstruct (vcons (vint w64 n) (vcons (arrayVal ws) vnil)))))
           (words-set zs i elem-i) refl $
-          assigns-last ! (bin ! (loc ! 22 refl) (lit ! tt) next-fits) (from ! (stop !)) (store ! 22 refl (tt, next-fits)) $
+          assigns-last ! (bin ! (loc ! 24 refl) (lit ! tt) next-fits) (from ! (stop !)) (store ! 24 refl (tt, next-fits)) $
           forget ! 4 refl $ forget ! 6 refl $ forget ! 8 refl $ forget ! 10 refl $ forget ! 12 refl $ forget ! 14 refl $ forget ! 16 refl $
           again ! (Nearer c bs) At u
           (record {
@@ -225,13 +233,13 @@ module _ {M : Type 1} (𝓤 : URA M) (H : Heap 𝓤) (A : Atoms 𝓤) (W : Given
       ends u h =
           let zs = u .zs in
           let is = pool-is n n-fits zs (u .long) (u .goods) in
-          sets-as ! 16 refl (bin ! (loc ! 22 refl) (loc ! 26 refl) tt) (tt, tt) (ap vbool (le-ltb (u .i) c h)) $ leaves-loop ! (loc ! 16 refl) $
-          exec ! C Λ En mirs.t-7 (atRet En Post) $
-          sets ! 32 refl (of-opd ! (loc ! 24 refl)) (LL.lawful P.the-type P′.the-laws 𝓤 H A W .typed (poolOf n zs) (machP (poolOf n zs) ∷ []) is .0) $
-          returns ! (look ! 32 refl) $
-          releases ! 4 (with _ ∷ with _ ∷ with _ ∷ with _ ∷ with _ ∷ with _ ∷ none ∷ none ∷ with _ ∷ []) refl $
+          sets-as ! 16 refl (bin ! (loc ! 24 refl) (loc ! 28 refl) tt) (tt, tt) (ap vbool (le-ltb (u .i) c h)) $ leaves-loop ! (loc ! 16 refl) $
+          exec ! C Λ En mirs.t-9 (atRet En Post) $
+          sets ! 34 refl (of-opd ! (loc ! 26 refl)) (LL.lawful P.the-type P′.the-laws 𝓤 H A W .typed (poolOf n zs) (machP (poolOf n zs) ∷ []) is .0) $
+          returns ! (look ! 34 refl) $
+          releases ! 4 (with _ ∷ with _ ∷ with _ ∷ with _ ∷ with _ ∷ with _ ∷ none ∷ none ∷ none ∷ with _ ∷ []) refl $
           move ! (2 ∷ 1 ∷ []) $ fjoin ! $ move ! (2 ∷ 0 ∷ []) $ fjoin ! $ move ! (1 ∷ 0 ∷ []) $
-          by ! (exits zs (copied-in ys zs bs c (u .i) ec h (u .le) (u .long) (u .copied) (u .still) eb) is)
+          by ! (exits (poolOf n zs) (ap (poolOf n) (copied-in ys zs bs c (u .i) ec h (u .le) (u .long) (u .copied) (u .still) eb)) is)
 
       turns : (u : Upto c bs) → Sq W (At u) (runs C Λ En mirs.turn-1 (anyQ (Turned u)))
       turns u = dite (decLt (u .i) c) (λ h. more u h) (λ h. ends u (omega arith))
@@ -240,21 +248,37 @@ module _ {M : Type 1} (𝓤 : URA M) (H : Heap 𝓤) (A : Atoms 𝓤) (W : Given
     walk =
         qed W ((‵ (flft κ q) ⊛ ‵ ftrue) ∷ ‵ (owns (ShrSlice (named 0) κ T.the-row ∷ usize ∷ []) x vals) ∷ []) ∵
         enter ! C Λ code.function (s ∷ vint w64 n ∷ []) _ $ allocates ! (λ at-locals. params1 ! $
-        pass1 ! (init ! 26 refl (slice-typed (room .0))) $ pass1 ! (init ! 24 refl (word-typed n-fits)) $ pass0 ! $
-        -- [_14; …; _0; …; the token; what pool and count own]: local k stands at 28 - 2 · k
-        sets ! 16 refl (of-opd ! (len-of ! 26 refl refl)) (word-typed (room .0)) $
-        counts ! mem run fm known-places (length ys) (room .0) (and-then ! (loc ! 17 refl) (no-more !)) (λ v c ec ic.
-        lands-word ! 22 c refl refl ic $
-        calls-plain ! fm (Blank 𝓤 H A mem run) known-blank to-blank goes-blank (and-then ! (loc ! 25 refl) (no-more !))
+        pass1 ! (init ! 28 refl (slice-typed (room .0))) $ pass1 ! (init ! 26 refl (word-typed n-fits)) $ pass0 ! $
+        -- [_15; …; _0; …; the token; what pool and count own]: local k stands at 30 - 2 · k
+        sets ! 18 refl (of-opd ! (len-of ! 28 refl refl)) (word-typed (room .0)) $
+        counts ! mem run fm known-places (length ys) (room .0) (and-then ! (loc ! 19 refl) (no-more !)) (λ v c ec ic.
+        lands-word ! 24 c refl refl ic $
+        sets ! 16 refl (bin ! (loc ! 24 refl) (lit ! tt) tt) (tt, tt) $
+        first ! $ branches ! (loc ! 16 refl)
+        -- no place is to be copied: blank ones are returned
+        (λ h.
+        calls-plain ! fm (Blank 𝓤 H A mem run) known-blank to-blank goes-blank (and-then ! (loc ! 27 refl) (no-more !))
+        P.the-row (BlankEns 𝓤 H A mem run n) (λ r. r ≡ poolOf n blanks) (λ v₂. id⊢ 𝓤 _) (blank-of 𝓤 H A mem run n) (λ v₂ r e ir.
+        lands-struct ! 30 P.the-type P′.the-laws r refl refl ir $
+        returns-within ! Post refl (look ! 30 refl) $
+        releases ! 0 (with _ ∷ with _ ∷ with _ ∷ with _ ∷ none ∷ none ∷ with _ ∷ with _ ∷ []) refl $
+        -- [the token; what pool and count own]
+        move ! (1 ∷ []) $ fsplit ! $ move ! (1 ∷ []) $ drop ! $ move ! (1 ∷ []) $ split ! $ move ! (1 ∷ []) $ drop ! $
+        by ! (exits r (e ∙ ap (poolOf n) (none-taken ys c ec (eqb→eq c 0 h))) (spelt P.the-type P′.the-laws r v₂ ir))))
+        -- there are places to copy
+        (λ _.
+        let E = env (code.function .locals) at-locals in
+        skips ! $ exec ! C Λ E mirs.t-5 (atRet E Post) $
+        calls-plain ! fm (Blank 𝓤 H A mem run) known-blank to-blank goes-blank (and-then ! (loc ! 27 refl) (no-more !))
         P.the-row (BlankEns 𝓤 H A mem run n) (λ r. r ≡ poolOf n blanks) (λ v₂. id⊢ 𝓤 _) (blank-of 𝓤 H A mem run n) (λ v₂ r e ir.
         let facts = blank-facts r n e in
         lands-struct ! 14 P.the-type P′.the-laws r refl refl ir $
-        sets-as ! 20 refl (of-opd ! (loc ! 14 refl))
+        sets-as ! 22 refl (of-opd ! (loc ! 14 refl))
         (LL.lawful P.the-type P′.the-laws 𝓤 H A W .typed r (machP r ∷ []) (spelt P.the-type P′.the-laws r v₂ ir) .0)
         (ap (λ (k : ℕ). machP (poolOf k (r .places))) (facts .0)) $
-        forget ! 14 refl $ sets ! 18 refl (of-opd ! (lit ! tt)) (tt, record { fits = lit< tt }) $ forget ! 16 refl $
-        move ! (31 ∷ []) $ fsplit ! $ move ! (1 ∷ []) $ drop ! $ fsplit ! $ move ! (1 ∷ []) $ fsplit ! $
-        move ! (33 ∷ []) $ split ! $ move ! (1 ∷ []) $ drop ! $ move ! (0 ∷ 2 ∷ []) $
+        forget ! 14 refl $ sets ! 20 refl (of-opd ! (lit ! tt)) (tt, record { fits = lit< tt }) $ forget ! 16 refl $ forget ! 18 refl $
+        move ! (33 ∷ []) $ fsplit ! $ move ! (1 ∷ []) $ drop ! $ fsplit ! $ move ! (1 ∷ []) $ fsplit ! $
+        move ! (35 ∷ []) $ split ! $ move ! (1 ∷ []) $ drop ! $ move ! (0 ∷ 2 ∷ []) $
         first ! $ blocks ! $
         loops ! 𝓣 (Nearer c (r .places)) (nearer-wf c (r .places)) (At at-locals c ec (r .places) (facts .1 .1)) (turns at-locals c ec (r .places) (facts .1 .1))
         (record {
@@ -265,7 +289,7 @@ module _ {M : Type 1} (𝓤 : URA M) (H : Heap 𝓤) (A : Atoms 𝓤) (W : Given
           copied = copied-none blank ys (r .places);
           still = λ _. refl;
           goods = goods-of r (v₂ ∷ []) ir;
-        }))))
+        })))))
 
 module _ {M : Type 1} (𝓤 : URA M) (H : Heap 𝓤) (A : Atoms 𝓤) (W : Given 𝓤 H A) (mem : Memory → SProp 𝓤) (run : Routine → Fun 𝓤) (𝓣 : Tables 𝓤 H)
     (known-places : Triple 𝓤 (𝓣 .C #places) (Places 𝓤 H A mem run)) (known-blank : Triple 𝓤 (𝓣 .C #blank-pool) (Blank 𝓤 H A mem run)) where

@@ -27,11 +27,11 @@ Inv-places gone p n b at₀ at = (at ≤ n) × Passed b (leftOf p gone) at
 abbrev μ-places : tie.MeasureT-places
 μ-places gone p n b at₀ at = n - at
 
-counted : (c : tie.After-left Inv-fields μ-fields Inv-places μ-places) → length (waiting (c .before .args .t1)) ≡ c .before .args .t1 .count
+counted : (c : tie.After-left-count Inv-fields μ-fields Inv-places μ-places) → length (waiting (c .before .args .t1)) ≡ c .before .args .t1 .count
 counted c = waiting-counted (c .before .args .t1) _ (c .before .good .0) (c .before .pre)
 
-left-requires : tie.Need-left-requires Inv-fields μ-fields Inv-places μ-places
-left-requires c κs = search needs
+left-count-requires : tie.Need-left-count-requires Inv-fields μ-fields Inv-places μ-places
+left-count-requires c κs = search needs
 
 fields-requires : tie.Need-fields-requires Inv-fields μ-fields Inv-places μ-places
 fields-requires c κs = search needs
@@ -40,14 +40,14 @@ places-holds : tie.Need-places-holds Inv-fields μ-fields Inv-places μ-places
 places-holds c = (omega arith, none-passed _ _)
 
 place-of-requires : tie.Need-place-of-requires Inv-fields μ-fields Inv-places μ-places
-place-of-requires c κs = omega (arith, left-few _ _ _ (c .before .before .before .left .ensures))
+place-of-requires c κs = omega (arith, left-few _ _ _ (c .before .before .before .left-count .ensures))
 
 low : (c : tie.After-place-of Inv-fields μ-fields Inv-places μ-places) → c .place-of .result < 256
 low c =
     let k = c .before .before .before .before in
     let s = k .before in
     omega
-    (arith, s .pre, left-low-at (s .args .t1) (s .args .gone) _ _ _ (counted k) (k .left .ensures) (c .before .if1 .left) (c .place-of .ensures))
+    (arith, s .pre, left-low-at (s .args .t1) (s .args .gone) _ _ _ (counted k) (k .left-count .ensures) (c .before .if1 .left) (c .place-of .ensures))
 
 mul-q : tie.Need-mul-q Inv-fields μ-fields Inv-places μ-places
 mul-q c = omega (arith, low c)
@@ -88,7 +88,7 @@ row c =
     let o = c .before .before in
     let k = o .before .before .before .before in
     c .fields3 .ensures
-    ∙ ap fieldsOf (left-read (k .before .args .t1) (k .before .args .gone) _ _ _ (counted k) (k .left .ensures) (o .before .if1 .left) (o .place-of .ensures))
+    ∙ ap fieldsOf (left-read (k .before .args .t1) (k .before .args .gone) _ _ _ (counted k) (k .left-count .ensures) (o .before .if1 .left) (o .place-of .ensures))
 
 places-again : tie.Need-places-again Inv-fields μ-fields Inv-places μ-places
 places-again c =
@@ -129,7 +129,7 @@ first-equal-spec =
     μ-fields
     Inv-places
     μ-places
-    left-requires
+    left-count-requires
     fields-requires
     places-holds
     place-of-requires

@@ -20,24 +20,24 @@ Inv-loop gone m p n set₀ at₀ set at = (at ≤ n) × (set ≡ heldOf m (take 
 abbrev μ-loop : tie.MeasureT-loop
 μ-loop gone m p n set₀ at₀ set at = n - at
 
-counted : (c : tie.After-left Inv-loop μ-loop) → length (waiting (c .before .args .t1)) ≡ c .before .args .t1 .count
+counted : (c : tie.After-left-count Inv-loop μ-loop) → length (waiting (c .before .args .t1)) ≡ c .before .args .t1 .count
 counted c = waiting-counted (c .before .args .t1) _ (c .before .good .0) (c .before .pre)
 
-left-requires : tie.Need-left-requires Inv-loop μ-loop
-left-requires c κs = search needs
+left-count-requires : tie.Need-left-count-requires Inv-loop μ-loop
+left-count-requires c κs = search needs
 
 loop-holds : tie.Need-loop-holds Inv-loop μ-loop
 loop-holds c = (omega arith, sym (held-nil _))
 
 place-of-requires : tie.Need-place-of-requires Inv-loop μ-loop
-place-of-requires c κs = omega (arith, left-few _ _ _ (c .before .before .left .ensures))
+place-of-requires c κs = omega (arith, left-few _ _ _ (c .before .before .left-count .ensures))
 
 low : (c : tie.After-place-of Inv-loop μ-loop) → c .place-of .result < 256
 low c =
     let k = c .before .before .before in
     let s = k .before in
     omega
-    (arith, s .pre, left-low-at (s .args .t1) (s .args .gone) _ _ _ (counted k) (k .left .ensures) (c .before .loop-test .taken) (c .place-of .ensures))
+    (arith, s .pre, left-low-at (s .args .t1) (s .args .gone) _ _ _ (counted k) (k .left-count .ensures) (c .before .loop-test .taken) (c .place-of .ensures))
 
 mul-q : tie.Need-mul-q Inv-loop μ-loop
 mul-q c = omega (arith, low c)
@@ -64,7 +64,7 @@ loop-again c =
     let q = messageAt (s .args .t1) (o .place-of .result) in
     let xs = leftOf (s .args .t1) (s .args .gone) in
     let long = left-length (s .args .t1) (s .args .gone) (counted k) in
-    let read = left-read (s .args .t1) (s .args .gone) _ _ _ (counted k) (k .left .ensures) (o .before .loop-test .taken) (o .place-of .ensures) in (
+    let read = left-read (s .args .t1) (s .args .gone) _ _ _ (counted k) (k .left-count .ensures) (o .before .loop-test .taken) (o .place-of .ensures) in (
       omega arith,
       c .held-with .ensures ∙ ap (λ (h : ℕ). heldWith m h q) (l .inv .1) ∙ ap (heldWith m (heldOf m (take (l .at) xs))) read
           ∙ sym (ap (heldOf m) (taken-more xs (l .at) (omega arith)) ∙ held-last m _ _),
@@ -84,7 +84,7 @@ held-spec =
     (tie.spec
     Inv-loop
     μ-loop
-    left-requires
+    left-count-requires
     loop-holds
     place-of-requires
     mul-q

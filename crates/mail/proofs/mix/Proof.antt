@@ -17,12 +17,9 @@ cast-low-3 c = search needs
 cast-low-4 : tie.Need-cast-low-4
 cast-low-4 c = search needs
 
-cast-low-5 : tie.Need-cast-low-5
-cast-low-5 c = search needs
-
 returns : tie.Need-returns
 unfolding mixOf
 returns c = refl
 
 pub mix-spec : {M : Type 1} → statement M
-mix-spec = tie.close (tie.spec cast-low cast-low-2 cast-low-3 cast-low-4 cast-low-5 returns)
+mix-spec = tie.close (tie.spec cast-low cast-low-2 cast-low-3 cast-low-4 returns)

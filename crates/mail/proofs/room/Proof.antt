@@ -15,8 +15,8 @@ enum-told c = search needs
 enum-told-2 : tie.Need-enum-told-2
 enum-told-2 c = search needs
 
-left-requires : tie.Need-left-requires
-left-requires c κs = search needs
+left-count-requires : tie.Need-left-count-requires
+left-count-requires c κs = search needs
 
 count-requires : tie.Need-count-requires
 count-requires c κs = search needs
@@ -37,10 +37,10 @@ add-result c = omega (arith, few (c .before .before .before))
 
 add-result-2 : tie.Need-add-result-2
 add-result-2 c =
-    omega (arith, few (c .before .before .before), left-few _ _ _ (c .before .before .left .ensures))
+    omega (arith, few (c .before .before .before), left-few _ _ _ (c .before .before .left-count .ensures))
 
 returns : tie.Need-returns
-returns c = rw (c .before .before .left .ensures, more (c .before .before .before), c .before .count .ensures)
+returns c = rw (c .before .before .left-count .ensures, more (c .before .before .before), c .before .count .ensures)
 
 pub room-spec : {M : Type 1} → statement M
 room-spec =
@@ -48,7 +48,7 @@ room-spec =
     (tie.spec
     enum-told
     enum-told-2
-    left-requires
+    left-count-requires
     count-requires
     cast-result
     add-result

@@ -1,23 +1,13 @@
 -- `step::in_range` meets its contract: the action that was matched decides the definition's case. Assumes nothing.
 use borrow.Author.Needs.{needs}
-use mathlib.Core.Path.{_≡_, _∙_, ap, sym}
-use mathlib.Core.Bool.{Bool, _&&_}
+use mathlib.Core.Path.{_≡_, _∙_}
 use Prim.Native.Nat.{ℕ, _*_, _%_, _^_, _≤_}
 use native.Mathlib.Nat.{one-mul}
 use native.Mathlib.Omega.{arith}
-use lib.Dec.{ltb, lit<}
+use lib.Dec.{lit<}
 use lib.Pow.{shl-exact}
-use Rattle.rules.specs.declared.Action.{Action}
-use Rattle.rules.specs.declared.Action.the-variants.{Lookup, Join, RequestLease, LeaseExpired, GrantExpired, Take}
-use Rattle.rules.specs.declared.Pool.{Pool}
-use Rattle.table.specs.declared.Table.{Table}
-use Rattle.table.specs.Step.{inRange}
 use Rattle.step.proofs.in_range.Statement.{statement}
 use Rattle.step.proofs.in_range.Tie as tie
-
-module _ (t : Table) (p : Pool) (a : Action) where
-  at : (b : Action) (r : Bool) → a ≡ b → r ≡ inRange t p b → r ≡ inRange t p a
-  at b r e h = h ∙ ap (inRange t p) (sym e)
 
 -- a one shifted by less than the width loses nothing
 size : (m : ℕ) → m ≤ 32 → 1 * 2 ^ m % 2 ^ 64 ≡ 2 ^ m

@@ -1,7 +1,6 @@
 -- `step::plan_of_take` meets its contract: what the handler asks of the ring and the message is asked here too. Assumes nothing.
 use borrow.Author.Needs.{needs}
-use mathlib.Core.Path.{_≡_, _∙_}
-use Prim.Native.Nat.{_<_}
+use mathlib.Core.Path.{_∙_}
 use native.Mathlib.Nat.{lt-of-lt-of-le}
 use Rattle.step.proofs.plan_of_take.Statement.{statement}
 use Rattle.step.proofs.plan_of_take.Tie as tie
