@@ -1,5 +1,5 @@
 // Joins that work: 17, then 65, then 95 join at 18, the only node ready at the start. Prints each action with its answer, the statuses and the number of
-// waiting messages after it, and at the end whether the table is settled.
+// waiting messages after it, and at the end whether the table is settled. Then three steps on what is not valid, which are refused with 10.
 use entry::Rest;
 use libc::STDOUT_FILENO;
 use rules::Action;
@@ -78,6 +78,22 @@ fn joined(s: Stepped, i: usize) -> Stepped {
     drained(stepped(asked, Action::RequestLease(i)))
 }
 
+// A step on what is not valid: its number, and the n and the count that it leaves.
+fn unsound(what: &[u8], t: Table, p: Pool, len: usize) {
+    let r = step::step(t, p, len, Action::RequestLease(0));
+    let answer = r.answer;
+    let u = r.table;
+    let q = r.pool;
+    say(what);
+    say(b": ");
+    number(parts::answer_number(answer) as u64);
+    say(b", nodes ");
+    number(u.n as u64);
+    say(b", waiting ");
+    number(q.count as u64);
+    say(b"\n");
+}
+
 fn main() {
     let ids = [17u32, 18, 65, 95];
     let none = parts::blank_message();
@@ -96,4 +112,11 @@ fn main() {
         Rest::Unsettled => say(b"not settled\n"),
         Rest::NotAsked(_) => say(b"not valid\n"),
     }
+    unsound(b"a list of 255 places", t, p, 255);
+    let mut u = t;
+    u.n = 65;
+    unsound(b"65 nodes", u, p, 256);
+    let mut q = p;
+    q.count = 257;
+    unsound(b"257 messages", t, q, 256);
 }

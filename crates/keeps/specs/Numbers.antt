@@ -19,15 +19,17 @@ use Rattle.rules.specs.declared.Action.the-variants.{Lookup, Join, RequestLease
 use Rattle.rules.specs.declared.Refusal.{Refusal}
 use Rattle.rules.specs.declared.Refusal.the-variants as no
 use Rattle.rules.specs.declared.Plan.{Plan}
+use Rattle.rules.specs.declared.Planned.the-variants.{No}
 use Rattle.rules.specs.Mail.{removedAt}
 use Rattle.rules.specs.Nodes.{placed}
 use Rattle.rules.specs.Numbers.{refusalNumber, answerNumber}
 use Rattle.rules.specs.Plans.{quietPlan, sendPlan, mailed}
 use Rattle.rules.specs.Pool.{blank, messageAt, waiting}
-use Rattle.rules.specs.Take.{broadcastPlan}
+use Rattle.rules.specs.Take.{broadcastPlan, planTake}
 use Rattle.table.specs.declared.Table.{Table}
 use Rattle.table.specs.Settled.{deadSet}
-use Rattle.table.specs.Step.{inRange, stepOf}
+use Rattle.table.specs.Settle.{refusedOf, settle}
+use Rattle.table.specs.Step.{inRange, isSound, stepOf}
 use Rattle.table.specs.Table.{nodeAt, idsOf, ringOf}
 use Rattle.mail.specs.Laws.{waiting-short, removed-length, mailed-quiet, mailed-send, added-length}
 use Rattle.sound.specs.Obeys.{obeys}
@@ -209,3 +211,13 @@ module _ (t : Table) (p : Pool) (len : ℕ) where
     take-not-6 h =
         not-answered 6
         (one-of-all (λ k. allOf (other 6) (getD takeNumbers k [])) (messageAt p place .kind) (1 ∷ 2 ∷ 6 ∷ 7 ∷ 8 ∷ []) h refl)
+
+    -- 6. 5 always: the Take of a NoLegalRoute is never done
+    pub take-kind-6 : isSound t p len ≡ true → inRange t p (Take place) ≡ true → messageAt p place .kind ≡ 6
+        → stepOf t p len (Take place) ≡ refusedOf t p no.Partner
+    unfolding stepOf settle planTake
+    take-kind-6 s r k =
+        let m = messageAt p place in
+        let plan : takenOf t m ≡ No no.Partner =
+        ap (λ (kind : ℕ). planTake kind (ringOf t) (idsOf t) (deadSet t) (m .dest) (nodeAt t (m .dest)) m) k in
+        rw (s, r) (ap (settle t p (removedAt (waiting p) place) (m .dest)) plan)

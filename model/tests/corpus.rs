@@ -1,0 +1,95 @@
+//! The driver's stored corpus has every number that a step can answer, and no other, for every action and
+//! for the Take of every kind.
+
+mod common;
+
+use common::Bench;
+use model::wire::Request;
+use model::Action;
+use std::collections::BTreeSet;
+
+/// An action, for a Take the kind of the message or 0 for a place out of range, and a number answered.
+type Case = (&'static str, u32, u32);
+
+/// The numbers of 01, "Actions" and "Take, by kind". That there are no others is proved in
+/// `crates/keeps/specs/Numbers.antt` (`step-numbers`, which has 0, 1 and 10 for all, and `take-kind-6`, that 0 is
+/// not answered there). 1 is left out where the place is in range, and 10, for a file that loads has a valid table.
+const NUMBERS: [(&str, u32, &[u32]); 14] = [
+    ("Lookup", 0, &[0, 1, 3, 6]),
+    ("Join", 0, &[0, 1, 2, 3, 4, 6]),
+    ("RequestLease", 0, &[0, 1, 2, 4, 6]),
+    ("LeaseExpired", 0, &[0, 1, 2, 5]),
+    ("GrantExpired", 0, &[0, 1, 2, 5]),
+    ("Take", 0, &[1]),
+    ("Take", 1, &[0, 2]),
+    ("Take", 2, &[0, 2, 5]),
+    ("Take", 3, &[0, 2, 4, 5, 6]),
+    ("Take", 4, &[0, 2, 4, 5, 6]),
+    ("Take", 5, &[0, 2, 4, 5, 6]),
+    ("Take", 6, &[5]),
+    ("Take", 7, &[0, 2, 4]),
+    ("Take", 8, &[0, 2, 4, 5]),
+];
+
+/// The requests or replies of a stored file, without their length words.
+fn stored(name: &str) -> Vec<Vec<u8>> {
+    let path = format!("{}/../crates/driver/{name}", env!("CARGO_MANIFEST_DIR"));
+    let bytes = std::fs::read(path).expect("the corpus is there");
+    let mut rest = &bytes[..];
+    let mut bodies = Vec::new();
+    while !rest.is_empty() {
+        let (length, after) = rest.split_first_chunk().expect("a length word");
+        let (body, after) = after.split_at(u32::from_le_bytes(*length) as usize);
+        bodies.push(body.to_vec());
+        rest = after;
+    }
+    bodies
+}
+
+/// The kind of the message at this place, or 0 where none waits there.
+fn kind(bench: &Bench, place: usize) -> u32 {
+    bench.waiting().get(place).map_or(0, |message| message.fields().kind)
+}
+
+/// The case of a request, if it is a step and its file loads: 7 to 10 are answers of the load.
+fn case(request: &[u8], reply: &[u8]) -> Option<Case> {
+    let Some(Request::Step { action, file }) = Request::parse(request) else {
+        return None;
+    };
+    let bench = Bench::load(file).ok()?;
+    let (name, kind) = match action {
+        Action::Lookup { .. } => ("Lookup", 0),
+        Action::Join { .. } => ("Join", 0),
+        Action::RequestLease { .. } => ("RequestLease", 0),
+        Action::LeaseExpired { .. } => ("LeaseExpired", 0),
+        Action::GrantExpired { .. } => ("GrantExpired", 0),
+        Action::Take { place } => ("Take", kind(&bench, place)),
+    };
+    let number = reply.first_chunk().expect("a reply has a number");
+    Some((name, kind, u32::from_le_bytes(*number)))
+}
+
+/// The cases of the stored corpus.
+fn had() -> BTreeSet<Case> {
+    let (requests, replies) = (stored("stdin"), stored("stdout"));
+    assert_eq!(requests.len(), replies.len(), "each request has a reply");
+    requests.iter().zip(&replies).filter_map(|(request, reply)| case(request, reply)).collect()
+}
+
+/// The cases that can occur.
+fn can() -> BTreeSet<Case> {
+    let mut can = BTreeSet::new();
+    for (name, kind, numbers) in NUMBERS {
+        can.extend(numbers.iter().map(|&number| (name, kind, number)));
+    }
+    can
+}
+
+#[test]
+fn the_corpus_has_every_number_of_a_step() {
+    let (had, can) = (had(), can());
+    let lost: Vec<&Case> = can.difference(&had).collect();
+    assert!(lost.is_empty(), "the corpus has lost {lost:?}");
+    let others: Vec<&Case> = had.difference(&can).collect();
+    assert!(others.is_empty(), "the corpus has {others:?}, which cannot occur");
+}
