@@ -39,10 +39,9 @@ use Rattle.keeps.specs.By.{go-same, never-go}
 use Rattle.step.specs.Asked.{goneOf, isRequest, readOf, repeatedOf, slotWith, plannedWith}
 use Rattle.step.specs.Settles.{nothing-gone, counted, step-settles}
 
-module _ (t : Table) (p : Pool) (len : ℕ) (a : Action) where
-  pub sound-is : (valid : Bool) → valid ≡ validOf t p → isSound t p len ≡ (eqb len 256 && valid)
-  unfolding isSound
-  sound-is valid e = ap (λ (b : Bool). eqb len 256 && b) (sym e)
+pub sound-is : (t : Table) (p : Pool) (len : ℕ) (valid : Bool) → valid ≡ validOf t p → isSound t p len ≡ (eqb len 256 && valid)
+unfolding isSound
+sound-is t p len valid e = ap (λ (b : Bool). eqb len 256 && b) (sym e)
 
 -- ---- a request's message is new: where it is not repeated, no equal waits
 

@@ -114,7 +114,7 @@ abbrev begun : (c : Sure) → Start
 begun c = c .before .before .before .before
 
 is-sound : (c : Sure) → isSound (begun c .args .t) (begun c .args .p) (begun c .args .len) ≡ true
-is-sound c = let s = begun c .args in sound-is (s .t) (s .p) (s .len) (s .a) _ (told (c .before)) ∙ not-false _ (c .if1 .left)
+is-sound c = let s = begun c .args in sound-is (s .t) (s .p) (s .len) _ (told (c .before)) ∙ not-false _ (c .if1 .left)
 
 valid : (c : Sure) → validOf (begun c .args .t) (begun c .args .p) ≡ true
 valid c = is-valid (begun c .args .t) (begun c .args .p) (begun c .args .len) (is-sound c)
@@ -224,7 +224,7 @@ returns : tie.Need-returns Inv-gap μ-gap Inv-slots μ-slots Inv-blanks μ-blank
 returns c =
     let s = c .before .before .before .before .before .args in
     c .answered .ensures
-    ∙ step-invalid (s .t) (s .p) (s .len) (s .a) (sound-is (s .t) (s .p) (s .len) (s .a) _ (told (c .before .before)) ∙ not-true _ (c .before .if1 .taken))
+    ∙ step-invalid (s .t) (s .p) (s .len) (s .a) (sound-is (s .t) (s .p) (s .len) _ (told (c .before .before)) ∙ not-true _ (c .before .if1 .taken))
 
 in-range-requires : tie.Need-in-range-requires Inv-gap μ-gap Inv-slots μ-slots Inv-blanks μ-blanks
 in-range-requires c κs = let s = begun c .args in sound (s .t) (s .p) (valid c) .numbers .m-high
