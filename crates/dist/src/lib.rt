@@ -3,8 +3,8 @@ ghost use mathlib.Core.Path.{_≡_};
 ghost use Prim.Native.Nat.{_^_};
 ghost use Rattle.ring.specs.Distance.{fallOf, signedOf, absDistOf, leftCoverOf, rightCoverOf, coversKey};
 ghost use Rattle.ring.specs.Distance.{nearer as nearerOf};
-ghost use Rattle.ring.specs.Order.{rank as rankOf};
-ghost use Rattle.rules.specs.Asks.{Width, Inside};
+ghost use Rattle.ring.specs.InnerRank.{rank as rankOf};
+ghost use Rattle.rules.specs.InnerAsks.{Width, Inside};
 
 // The number of ids.
 fn size(m: u32) -> u64

@@ -1,7 +1,7 @@
 // The next hop of a lookup or a join request.
 ghost use mathlib.Core.Path.{_≡_};
 ghost use Prim.Native.Nat.{ℕ, _^_, _<_, _≤_};
-ghost use Rattle.rules.specs.Asks.{Listed};
+ghost use Rattle.rules.specs.InnerAsks.{Listed};
 ghost use Rattle.rules.specs.Hop.{legalOf, byLeaf, leafCandidates, routeCandidates, nextHop};
 use marks::Found;
 use rules::Hop;

@@ -1,9 +1,9 @@
 // Leaf sets: what they hold, their neighbours and ends, adding nodes, and what they cover.
 ghost use mathlib.Core.Path.{_≡_};
 ghost use Prim.Native.Nat.{ℕ, _^_, _<_, _≤_};
-ghost use Rattle.rules.specs.Asks.{Listed};
+ghost use Rattle.rules.specs.InnerAsks.{Listed};
 ghost use Rattle.rules.specs.Closest.{closest};
-ghost use Rattle.laws.specs.Steps.{stepsOf, otherThan};
+ghost use Rattle.rules.specs.InnerSteps.{stepsOf, otherThan};
 ghost use Rattle.rules.specs.Leaf.{contentOf, seenFrom, leafWith, leafWithOne, overlaps, isComplete, isEmpty, coversOf};
 use marks::Found;
 use rules::Ring;

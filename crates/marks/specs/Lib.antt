@@ -1,6 +1,1 @@
-pub mod Bools
 pub mod Marks
-pub mod Bits
-pub mod Slots
-pub mod Laws
-pub mod Machine

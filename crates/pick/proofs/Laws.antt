@@ -7,12 +7,12 @@ use native.Mathlib.Omega.{arith}
 use lib.Dec.{leb, eqb}
 use borrow.Author.Tests.{le-leb, lt-leb, eq-eqb, ne-eqb, leb-true}
 use Rattle.marks.specs.Marks.{has, removeOf, lowestOf, sizeOf}
-use Rattle.marks.specs.Bools.{and-left, and-right, and-both, and-fails-left, bool-false, opposed, lt-or-le, eq-or-ne}
-use Rattle.marks.specs.Laws.{First, has-remove, lowest-found, lowest-none, has-zero, size-remove, remove-below}
+use Rattle.marks.proofs.Bools.{and-left, and-right, and-both, and-fails-left, bool-false, opposed, lt-or-le, eq-or-ne}
+use Rattle.marks.proofs.Laws.{First, has-remove, lowest-found, lowest-none, has-zero, size-remove, remove-below}
 use Rattle.marks.specs.declared.Found.{Found}
 use Rattle.marks.specs.declared.Found.the-variants.{At, Nothing}
 use Rattle.rules.specs.Pick.{betterOf, best}
-use Rattle.laws.specs.Best.{best-took, best-skip}
+use Rattle.rules.proofs.Best.{best-took, best-skip}
 
 pub record Looked (ahead : ℕ → ℕ → Bool) (set : ℕ) (found : Found) (rest : ℕ) : Type 0 where
   pub fits : rest < 2 ^ 64

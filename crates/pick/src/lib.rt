@@ -1,7 +1,7 @@
 // One search for all uses: the best slot of a set of nodes, by nearness to a key or by Fall.
 ghost use mathlib.Core.Path.{_≡_};
 ghost use Prim.Native.Nat.{ℕ, _^_, _<_, _≤_};
-ghost use Rattle.rules.specs.Asks.{Keyed, Below};
+ghost use Rattle.rules.specs.InnerAsks.{Keyed, Below};
 ghost use Rattle.rules.specs.Pick.{aheadOf, betterOf, bestOf};
 use marks::Found;
 use rules::Way;

@@ -1,7 +1,2 @@
 pub mod Distance
-pub mod Worked
-pub mod Falls
-pub mod Order
-pub mod Cover
-pub mod Nearest
-pub mod Width
+pub mod InnerRank

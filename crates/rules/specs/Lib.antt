@@ -12,4 +12,5 @@ pub mod Letters
 pub mod Plans
 pub mod Actions
 pub mod Take
-pub mod Asks
+pub mod InnerAsks
+pub mod InnerSteps

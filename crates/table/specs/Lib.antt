@@ -1,8 +1,6 @@
-pub mod Table
-pub mod Ids
-pub mod Start
-pub mod Starts
 pub mod Valid
 pub mod Settle
 pub mod Settled
 pub mod Step
+pub mod InnerDone
+pub mod Claims

@@ -15,9 +15,9 @@ use Rattle.rules.specs.declared.Planned.the-variants.{No, Go}
 use Rattle.rules.specs.Limits.{messagesHigh}
 use Rattle.rules.specs.Pool.{laid}
 use Rattle.rules.specs.Plans.{mailed}
-use Rattle.table.specs.declared.Table.{Table}
-use Rattle.table.specs.declared.Stepped.{Stepped}
-use Rattle.table.specs.Table.{withNode}
+use Rattle.table_type.specs.declared.Table.{Table}
+use Rattle.table_type.specs.declared.Stepped.{Stepped}
+use Rattle.table_type.specs.Table.{withNode}
 
 abbrev pub refusedOf : Table → Pool → Refusal → Stepped
 refusedOf t p why = record { answer = Refused why; table = t; pool = p }

@@ -8,8 +8,8 @@ use Rattle.rules.specs.declared.Way.the-variants.{Up, Down}
 use Rattle.rules.specs.declared.Ring.{Ring}
 use Rattle.rules.specs.Leaf.{seenFrom, leftNeighbour, rightNeighbour}
 use Rattle.rules.specs.declared.Node.{Node}
-use Rattle.table.specs.declared.Table.{Table}
-use Rattle.table.specs.Table.{nodeAt, idsOf, ringOf}
+use Rattle.table_type.specs.declared.Table.{Table}
+use Rattle.table_type.specs.Table.{nodeAt, idsOf, ringOf}
 use Rattle.rules.specs.Nodes.{sidesOf}
 use Rattle.rules.specs.Plans.{isDead, isReady}
 

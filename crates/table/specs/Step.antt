@@ -4,12 +4,12 @@ use mathlib.Core.List.{List}
 use Prim.Native.Nat.{ℕ, _^_}
 use lib.Dec.{eqb, ltb}
 use Rattle.rules.specs.declared.Message.{Message}
-use Rattle.table.specs.declared.Table.{Table}
+use Rattle.table_type.specs.declared.Table.{Table}
 use Rattle.rules.specs.declared.Pool.{Pool}
 use Rattle.rules.specs.declared.Refusal.the-variants as no
-use Rattle.table.specs.declared.Stepped.{Stepped}
+use Rattle.table_type.specs.declared.Stepped.{Stepped}
 use Rattle.rules.specs.Limits.{messagesHigh}
-use Rattle.table.specs.Table.{nodeAt, idsOf, ringOf}
+use Rattle.table_type.specs.Table.{nodeAt, idsOf, ringOf}
 use Rattle.rules.specs.Nodes.{placed}
 use Rattle.rules.specs.Pool.{waiting, messageAt}
 use Rattle.rules.specs.Mail.{removedAt}
@@ -21,6 +21,8 @@ use Rattle.table.specs.Settle.{refusedOf, settle}
 use Rattle.rules.specs.Actions.{waits, joinWaits, planLookup, planJoin, planRequestLease, planLeaseExpired, planGrantExpired}
 use Rattle.rules.specs.Take.{planTake}
 use Rattle.table.specs.Settled.{deadSet}
+use Rattle.rules.specs.declared.Action.the-variants.{Take}
+use Rattle.rules.specs.declared.Planned.{Planned}
 
 -- 1: slot, place or key out of range
 abbrev pub inRange : Table → Pool → Action → Bool
@@ -53,3 +55,7 @@ isSound t p len = eqb len messagesHigh && validOf t p
 unfoldable pub stepOf : Table → Pool → ℕ → Action → Stepped
 stepOf t p len a =
     cond (isSound t p len) (cond (inRange t p a) (actOf t p a) (refusedOf t p no.OutOfRange)) (refusedOf t p no.Invalid)
+
+-- what Take plans for message m
+abbrev pub takenOf : Table → Message → Planned
+takenOf t m = planTake (m .kind) (ringOf t) (idsOf t) (deadSet t) (m .dest) (nodeAt t (m .dest)) m

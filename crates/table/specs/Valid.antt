@@ -8,8 +8,8 @@ use Rattle.rules.specs.Limits.{messagesHigh}
 use Rattle.rules.specs.Fits.{numbersFit, slotFits, messageFits}
 use Rattle.rules.specs.Mail.{allDifferent}
 use Rattle.rules.specs.Pool.{messageAt, waiting}
-use Rattle.table.specs.declared.Table.{Table}
-use Rattle.table.specs.Table.{nodeAt, idsOf, ringOf}
+use Rattle.table_type.specs.declared.Table.{Table}
+use Rattle.table_type.specs.Table.{nodeAt, idsOf, ringOf}
 
 unfoldable pub nodesFit : Table → Bool
 nodesFit t = allTo 64 (λ s. slotFits (ringOf t) (idsOf t) s (nodeAt t s))

@@ -1,8 +1,8 @@
 -- `dist::abs_dist` meets its contract: AbsDist is the smaller of the two falls. Assumes nothing.
 use native.Mathlib.Omega.{arith}
 use borrow.Author.Needs.{needs}
-use Rattle.ring.specs.Falls.{absDist-is}
-use Rattle.dist.specs.Bounds.{ring-of}
+use Rattle.ring.proofs.Falls.{absDist-is}
+use Rattle.dist.proofs.Bounds.{ring-of}
 use Rattle.dist.proofs.abs_dist.Statement.{statement}
 use Rattle.dist.proofs.abs_dist.Tie as tie
 

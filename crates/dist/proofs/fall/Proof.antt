@@ -1,6 +1,6 @@
 -- `dist::fall` meets its contract: the law `fall-wrapped` at the width of 32. Assumes nothing.
 use borrow.Author.Needs.{needs}
-use Rattle.ring.specs.Width.{fall-wrapped}
+use Rattle.ring.proofs.Width.{fall-wrapped}
 use Rattle.dist.proofs.fall.Statement.{statement}
 use Rattle.dist.proofs.fall.Tie as tie
 

@@ -1,7 +1,7 @@
 -- `dist::left_cover` meets its contract. Assumes nothing.
 use borrow.Author.Needs.{needs}
 use Rattle.ring.specs.Distance.{leftCoverOf}
-use Rattle.dist.specs.Bounds.{rem-fits}
+use Rattle.dist.proofs.Bounds.{rem-fits}
 use Rattle.dist.proofs.left_cover.Statement.{statement}
 use Rattle.dist.proofs.left_cover.Tie as tie
 

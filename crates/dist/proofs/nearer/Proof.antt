@@ -1,6 +1,6 @@
 -- `dist::nearer` meets its contract: the order of 01 is the order of ranks. Assumes nothing.
 use borrow.Author.Needs.{needs}
-use Rattle.ring.specs.Order.{nearer-rank}
+use Rattle.ring.proofs.Order.{nearer-rank}
 use Rattle.dist.proofs.nearer.Statement.{statement}
 use Rattle.dist.proofs.nearer.Tie as tie
 

@@ -1,8 +1,8 @@
 -- `dist::rank` meets its contract: the way up counts where it is no longer than the way down. Assumes nothing.
 use native.Mathlib.Omega.{arith}
 use borrow.Author.Needs.{needs}
-use Rattle.ring.specs.Order.{rank-rising, rank-falling}
-use Rattle.dist.specs.Bounds.{ring-of, fall-small}
+use Rattle.ring.proofs.Order.{rank-rising, rank-falling}
+use Rattle.dist.proofs.Bounds.{ring-of, fall-small}
 use Rattle.dist.proofs.rank.Statement.{statement}
 use Rattle.dist.proofs.rank.Tie as tie
 

@@ -1,7 +1,7 @@
 -- `dist::right_cover` meets its contract. Assumes nothing.
 use borrow.Author.Needs.{needs}
 use Rattle.ring.specs.Distance.{rightCoverOf}
-use Rattle.dist.specs.Bounds.{rem-fits}
+use Rattle.dist.proofs.Bounds.{rem-fits}
 use Rattle.dist.proofs.right_cover.Statement.{statement}
 use Rattle.dist.proofs.right_cover.Tie as tie
 

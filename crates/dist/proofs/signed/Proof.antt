@@ -15,9 +15,9 @@ use mir.Facts.{toZ-ofZ}
 use borrow.Author.Tests.{lt-ltb, le-ltb}
 use borrow.Author.Needs.{needs}
 use Rattle.ring.specs.Distance.{signedOf}
-use Rattle.ring.specs.Falls.{le-or-lt}
-use Rattle.rules.specs.Asks.{Inside}
-use Rattle.dist.specs.Bounds.{back-pos}
+use Rattle.ring.proofs.Falls.{le-or-lt}
+use Rattle.rules.specs.InnerAsks.{Inside}
+use Rattle.dist.proofs.Bounds.{back-pos}
 use Rattle.dist.proofs.signed.Statement.{statement}
 use Rattle.dist.proofs.signed.Tie as tie
 

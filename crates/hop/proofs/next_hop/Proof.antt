@@ -8,14 +8,15 @@ use Prim.Native.Nat.{ℕ, _^_, _<_, _≤_}
 use native.Mathlib.Omega.{arith}
 use borrow.Author.Tests.{lt-ltb, le-ltb}
 use Rattle.ring.specs.Distance.{nearer}
-use Rattle.ring.specs.Order.{rank, nearer-rank}
+use Rattle.ring.proofs.Order.{nearer-rank}
+use Rattle.ring.specs.InnerRank.{rank}
 use Rattle.marks.specs.declared.Found.{Found}
 use Rattle.marks.specs.declared.Found.the-variants.{At}
 use Rattle.rules.specs.declared.Way.the-variants.{Near}
-use Rattle.rules.specs.Asks.{Below}
+use Rattle.rules.specs.InnerAsks.{Below}
 use Rattle.rules.specs.Pick.{best, bestOf}
-use Rattle.laws.specs.Best.{best-below}
-use Rattle.laws.specs.Hop.{candidatesOf, nextHop-nearest}
+use Rattle.rules.proofs.Best.{best-below}
+use Rattle.rules.proofs.Hops.{candidatesOf, nextHop-nearest}
 use Rattle.hop.proofs.next_hop.Statement.{statement}
 use Rattle.hop.proofs.next_hop.Tie as tie
 

@@ -5,7 +5,7 @@ use mathlib.Core.Logic.{inl, inr}
 use Prim.Native.Nat.{ℕ, _<_}
 use native.Mathlib.Omega.{arith}
 use Rattle.ring.specs.Distance.{fallOf}
-use Rattle.ring.specs.Falls.{Falls, falls}
+use Rattle.ring.proofs.Falls.{Falls, falls}
 use Rattle.leaf.proofs.along.Statement.{statement}
 use Rattle.leaf.proofs.along.Tie as tie
 

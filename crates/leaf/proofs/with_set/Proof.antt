@@ -7,10 +7,11 @@ use Prim.Native.Nat.{ℕ, _<_}
 use Rattle.marks.specs.Marks.{union}
 use Rattle.rules.specs.declared.Ring.{Ring}
 use Rattle.rules.specs.declared.Sides.{Sides}
-use Rattle.rules.specs.Asks.{Listed}
+use Rattle.rules.specs.InnerAsks.{Listed}
 use Rattle.rules.specs.Closest.{closest}
 use Rattle.rules.specs.Leaf.{leafWith}
-use Rattle.laws.specs.Steps.{stepsOf, otherThan, side-walk-up, side-walk-down}
+use Rattle.rules.proofs.Steps.{side-walk-up, side-walk-down}
+use Rattle.rules.specs.InnerSteps.{stepsOf, otherThan}
 use Rattle.leaf.proofs.with_set.Statement.{statement}
 use Rattle.leaf.proofs.with_set.Tie as tie
 

@@ -2,8 +2,8 @@
 use mathlib.Core.Path.{sym}
 use borrow.Author.Needs.{needs}
 use native.Mathlib.Omega.{arith}
-use Rattle.marks.specs.Laws.{listed-every}
-use Rattle.marks.specs.Machine.{shifted-listed}
+use Rattle.marks.proofs.Laws.{listed-every}
+use Rattle.marks.proofs.Machine.{shifted-listed}
 use Rattle.marks.proofs.all_below.Statement.{statement}
 use Rattle.marks.proofs.all_below.Tie as tie
 

@@ -1,6 +1,6 @@
 -- `marks::both` meets its contract: the digits of `&` are those of the meet. Assumes nothing.
 use native.Mathlib.Omega.{arith}
-use Rattle.marks.specs.Machine.{and-meet}
+use Rattle.marks.proofs.Machine.{and-meet}
 use Rattle.marks.proofs.both.Statement.{statement}
 use Rattle.marks.proofs.both.Tie as tie
 

@@ -1,6 +1,6 @@
 -- `marks::count` meets its contract: the ones are as many as the members. Assumes nothing.
 use native.Mathlib.Omega.{arith}
-use Rattle.marks.specs.Machine.{ones-size}
+use Rattle.marks.proofs.Machine.{ones-size}
 use Rattle.marks.proofs.count.Statement.{statement}
 use Rattle.marks.proofs.count.Tie as tie
 

@@ -3,7 +3,7 @@ use mathlib.Core.Path.{refl, sym}
 use borrow.Author.Needs.{needs}
 use native.Mathlib.Omega.{arith}
 use Rattle.marks.specs.Marks.{has}
-use Rattle.marks.specs.Laws.{has-high}
+use Rattle.marks.proofs.Laws.{has-high}
 use Rattle.marks.proofs.is_in.Statement.{statement}
 use Rattle.marks.proofs.is_in.Tie as tie
 

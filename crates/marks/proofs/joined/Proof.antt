@@ -1,6 +1,6 @@
 -- `marks::joined` meets its contract: the digits of `|` are those of the union. Assumes nothing.
 use native.Mathlib.Omega.{arith}
-use Rattle.marks.specs.Machine.{or-union}
+use Rattle.marks.proofs.Machine.{or-union}
 use Rattle.marks.proofs.joined.Statement.{statement}
 use Rattle.marks.proofs.joined.Tie as tie
 

@@ -1,6 +1,6 @@
 -- `marks::less` meets its contract: the digits of `& !` are those of the one set without the other. Assumes nothing.
 use native.Mathlib.Omega.{arith}
-use Rattle.marks.specs.Machine.{and-without}
+use Rattle.marks.proofs.Machine.{and-without}
 use Rattle.marks.proofs.less.Statement.{statement}
 use Rattle.marks.proofs.less.Tie as tie
 

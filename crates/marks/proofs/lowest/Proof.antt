@@ -1,7 +1,7 @@
 -- `marks::lowest` meets its contract: the zeros below the lowest one lead to the least member, and 0 has none. Assumes nothing.
 use native.Mathlib.Omega.{arith}
 use lib.Count.{trailing-le}
-use Rattle.marks.specs.Machine.{zero-lowest, trailing-lowest}
+use Rattle.marks.proofs.Machine.{zero-lowest, trailing-lowest}
 use Rattle.marks.proofs.lowest.Statement.{statement}
 use Rattle.marks.proofs.lowest.Tie as tie
 

@@ -2,7 +2,7 @@
 use mathlib.Core.Path.{_∙_}
 use borrow.Author.Needs.{needs}
 use native.Mathlib.Omega.{arith}
-use Rattle.marks.specs.Machine.{cut-lowest, far-lowest}
+use Rattle.marks.proofs.Machine.{cut-lowest, far-lowest}
 use Rattle.marks.proofs.lowest_from.Statement.{statement}
 use Rattle.marks.proofs.lowest_from.Tie as tie
 

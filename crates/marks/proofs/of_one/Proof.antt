@@ -6,7 +6,7 @@ use native.Mathlib.Omega.{arith}
 use native.Mathlib.Nat.{one-mul}
 use lib.Dec.{lit<}
 use lib.Pow.{shl-exact}
-use Rattle.marks.specs.Machine.{one-single, none-single}
+use Rattle.marks.proofs.Machine.{one-single, none-single}
 use Rattle.marks.proofs.of_one.Statement.{statement}
 use Rattle.marks.proofs.of_one.Tie as tie
 

@@ -2,8 +2,8 @@
 use mathlib.Core.Path.{_∙_}
 use borrow.Author.Needs.{needs}
 use native.Mathlib.Omega.{arith}
-use Rattle.marks.specs.Laws.{single-below}
-use Rattle.marks.specs.Machine.{and-without, without-single}
+use Rattle.marks.proofs.Laws.{single-below}
+use Rattle.marks.proofs.Machine.{and-without, without-single}
 use Rattle.marks.proofs.removed.Statement.{statement}
 use Rattle.marks.proofs.removed.Tie as tie
 

@@ -2,7 +2,7 @@
 use borrow.Author.Needs.{needs}
 use mathlib.Core.List.{List}
 use Prim.Native.Nat.{ℕ, _<_}
-use Rattle.rules.specs.Asks.{Keyed, Inside}
+use Rattle.rules.specs.InnerAsks.{Keyed, Inside}
 use Rattle.rules.specs.Pick.{idAt}
 use Rattle.pick.proofs.ahead.Statement.{statement}
 use Rattle.pick.proofs.ahead.Tie as tie

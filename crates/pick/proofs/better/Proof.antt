@@ -5,7 +5,7 @@ use mathlib.Core.Bool.{Bool, true, false}
 use Prim.Native.Nat.{ℕ, _^_, _<_}
 use Rattle.marks.specs.declared.Found.{Found}
 use Rattle.marks.specs.declared.Found.the-variants.{At, Nothing}
-use Rattle.rules.specs.Asks.{Below}
+use Rattle.rules.specs.InnerAsks.{Below}
 use Rattle.rules.specs.Pick.{aheadOf, betterOf}
 use Rattle.pick.proofs.better.Statement.{statement}
 use Rattle.pick.proofs.better.Tie as tie

@@ -1,3 +1,0 @@
-pub mod Abi
-pub mod Unique
-pub mod Counts

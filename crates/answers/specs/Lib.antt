@@ -1,3 +1,0 @@
-pub mod Answers
-pub mod Slots
-pub mod Plans

@@ -1,2 +1,0 @@
-pub mod Ask
-pub mod Unique

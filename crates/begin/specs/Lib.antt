@@ -1,4 +1,0 @@
-pub mod Made
-pub mod Legal
-pub mod Begin
-pub mod Cases

@@ -1,1 +1,0 @@
-// A start is valid and settled: theorems alone, in specs/.

@@ -1,0 +1,46 @@
+-- The calls as numbers and bytes alone: a word for an action, and a word for an answer with the number of bytes written. Definitions only.
+-- Assumes nothing.
+use mathlib.Core.Bool.{cond}
+use mathlib.Core.List.{List}
+use Prim.Native.Nat.{ℕ, _+_, _*_}
+use lib.Dec.{eqb}
+use Rattle.rules.specs.declared.Action.the-variants.{Lookup, Join, RequestLease, LeaseExpired, GrantExpired, Take}
+use Rattle.rules.specs.Numbers.{refusalNumber, answerNumber}
+use Rattle.file.specs.declared.Wrote.{Wrote}
+use Rattle.face_table.specs.declared.Rest.{Rest}
+use Rattle.face_table.specs.declared.Rest.the-variants.{Settled, Unsettled, NotAsked}
+use Rattle.face_file.specs.Calls.{loadedOf, nextOf, wroteBy, leftBy}
+use Rattle.face_c.specs.declared.Asked.{Asked}
+use Rattle.face_c.specs.declared.Asked.the-variants.{Is, None}
+
+-- the number of the answer in the low 32 bits, the count of bytes in the high 32 bits
+abbrev pub packOf : Wrote → ℕ
+packOf w = w .count * 4294967296 + answerNumber (w .answer)
+
+-- the number in the low 32 bits; in the high 32 bits 1 where the table is settled, else 0
+abbrev pub restWord : Rest → ℕ
+restWord Settled = 4294967296
+restWord Unsettled = 0
+restWord (NotAsked why) = refusalNumber why
+
+-- no action has this number: every bit of the low word is set
+abbrev pub unknown : ℕ
+unknown = 4294967295
+
+-- 1 Lookup, 2 Join, 3 RequestLease, 4 LeaseExpired, 5 GrantExpired, 6 Take
+unfoldable pub askedOf : ℕ → ℕ → ℕ → Asked
+askedOf k x y =
+    cond (eqb k 1) (Is (Lookup x y))
+    (cond (eqb k 2) (Is (Join x y))
+    (cond (eqb k 3) (Is (RequestLease x))
+    (cond (eqb k 4) (Is (LeaseExpired x y)) (cond (eqb k 5) (Is (GrantExpired x y)) (cond (eqb k 6) (Is (Take x)) None)))))
+
+-- the word that answers a step
+unfoldable pub stepWord : Asked → List ℕ → List ℕ → ℕ
+stepWord (Is a) file out = packOf (wroteBy (nextOf (loadedOf file) a) out)
+stepWord None file out = unknown
+
+-- what the buffer then holds
+unfoldable pub stepLeft : Asked → List ℕ → List ℕ → List ℕ
+stepLeft (Is a) file out = leftBy (nextOf (loadedOf file) a) out
+stepLeft None file out = out

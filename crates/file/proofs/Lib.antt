@@ -1,0 +1,8 @@
+pub mod Codec
+pub mod Rows
+pub mod Told
+pub mod File
+pub mod Back
+pub mod Exactly
+pub mod Theorems
+pub mod Replies

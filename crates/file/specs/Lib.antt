@@ -1,0 +1,6 @@
+pub mod Bytes
+pub mod Format
+pub mod Load
+pub mod Write
+pub mod Held
+pub mod InnerParts

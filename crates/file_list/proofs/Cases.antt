@@ -1,0 +1,99 @@
+-- 01's worked listing, computed by the checker: the file of the ids 17, 18, 65 and 95, all started ready, with Lookup 80 at slot 0 and Lookup
+-- 200 at slot 2 (tools/worked makes it), and what is printed of it, whole; then of the same file without lookups, and damaged in four ways.
+-- Assumes nothing.
+use mathlib.Core.Path.{_≡_, refl}
+use mathlib.Core.List.{List, [], _∷_, _++_}
+use Prim.Native.Nat.{ℕ}
+use lib.ListN.{take, set}
+use Rattle.ring.specs.Distance.{fallOf, signedOf, absDistOf, risesTo, nearer, leftCoverOf, rightCoverOf, coversKey}
+use Rattle.marks.specs.Marks.{has, gather, tally, allTo, union, meet, without, addOf, removeOf, sizeOf, listed}
+use Rattle.rules.specs.Fits.{numbersFit, idFits, sideFits, leafFits, othersFit, nodeFits, isBlank, slotFits}
+use Rattle.rules.specs.Fits.{wordFits, flagFits, carriedFits, ownerFits, routingFits, failedFits, fieldsFit, messageFits}
+use Rattle.rules.specs.Closest.{closest}
+use Rattle.rules.specs.Hop.{leafCandidates, routeCandidates, byLeaf, leafHop, routeHop, nextHop}
+use Rattle.rules.specs.Leaf.{contentOf, seenFrom, leafWith, overlaps, coversOf}
+use Rattle.rules.specs.Letters.{lookup}
+use Rattle.rules.specs.Mail.{alike, allDifferent, firstFrom, firstEqual, added, removedAt, sentTo}
+use Rattle.rules.specs.Nodes.{placed}
+use Rattle.rules.specs.Pick.{best}
+use Rattle.rules.specs.Plans.{mailed}
+use Rattle.rules.specs.Pool.{laid}
+use Rattle.rules.specs.Take.{planTakeLookup, planTake}
+use Rattle.table.specs.Settle.{carriedOut, settle}
+use Rattle.table.specs.Settled.{deadSet}
+use Rattle.table_type.specs.Start.{startNode, startNodes, startTable, slotsTo}
+use Rattle.table.specs.Step.{isSound, stepOf}
+use Rattle.table.specs.Valid.{nodesFit, messagesFit, poolFits, validOf}
+use Rattle.file.specs.Bytes.{bytesOf, numberOf, encode, encodeAll, decode, decodeAll}
+use Rattle.file.specs.Format.{fileOf}
+use Rattle.file.specs.Load.{headerFits, offsetsFit, statusesFit, fileTable, partPool, filePool, loadOf}
+use Rattle.file_list.specs.Trip.{tripOf, followOf}
+use Rattle.file_list.specs.Print.{decimalTo, headline, refusedWord, lineOf, linesOf, listingOf}
+
+-- to unfold this is to unfold all that the listing computes with
+opened : Unit {0}
+unfolding listingOf loadOf headerFits offsetsFit statusesFit fileTable filePool partPool decode decodeAll numberOf decimalTo lineOf linesOf
+    followOf tripOf validOf numbersFit nodesFit slotFits idFits nodeFits leafFits sideFits othersFit isBlank listed sizeOf tally has allTo
+    poolFits messagesFit messageFits fieldsFit wordFits flagFits carriedFits ownerFits routingFits failedFits allDifferent alike stepOf isSound
+    settle carriedOut mailed sentTo planTake planTakeLookup coversOf seenFrom best coversKey leftCoverOf rightCoverOf fallOf nextHop byLeaf
+    overlaps meet gather leafHop routeHop leafCandidates routeCandidates contentOf union addOf without removeOf nearer absDistOf signedOf
+    risesTo deadSet firstEqual firstFrom added removedAt
+opened = tt
+
+unfoldable pub workedFile : List ℕ
+workedFile =
+    8 ∷ 0 ∷ 0 ∷ 0 ∷ 1 ∷ 0 ∷ 0 ∷ 0 ∷ 4 ∷ 0 ∷ 0 ∷ 0 ∷ 2 ∷ 0 ∷ 0 ∷ 0 ∷ 32 ∷ 0 ∷ 0 ∷ 0 ∷ 32 ∷ 1 ∷ 0 ∷ 0 ∷ 144 ∷
+    1 ∷ 0 ∷ 0 ∷ 0 ∷ 0 ∷ 0 ∷ 0 ∷ 17 ∷ 0 ∷ 0 ∷ 0 ∷ 3 ∷ 0 ∷ 0 ∷ 0 ∷ 2 ∷ 0 ∷ 0 ∷ 0 ∷ 0 ∷ 0 ∷ 0 ∷ 0 ∷ 8 ∷ 0 ∷
+    0 ∷ 0 ∷ 0 ∷ 0 ∷ 0 ∷ 0 ∷ 0 ∷ 0 ∷ 0 ∷ 0 ∷ 0 ∷ 0 ∷ 0 ∷ 0 ∷ 0 ∷ 0 ∷ 0 ∷ 0 ∷ 0 ∷ 0 ∷ 0 ∷ 0 ∷ 15 ∷ 0 ∷ 0 ∷
+    0 ∷ 0 ∷ 0 ∷ 0 ∷ 0 ∷ 15 ∷ 0 ∷ 0 ∷ 0 ∷ 0 ∷ 0 ∷ 0 ∷ 0 ∷ 15 ∷ 0 ∷ 0 ∷ 0 ∷ 0 ∷ 0 ∷ 0 ∷ 0 ∷ 18 ∷ 0 ∷ 0 ∷ 0 ∷
+    3 ∷ 0 ∷ 0 ∷ 0 ∷ 4 ∷ 0 ∷ 0 ∷ 0 ∷ 0 ∷ 0 ∷ 0 ∷ 0 ∷ 1 ∷ 0 ∷ 0 ∷ 0 ∷ 0 ∷ 0 ∷ 0 ∷ 0 ∷ 0 ∷ 0 ∷ 0 ∷ 0 ∷ 0 ∷
+    0 ∷ 0 ∷ 0 ∷ 0 ∷ 0 ∷ 0 ∷ 0 ∷ 0 ∷ 0 ∷ 0 ∷ 0 ∷ 15 ∷ 0 ∷ 0 ∷ 0 ∷ 0 ∷ 0 ∷ 0 ∷ 0 ∷ 15 ∷ 0 ∷ 0 ∷ 0 ∷ 0 ∷ 0 ∷
+    0 ∷ 0 ∷ 15 ∷ 0 ∷ 0 ∷ 0 ∷ 0 ∷ 0 ∷ 0 ∷ 0 ∷ 65 ∷ 0 ∷ 0 ∷ 0 ∷ 3 ∷ 0 ∷ 0 ∷ 0 ∷ 8 ∷ 0 ∷ 0 ∷ 0 ∷ 0 ∷ 0 ∷ 0 ∷
+    0 ∷ 2 ∷ 0 ∷ 0 ∷ 0 ∷ 0 ∷ 0 ∷ 0 ∷ 0 ∷ 0 ∷ 0 ∷ 0 ∷ 0 ∷ 0 ∷ 0 ∷ 0 ∷ 0 ∷ 0 ∷ 0 ∷ 0 ∷ 0 ∷ 0 ∷ 0 ∷ 0 ∷ 0 ∷
+    15 ∷ 0 ∷ 0 ∷ 0 ∷ 0 ∷ 0 ∷ 0 ∷ 0 ∷ 15 ∷ 0 ∷ 0 ∷ 0 ∷ 0 ∷ 0 ∷ 0 ∷ 0 ∷ 15 ∷ 0 ∷ 0 ∷ 0 ∷ 0 ∷ 0 ∷ 0 ∷ 0 ∷ 95 ∷
+    0 ∷ 0 ∷ 0 ∷ 3 ∷ 0 ∷ 0 ∷ 0 ∷ 1 ∷ 0 ∷ 0 ∷ 0 ∷ 0 ∷ 0 ∷ 0 ∷ 0 ∷ 4 ∷ 0 ∷ 0 ∷ 0 ∷ 0 ∷ 0 ∷ 0 ∷ 0 ∷ 0 ∷ 0 ∷
+    0 ∷ 0 ∷ 0 ∷ 0 ∷ 0 ∷ 0 ∷ 0 ∷ 0 ∷ 0 ∷ 0 ∷ 0 ∷ 0 ∷ 0 ∷ 0 ∷ 15 ∷ 0 ∷ 0 ∷ 0 ∷ 0 ∷ 0 ∷ 0 ∷ 0 ∷ 15 ∷ 0 ∷ 0 ∷
+    0 ∷ 0 ∷ 0 ∷ 0 ∷ 0 ∷ 15 ∷ 0 ∷ 0 ∷ 0 ∷ 0 ∷ 0 ∷ 0 ∷ 0 ∷ 1 ∷ 0 ∷ 0 ∷ 0 ∷ 0 ∷ 0 ∷ 0 ∷ 0 ∷ 80 ∷ 0 ∷ 0 ∷ 0 ∷
+    0 ∷ 0 ∷ 0 ∷ 0 ∷ 0 ∷ 0 ∷ 0 ∷ 0 ∷ 0 ∷ 0 ∷ 0 ∷ 0 ∷ 0 ∷ 0 ∷ 0 ∷ 0 ∷ 0 ∷ 0 ∷ 0 ∷ 0 ∷ 0 ∷ 0 ∷ 0 ∷ 0 ∷ 0 ∷
+    0 ∷ 0 ∷ 0 ∷ 0 ∷ 0 ∷ 0 ∷ 0 ∷ 0 ∷ 0 ∷ 0 ∷ 0 ∷ 0 ∷ 0 ∷ 0 ∷ 0 ∷ 0 ∷ 0 ∷ 0 ∷ 0 ∷ 1 ∷ 0 ∷ 0 ∷ 0 ∷ 2 ∷ 0 ∷
+    0 ∷ 0 ∷ 200 ∷ 0 ∷ 0 ∷ 0 ∷ 0 ∷ 0 ∷ 0 ∷ 0 ∷ 0 ∷ 0 ∷ 0 ∷ 0 ∷ 0 ∷ 0 ∷ 0 ∷ 0 ∷ 0 ∷ 0 ∷ 0 ∷ 0 ∷ 0 ∷ 0 ∷ 0 ∷
+    0 ∷ 0 ∷ 0 ∷ 0 ∷ 0 ∷ 0 ∷ 0 ∷ 0 ∷ 0 ∷ 0 ∷ 0 ∷ 0 ∷ 0 ∷ 0 ∷ 0 ∷ 0 ∷ 0 ∷ 0 ∷ 0 ∷ 0 ∷ 0 ∷ 0 ∷ 0 ∷ 0 ∷ 0 ∷ []
+
+-- it is the file that a writer makes of that start and those lookups
+pub worked-written : fileOf (startTable 8 1 4 (17 ∷ 18 ∷ 65 ∷ 95 ∷ []) 15) (laid (placed (lookup 80) 0 ∷ placed (lookup 200) 2 ∷ []))
+    ≡ workedFile
+unfolding workedFile opened fileOf encode encodeAll bytesOf startNodes startNode slotsTo leafWith closest
+worked-written = refl
+
+-- `80 17 65 2` and `200 65 17 2`
+pub worked : listingOf workedFile
+    ≡ headline
+    ++ (56 ∷ 48 ∷ 32 ∷ 49 ∷ 55 ∷ 32 ∷ 54 ∷ 53 ∷ 32 ∷ 50 ∷ 10 ∷
+    50 ∷ 48 ∷ 48 ∷ 32 ∷ 54 ∷ 53 ∷ 32 ∷ 49 ∷ 55 ∷ 32 ∷ 50 ∷ 10 ∷ [])
+unfolding workedFile opened
+worked = refl
+
+-- with no waiting lookup only the header line is printed
+pub no-lookup : listingOf (take 288 (set (set (set workedFile 12 0) 24 32) 25 1)) ≡ headline
+unfolding workedFile opened
+no-lookup = refl
+
+-- `refused 7`: its first 31 bytes
+pub short : listingOf (take 31 workedFile) ≡ refusedWord ++ (55 ∷ 10 ∷ [])
+unfolding workedFile opened
+short = refl
+
+-- `refused 8`: M is 33
+pub wide : listingOf (set workedFile 0 33) ≡ refusedWord ++ (56 ∷ 10 ∷ [])
+unfolding workedFile opened
+wide = refl
+
+-- `refused 9`: one byte more
+pub longer : listingOf (workedFile ++ (0 ∷ [])) ≡ refusedWord ++ (57 ∷ 10 ∷ [])
+unfolding workedFile opened
+longer = refl
+
+-- `refused 10`: the status 4
+pub strange : listingOf (set workedFile 36 4) ≡ refusedWord ++ (49 ∷ 48 ∷ 10 ∷ [])
+unfolding workedFile opened
+strange = refl

@@ -1,0 +1,311 @@
+-- Following a lookup by the rules alone, with no pool and no validity test at each hop (`followTo`), is following it by the real step
+-- (`trip-is`). The idea: a valid table with the one lookup is valid, its Take is one of four (`does`), and each leaves the table as it was.
+-- What a listing says is then tied to the steps made: `Travels` is a journey of real Takes, `follow-travels` says that the listing's numbers
+-- are those of one, and `travels-follow` that no other numbers are. The measure: how many listed nodes are nearer to the key than the holder
+-- (crate demand). Assumes nothing.
+use mathlib.Core.Path.{_≡_, refl, sym, _∙_}
+use mathlib.Core.Bool.{Bool, true, false, cond, not}
+use mathlib.Core.List.{List, [], _∷_}
+use Prim.Native.Nat.{ℕ, zero, suc, _+_, _-_, _^_, _<_, _≤_}
+use native.Mathlib.Omega.{arith}
+use native.Mathlib.Nat.{zero-add, add-zero}
+use lib.Seq.{set-getD}
+use Rattle.marks.specs.Marks.{allTo}
+use Rattle.marks.specs.declared.Found.{Found}
+use Rattle.marks.specs.declared.Found.the-variants.{At, Nothing}
+use Rattle.rules.specs.declared.Hop.{Hop}
+use Rattle.rules.specs.declared.Hop.the-variants.{To, NoRoute}
+use Rattle.rules.specs.declared.Message.{Message}
+use Rattle.rules.specs.declared.Node.{Node}
+use Rattle.rules.specs.declared.Ring.{Ring}
+use Rattle.rules.specs.declared.Pool.{Pool}
+use Rattle.rules.specs.declared.Action.the-variants.{Take}
+use Rattle.rules.specs.declared.Refusal.the-variants as no
+use Rattle.rules.specs.InnerAsks.{Listed, Below}
+use Rattle.rules.specs.Fits.{messageFits}
+use Rattle.rules.specs.Hop.{nextHop}
+use Rattle.rules.specs.Leaf.{coversOf}
+use Rattle.rules.specs.Letters.{lookup, noLegalRoute}
+use Rattle.rules.specs.Mail.{firstFrom, firstEqual, added, removedAt, allDifferent}
+use Rattle.rules.specs.Nodes.{sidesOf, placed}
+use Rattle.rules.specs.Plans.{isReady}
+use Rattle.rules.specs.Pool.{laid, messageAt}
+use Rattle.rules.specs.Take.{planTakeLookup, planTake}
+use Rattle.pool.proofs.Laws.{mailed-quiet, mailed-send}
+use Rattle.table_type.specs.declared.Table.{Table}
+use Rattle.table_type.specs.declared.Stepped.{Stepped}
+use Rattle.table_type.specs.Table.{nodeAt, ringOf, idsOf}
+use Rattle.table.specs.Settle.{refusedOf, doneOf, carriedOut, settle}
+use Rattle.table.specs.Settled.{deadSet}
+use Rattle.table.specs.Step.{isSound, stepOf}
+use Rattle.table.specs.Valid.{validOf}
+use Rattle.table.proofs.Letters.{lookup-fits}
+use Rattle.table.proofs.Obeys.{Obeys, obeys}
+use Rattle.table.proofs.Sound.{Sound, sound, sound-valid}
+use Rattle.lookup_laws.specs.Claims.{Nearer}
+use Rattle.lookup_laws.specs.Fates.{coversAt, hopAt}
+use Rattle.lookup_laws.proofs.Tracks.{planAt}
+use Rattle.lookup_laws.proofs.Routings.{nearerListed, hop-nearer, nearer-falls, nearer-few}
+use Rattle.file_list.specs.declared.Trip.{Trip}
+use Rattle.file_list.specs.declared.Turn.{Turn}
+use Rattle.file_list.specs.declared.Turn.the-variants.{Delivers, Stops, Goes}
+use Rattle.file_list.specs.Trip.{ended, tripOf, followOf}
+use Rattle.file_list.specs.InnerFollow.{turnBy, turnOf, turnAt}
+
+-- ---- a lookup that waits alone
+
+-- the pool in which m is the only message
+abbrev pub only : Message → Pool
+only m = laid (m ∷ [])
+
+-- m is a Lookup, and the table with it alone is valid
+pub record Lone (t : Table) (m : Message) : Type 0 where
+  pub valid : validOf t (only m) ≡ true
+  pub is-lookup : m .kind ≡ 1
+
+-- a message that obeys its kind may take the place of all others
+sound-only : {t : Table} {p : Pool} → Sound t p → (m : Message) → messageFits (ringOf t) m ≡ true → Sound t (only m)
+unfolding allDifferent allTo
+sound-only {t} s m e =
+    record {
+      numbers = s .numbers;
+      listed = s .listed;
+      node = s .node;
+      blank = s .blank;
+      counted = omega arith;
+      message = first;
+      different = refl;
+    }
+  where
+    first : (q : ℕ) → q < 1 → messageFits (ringOf t) (messageAt (only m) q) ≡ true
+    first zero h = e
+    first (suc q) h = absurd (omega arith)
+
+-- each waiting Lookup of a valid table is one
+pub lone : (t : Table) (p : Pool) → validOf t p ≡ true → (q : ℕ) → q < p .count → messageAt p q .kind ≡ 1 → Lone t (messageAt p q)
+lone t p e q h k =
+    let s = sound t p e in
+    record { valid = sound-valid (sound-only s (messageAt p q) (s .message q h)); is-lookup = k }
+
+-- ---- its Take
+
+abbrev pub taken : Table → Message → Stepped
+taken t m = stepOf t (only m) 256 (Take 0)
+
+-- and by the step; the table stays as it was
+pub data Does (t : Table) (m : Message) : Turn → Type 0 where
+  stops : taken t m ≡ refusedOf t (only m) no.Status → Does t m Stops
+  delivers : taken t m ≡ doneOf t (laid []) → Does t m Delivers
+  strands : taken t m ≡ doneOf t (only (placed (noLegalRoute (m .word)) (m .dest))) → Does t m Stops
+  routes : (h : ℕ) → hopAt t (m .dest) (m .word) ≡ To h → taken t m ≡ doneOf t (only (placed (lookup (m .word)) h)) → Does t m (Goes h)
+
+stops-goes : {h : ℕ} → Stops ≡ Goes h → ⊥
+stops-goes q = let z : _≡_ {A = ℕ} 0 1 = cc in omega arith
+
+delivers-goes : {h : ℕ} → Delivers ≡ Goes h → ⊥
+delivers-goes q = let z : _≡_ {A = ℕ} 0 1 = cc in omega arith
+
+added-first : (m : Message) → added [] m ≡ m ∷ []
+unfolding added firstEqual firstFrom
+added-first m = refl
+
+module _ {t : Table} {m : Message} (l : Lone t m) where
+  take-is : taken t m ≡ settle t (only m) [] (m .dest) (planAt t (m .dest) (m .word))
+  unfolding stepOf isSound planTake removedAt
+  take-is = rw (l .valid, l .is-lookup)
+
+  does : Does t m (turnAt t (m .word) (m .dest))
+  unfolding settle carriedOut planTakeLookup turnOf
+  does = ready (isReady (nodeAt t (m .dest) .status)) refl
+    where
+      hop : isReady (nodeAt t (m .dest) .status) ≡ true → coversAt t (m .dest) (m .word) ≡ false → (x : Hop)
+          → hopAt t (m .dest) (m .word) ≡ x → Does t m (turnBy x)
+      hop r c (To h) e = routes h e (take-is ∙ rw (r, c, e, mailed-send, added-first, set-getD))
+      hop r c NoRoute e = strands (take-is ∙ rw (r, c, e, mailed-send, added-first, set-getD))
+
+      covers : isReady (nodeAt t (m .dest) .status) ≡ true → (b : Bool) → coversAt t (m .dest) (m .word) ≡ b
+          → Does t m (cond b Delivers (turnBy (hopAt t (m .dest) (m .word))))
+      covers r true c = delivers (take-is ∙ rw (r, c, mailed-quiet, set-getD))
+      covers r false c = hop r c (hopAt t (m .dest) (m .word)) refl
+
+      ready : (b : Bool) → isReady (nodeAt t (m .dest) .status) ≡ b
+          → Does t m (cond (not b) Stops (cond (coversAt t (m .dest) (m .word)) Delivers (turnBy (hopAt t (m .dest) (m .word)))))
+      ready true r = covers r (coversAt t (m .dest) (m .word)) refl
+      ready false r = stops (take-is ∙ rw r)
+
+  lone-sound : Sound t (only m)
+  lone-sound = sound t (only m) (l .valid)
+
+  lone-obeys : Obeys (ringOf t) m
+  lone-obeys = obeys (ringOf t) m (lone-sound .message 0 (omega arith))
+
+  pub lone-listed : Listed (ringOf t) (idsOf t)
+  lone-listed = lone-sound .listed
+
+  pub lone-slot : m .dest < t .n
+  lone-slot = lone-obeys .dest-in
+
+  pub lone-key : m .word < 2 ^ t .m
+  lone-key = lone-obeys .key-in (rw (l .is-lookup))
+
+  -- where it is routed it is one again, nearer to the key
+  module _ (h : ℕ) (e : hopAt t (m .dest) (m .word) ≡ To h) where
+    near : (h < t .n) × Nearer t (m .word) h (m .dest)
+    near = hop-nearer lone-sound (m .word) (m .dest) h lone-slot e
+
+    pub lone-routed : Lone t (placed (lookup (m .word)) h)
+    lone-routed =
+        let fits = lookup-fits (ringOf t) h (near .0) (m .word) lone-key in
+        record { valid = sound-valid (sound-only lone-sound _ fits); is-lookup = refl }
+
+    routed-falls : nearerListed t (m .word) h < nearerListed t (m .word) (m .dest)
+    routed-falls = nearer-falls (t .m) (t .n) (idsOf t) (m .word) h (m .dest) (near .0) (near .1)
+
+  -- and by the rules it goes on to a listed slot
+  pub lone-goes : (k i h : ℕ) → i < t .n → turnAt t k i ≡ Goes h → h < t .n
+  unfolding turnOf
+  lone-goes k i h b = ready (isReady (nodeAt t i .status))
+    where
+      hop : (x : Hop) → hopAt t i k ≡ x → turnBy x ≡ Goes h → h < t .n
+      hop (To j) e q = let d : j ≡ h = cc in rw d at (hop-nearer lone-sound k i j b e .0)
+      hop NoRoute e q = absurd (stops-goes q)
+
+      covers : (c : Bool) → cond c Delivers (turnBy (hopAt t i k)) ≡ Goes h → h < t .n
+      covers true q = absurd (delivers-goes q)
+      covers false q = hop (hopAt t i k) refl q
+
+      ready : (r : Bool) → cond (not r) Stops (cond (coversAt t i k) Delivers (turnBy (hopAt t i k))) ≡ Goes h → h < t .n
+      ready true q = covers (coversAt t i k) q
+      ready false q = absurd (stops-goes q)
+
+-- ---- following by the rules alone
+
+-- it ends at slot i, delivered or not, or goes on from another slot
+abbrev pub onward : Turn → ℕ → ℕ → (ℕ → Trip) → Trip
+onward Delivers i hops rest = ended (At i) hops
+onward Stops i hops rest = ended Nothing hops
+onward (Goes h) i hops rest = rest h
+
+-- with at most so many takes, from slot i
+unfoldable pub followTo : ℕ → Table → ℕ → ℕ → ℕ → Trip
+followTo zero t k i hops = ended Nothing hops
+followTo (suc takes) t k i hops = onward (turnAt t k i) i hops (λ h. followTo takes t k h (hops + 1))
+
+-- one turn of 64, and none
+pub turn : (t : Table) (k i hops : ℕ) → hops < 64
+    → followTo (64 - hops) t k i hops ≡ onward (turnAt t k i) i hops (λ h. followTo (64 - (hops + 1)) t k h (hops + 1))
+unfolding followTo
+turn t k i hops h = let e : 64 - hops ≡ suc (64 - (hops + 1)) = omega arith in rw e
+
+pub turn-none : (t : Table) (k i hops : ℕ) → 64 ≤ hops → followTo (64 - hops) t k i hops ≡ ended Nothing hops
+unfolding followTo
+turn-none t k i hops h = let e : 64 - hops ≡ 0 = omega arith in rw e
+
+-- it is following by the step
+pub trip-is : (n : ℕ) {t : Table} {m : Message} → Lone t m → (hops : ℕ) → tripOf n t (only m) hops ≡ followTo n t (m .word) (m .dest) hops
+unfolding tripOf followTo
+trip-is zero l hops = refl
+trip-is (suc n) {t} {m} l hops = go (turnAt t (m .word) (m .dest)) (does l) (λ h e. trip-is n (lone-routed l h e) (hops + 1))
+  where
+    go : (x : Turn) → Does t m x
+        → ((h : ℕ) → hopAt t (m .dest) (m .word) ≡ To h
+        → tripOf n t (only (placed (lookup (m .word)) h)) (hops + 1) ≡ followTo n t (m .word) h (hops + 1))
+        → tripOf (suc n) t (only m) hops ≡ onward x (m .dest) hops (λ h. followTo n t (m .word) h (hops + 1))
+    go x (stops s) on = rw s
+    go x (delivers s) on = rw s
+    go x (strands s) on = rw s
+    go x (routes h e s) on = rw s (on h e)
+
+pub follow-is : {t : Table} {m : Message} → Lone t m → followOf t m ≡ followTo 64 t (m .word) (m .dest) 0
+unfolding followOf
+follow-is l = trip-is 64 l 0
+
+-- ---- the listing's numbers, by the steps made
+
+-- the lookup m, taken again and again as the only message of the table t, ends so: at the slot whose Take delivered it, or at none, after so
+-- many Takes that routed it
+pub data Travels (t : Table) : Message → Found → ℕ → Type 0 where
+  -- refused by a node that is not ready
+  stopped : {m : Message} → taken t m ≡ refusedOf t (only m) no.Status → Travels t m Nothing 0
+  -- delivered: nothing waits
+  delivered : {m : Message} → taken t m ≡ doneOf t (laid []) → Travels t m (At (m .dest)) 0
+  -- no legal route: NoLegalRoute waits
+  stranded : {m : Message} → taken t m ≡ doneOf t (only (placed (noLegalRoute (m .word)) (m .dest))) → Travels t m Nothing 0
+  -- routed: the same Lookup waits at another slot
+  routed : {m : Message} {h hops : ℕ} {end : Found} → taken t m ≡ doneOf t (only (placed (lookup (m .word)) h))
+      → Travels t (placed (lookup (m .word)) h) end hops → Travels t m end (suc hops)
+
+-- whatever such a journey is, following tells it
+pub travels-trip : {t : Table} {m : Message} {end : Found} {count : ℕ} → Travels t m end count → (n hops : ℕ) → count < n
+    → tripOf n t (only m) hops ≡ ended end (hops + count)
+unfolding tripOf
+travels-trip w zero hops h = absurd (omega arith)
+travels-trip (stopped e) (suc n) hops h = rw (e, add-zero)
+travels-trip (delivered e) (suc n) hops h = rw (e, add-zero)
+travels-trip (stranded e) (suc n) hops h = rw (e, add-zero)
+travels-trip (routed {hops = c} e w) (suc n) hops h =
+    let sum : hops + suc c ≡ hops + 1 + c = omega arith in
+    rw (e, sum) (travels-trip w n (hops + 1) (omega arith))
+
+-- a journey, routed at most as often as listed nodes are nearer to the key
+record Journey (t : Table) (m : Message) : Type 0 where
+  end : Found
+  hops : ℕ
+  travels : Travels t m end hops
+  few : hops ≤ nearerListed t (m .word) (m .dest)
+  below : Below end (t .n)
+
+journey-in : (n : ℕ) {t : Table} {m : Message} → Lone t m → nearerListed t (m .word) (m .dest) < n → Journey t m
+journey-in zero l f = absurd (omega arith)
+journey-in (suc n) {t} {m} l f =
+    go (turnAt t (m .word) (m .dest)) (does l) (λ h e. journey-in n (lone-routed l h e) (omega (arith, routed-falls l h e)))
+  where
+    ends : (e : Found) → Below e (t .n) → Travels t m e 0 → Journey t m
+    ends e b w = record { end = e; hops = 0; travels = w; few = omega arith; below = b }
+
+    go : (x : Turn) → Does t m x → ((h : ℕ) → hopAt t (m .dest) (m .word) ≡ To h → Journey t (placed (lookup (m .word)) h)) → Journey t m
+    go x (stops s) on = ends Nothing tt (stopped s)
+    go x (delivers s) on = ends (At (m .dest)) (lone-slot l) (delivered s)
+    go x (strands s) on = ends Nothing tt (stranded s)
+    go x (routes h e s) on =
+        let j = on h e in
+        record {
+          end = j .end;
+          hops = suc (j .hops);
+          travels = routed s (j .travels);
+          few = omega (arith, j .few, routed-falls l h e);
+          below = j .below;
+        }
+
+module _ {t : Table} {m : Message} (l : Lone t m) where
+  journey : Journey t m
+  journey = journey-in (suc (nearerListed t (m .word) (m .dest))) l (omega arith)
+
+  journey-few : journey .hops < t .n
+  journey-few = omega (arith, journey .few, nearer-few (t .m) (t .n) (idsOf t) (m .word) (m .dest) (lone-slot l))
+
+  -- 64 takes are enough
+  journey-told : followOf t m ≡ ended (journey .end) (journey .hops)
+  unfolding followOf
+  journey-told =
+      let few : journey .hops < 64 = omega (arith, journey-few, lone-listed l .n-high) in
+      travels-trip (journey .travels) 64 0 few ∙ rw zero-add
+
+  -- `to` is the slot whose Take delivered it, and hops the Takes that routed it
+  pub follow-travels : Travels t m (followOf t m .end) (followOf t m .hops)
+  follow-travels = rw journey-told (journey .travels)
+
+  -- and no other journey of it is told
+  pub travels-follow : (end : Found) (hops : ℕ) → Travels t m end hops → followOf t m ≡ ended end hops
+  travels-follow end hops w =
+      let n = suc (hops + journey .hops) in
+      let told : tripOf n t (only m) 0 ≡ ended (journey .end) (journey .hops) =
+      travels-trip (journey .travels) n 0 (omega arith) ∙ rw zero-add in
+      journey-told ∙ sym told ∙ travels-trip w n 0 (omega arith) ∙ rw zero-add
+
+  -- it is routed at most n - 1 times
+  pub follow-few : followOf t m .hops < t .n
+  follow-few = rw journey-told journey-few
+
+  pub follow-below : Below (followOf t m .end) (t .n)
+  follow-below = rw journey-told (journey .below)

@@ -1,0 +1,10 @@
+pub mod Following
+pub mod Line
+pub mod Text
+pub mod Cut
+pub mod Cases
+pub mod Unique
+pub mod Runs
+pub mod Ends
+pub mod Hops
+pub mod Length

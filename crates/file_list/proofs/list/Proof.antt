@@ -1,0 +1,46 @@
+-- `listing::list` meets its contract: no room, or the listing of what the load left. Assumes nothing.
+use borrow.Author.Needs.{needs}
+use native.Mathlib.Omega.{arith}
+use Rattle.file_list.proofs.Ends.{loaded-by, lists-none, lists-done}
+use Rattle.file_list.proofs.list.Statement.{statement}
+use Rattle.file_list.proofs.list.Tie as tie
+
+returns : tie.Need-returns
+returns c =
+    let a = c .before .before .before .args in
+    lists-none (a .file .now) (a .out .now) (c .if1 .taken)
+
+no-table-requires : tie.Need-no-table-requires
+no-table-requires c κs = search needs
+
+no-pool-requires : tie.Need-no-pool-requires
+no-pool-requires c κs = search needs
+
+load-requires : tie.Need-load-requires
+load-requires c κs = search needs
+
+put-loaded-requires : tie.Need-put-loaded-requires
+put-loaded-requires c κs = (loaded-by _ _ _ _ (c .before .load .ensures), omega arith)
+
+same-length : tie.Need-same-length
+same-length c = search needs
+
+returns-2 : tie.Need-returns-2
+returns-2 c =
+    let put = c .before .before in
+    let load = put .before .before in
+    let a = load .before .before .before .before .before .before .args in
+    lists-done (a .file .now) (a .out .now) (omega arith) (load .load .result) (load .before .before .no-table .ensures)
+    (load .before .no-pool .ensures) (load .load .ensures) (put .put-loaded .ensures)
+
+pub list-spec : {M : Type 1} → statement M
+list-spec =
+    tie.close
+    (tie.spec
+    returns
+    no-table-requires
+    no-pool-requires
+    load-requires
+    put-loaded-requires
+    same-length
+    returns-2)

@@ -1,0 +1,7 @@
+pub mod Trip
+pub mod Print
+pub mod InnerPrints
+pub mod List
+pub mod InnerLine
+pub mod InnerFollow
+pub mod InnerLoaded

@@ -1,0 +1,72 @@
+-- The listing: its bytes, from the bytes of a table file. Definitions only. Assumes nothing.
+use mathlib.Core.Bool.{Bool, cond}
+use mathlib.Core.List.{List, [], _∷_, _++_}
+use Prim.Native.Nat.{ℕ, zero, suc, _+_, _/_, _%_}
+use lib.Dec.{eqb, ltb}
+use Rattle.marks.specs.declared.Found.{Found}
+use Rattle.marks.specs.declared.Found.the-variants.{At, Nothing}
+use Rattle.rules.specs.declared.Message.{Message}
+use Rattle.rules.specs.declared.Pool.{Pool}
+use Rattle.rules.specs.declared.Answer.{Answer}
+use Rattle.rules.specs.declared.Answer.the-variants.{Done, Refused}
+use Rattle.rules.specs.Numbers.{refusalNumber}
+use Rattle.rules.specs.Pool.{laid, waiting}
+use Rattle.table_type.specs.declared.Table.{Table}
+use Rattle.table_type.specs.declared.Stepped.{Stepped}
+use Rattle.table_type.specs.Start.{noTable}
+use Rattle.table_type.specs.Table.{nodeAt}
+use Rattle.file.specs.Load.{loadOf}
+use Rattle.file_list.specs.declared.Trip.{Trip}
+use Rattle.file_list.specs.Trip.{followOf}
+
+-- a number in decimal digits, of which there are at most so many
+unfoldable pub decimalTo : ℕ → ℕ → List ℕ
+decimalTo zero x = []
+decimalTo (suc more) x = let rest = decimalTo more (x / 10) in cond (ltb x 10) ((48 + x) ∷ []) (rest ++ ((48 + x % 10) ∷ []))
+
+abbrev pub decimal : ℕ → List ℕ
+decimal x = decimalTo 10 x
+
+abbrev pub space : ℕ
+space = 32
+
+abbrev pub newline : ℕ
+newline = 10
+
+-- `key from to hops`
+abbrev pub headline : List ℕ
+headline = 107 ∷ 101 ∷ 121 ∷ 32 ∷ 102 ∷ 114 ∷ 111 ∷ 109 ∷ 32 ∷ 116 ∷ 111 ∷ 32 ∷ 104 ∷ 111 ∷ 112 ∷ 115 ∷ 10 ∷ []
+
+-- `refused `
+abbrev pub refusedWord : List ℕ
+refusedWord = 114 ∷ 101 ∷ 102 ∷ 117 ∷ 115 ∷ 101 ∷ 100 ∷ 32 ∷ []
+
+-- id that delivers it, or `-`
+abbrev pub endText : Table → Found → List ℕ
+endText t (At e) = decimal (nodeAt t e .id)
+endText t Nothing = 45 ∷ []
+
+-- key; id where it waits; id that delivers it, or `-`; routings made
+abbrev pub lineWith : Table → Message → Trip → List ℕ
+lineWith t m trip =
+    decimal (m .word)
+    ++ (space ∷ (decimal (nodeAt t (m .dest) .id) ++ (space ∷ (endText t (trip .end) ++ (space ∷ (decimal (trip .hops) ++ (newline ∷ [])))))))
+
+unfoldable pub lineOf : Table → Message → List ℕ
+lineOf t m = lineWith t m (followOf t m)
+
+-- each waiting lookup, in pool order
+unfoldable pub linesOf : Table → List Message → List ℕ
+linesOf t [] = []
+linesOf t (m ∷ ms) = let rest = linesOf t ms in cond (eqb (m .kind) 1) (lineOf t m ++ rest) rest
+
+-- a refused file prints one line only
+abbrev pub printed : Answer → Stepped → List ℕ
+printed Done s = headline ++ linesOf (s .table) (waiting (s .pool))
+printed (Refused why) s = refusedWord ++ (decimal (refusalNumber why) ++ (newline ∷ []))
+
+abbrev pub printOf : Stepped → List ℕ
+printOf s = printed (s .answer) s
+
+unfoldable pub listingOf : List ℕ → List ℕ
+listingOf bs = printOf (loadOf bs noTable (laid []) 256)

@@ -1,0 +1,239 @@
+// The listing of a table file: each waiting lookup followed to its end, and printed as a line.
+ghost use mathlib.Core.Path.{_≡_};
+ghost use mathlib.Core.Bool.{true};
+ghost use mathlib.Core.List.{[], _∷_, _++_};
+ghost use Prim.Native.Nat.{_+_, _*_, _^_, _<_, _≤_};
+ghost use lib.ListN.{length};
+ghost use Rattle.rules.specs.InnerAsks.{Listed, Below};
+ghost use Rattle.rules.specs.Numbers.{refusalNumber};
+ghost use Rattle.rules.specs.Pool.{laid, waiting};
+ghost use Rattle.table_type.specs.Start.{noTable};
+ghost use Rattle.table.specs.Valid.{validOf};
+ghost use Rattle.file_list.specs.Print.{decimal, headline, refusedWord, linesOf, printOf};
+ghost use Rattle.file_list.specs.InnerPrints.{Prints};
+ghost use Rattle.file_list.specs.InnerFollow.{turnOf};
+ghost use Rattle.file_list.specs.InnerLine.{Ends, endIn, lineIn};
+ghost use Rattle.file_list.specs.List.{listOf, listedOf};
+ghost use Rattle.file_list.specs.InnerLoaded.{Loaded};
+use file::Wrote;
+use marks::Found;
+use rules::Answer;
+use rules::Hop;
+use rules::Message;
+use rules::Node;
+use rules::Pool;
+use rules::Refusal;
+use rules::Ring;
+use table_type::Stepped;
+use table_type::Table;
+
+// Where a lookup ended, if it was delivered, and how often it was routed.
+pub struct Trip {
+    pub end: Found,
+    pub hops: usize,
+}
+
+// What a node does with a lookup that it takes: delivers it, stops it (it is not ready, or there is no legal route), or routes it to
+// another slot.
+pub enum Turn {
+    Delivers,
+    Stops,
+    Goes(usize),
+}
+
+// What node i does with a lookup of k.
+fn turn_at(g: Ring, ids: &[u32; 64], dead: u64, i: usize, v: Node, k: u32) -> Turn
+    requires { ⌜ Listed g (now ids) × (i < 64) × (k < 2 ^ g .m) ⌝ }
+    ensures { λ r. ⌜ r ≡ turnOf g (now (ids .entry)) dead i v k ⌝ }
+{
+    let st = v.status;
+    if !parts::is_ready(st) {
+        return Turn::Stops;
+    }
+    if leaf::covers(g, ids, i, parts::sides_of(v), k) {
+        return Turn::Delivers;
+    }
+    let next = hop::next_hop(g, ids, dead, i, v, k);
+    match next {
+        Hop::To(h) => Turn::Goes(h),
+        Hop::NoRoute => Turn::Stops,
+    }
+}
+
+// Writes one byte.
+fn put_byte(b: &mut [u8], at: usize, x: u8) -> usize
+    requires { ⌜ at + 1 ≤ length (now b) ⌝ }
+    ensures { λ r. ⌜ Prints (now (b .entry)) at (x ∷ []) r (now (b .exit)) ⌝ }
+{
+    b[at] = x;
+    at + 1
+}
+
+// Writes a text.
+fn put_text(b: &mut [u8], at: usize, text: &[u8]) -> usize
+    requires { ⌜ at + length (now text) ≤ length (now b) ⌝ }
+    ensures { λ r. ⌜ Prints (now (b .entry)) at (now (text .entry)) r (now (b .exit)) ⌝ }
+{
+    let n = bytes::copy(text, &mut b[at..]);
+    at + n
+}
+
+// Writes a number in decimal digits: those of its tenth, and its last.
+fn put_number(b: &mut [u8], at: usize, x: u32) -> usize
+    requires { ⌜ at + length (decimal x) ≤ length (now b) ⌝ }
+    ensures { λ r. ⌜ Prints (now (b .entry)) at (decimal x) r (now (b .exit)) ⌝ }
+{
+    if x < 10 {
+        return put_byte(b, at, 48 + x as u8);
+    }
+    let next = put_number(b, at, x / 10);
+    put_byte(b, next, 48 + (x % 10) as u8)
+}
+
+// Writes a number, and the byte that ends its field.
+fn put_field(b: &mut [u8], at: usize, x: u32, mark: u8) -> usize
+    requires { ⌜ at + length (decimal x) + 1 ≤ length (now b) ⌝ }
+    ensures { λ r. ⌜ Prints (now (b .entry)) at (decimal x ++ (mark ∷ [])) r (now (b .exit)) ⌝ }
+{
+    let next = put_number(b, at, x);
+    put_byte(b, next, mark)
+}
+
+// Writes the id of the slot that delivered a lookup, or `-`.
+fn put_end(b: &mut [u8], at: usize, ids: &[u32; 64], end: Found) -> usize
+    requires { ⌜ Below end 64 × (at + length (endIn (now ids) end) ≤ length (now b)) ⌝ }
+    ensures { λ r. ⌜ Prints (now (b .entry)) at (endIn (now (ids .entry)) end) r (now (b .exit)) ⌝ }
+{
+    match end {
+        Found::At(e) => {
+            let id = ids[e];
+            put_number(b, at, id)
+        }
+        Found::Nothing => put_byte(b, at, 45),
+    }
+}
+
+// Writes the line of a lookup that ended so.
+fn put_line(b: &mut [u8], at: usize, ids: &[u32; 64], m: Message, trip: Trip) -> usize
+    requires { ⌜ (m .dest < 64) × Ends trip × (at + length (lineIn (now ids) m trip) ≤ length (now b)) ⌝ }
+    ensures { λ r. ⌜ Prints (now (b .entry)) at (lineIn (now (ids .entry)) m trip) r (now (b .exit)) ⌝ }
+{
+    let i = m.dest as usize;
+    let own = ids[i];
+    let end = trip.end;
+    let a1 = put_field(b, at, m.word, 32);
+    let a2 = put_field(b, a1, own, 32);
+    let a3 = put_end(b, a2, ids, end);
+    let a4 = put_byte(b, a3, 32);
+    put_field(b, a4, trip.hops as u32, 10)
+}
+
+// Follows each waiting lookup, in pool order, as the only message of the table, with no other step, and writes its line: by the rules alone, with no
+// pool and no test of validity at each hop. The table is looked at here alone, since a call for each lookup would copy it.
+fn follow(b: &mut [u8], start: usize, t: Table, p: Pool) -> usize
+    requires { ⌜ (validOf t p ≡ true) × (start + 36 * 256 ≤ length (now b)) ⌝ }
+    ensures { λ r. ⌜ Prints (now (b .entry)) start (linesOf t (waiting p)) r (now (b .exit)) ⌝ }
+{
+    let g = table_type::ring_of(t);
+    let ids = table_type::ids(t);
+    let dead = table_settled::dead_set(t);
+    let n = p.count;
+    let mut at = start;
+    let mut q: usize = 0;
+    'lookups: while q < n {
+        let m = p.places[q];
+        if m.kind == 1 {
+            let from = m.dest as usize;
+            let mut i = from;
+            let mut hops: usize = 0;
+            let mut end = Found::Nothing;
+            'hops: while hops < 64 {
+                let v = t.nodes[i];
+                let turn = turn_at(g, &ids, dead, i, v, m.word);
+                match turn {
+                    Turn::Delivers => {
+                        end = Found::At(i);
+                        break 'hops;
+                    }
+                    Turn::Stops => break 'hops,
+                    Turn::Goes(h) => {
+                        i = h;
+                        hops += 1;
+                    }
+                }
+            }
+            at = put_line(b, at, &ids, m, Trip { end, hops });
+        }
+        q += 1;
+    }
+    at
+}
+
+// Writes the listing of a loaded table: the header line, and the line of each waiting lookup.
+fn print(t: Table, p: Pool, out: &mut [u8]) -> usize
+    requires { ⌜ (validOf t p ≡ true) × (16384 ≤ length (now out)) ⌝ }
+    ensures { λ r. ⌜ Prints (now (out .entry)) 0 (headline ++ linesOf t (waiting p)) r (now (out .exit)) ⌝ }
+{
+    let at = put_text(out, 0, b"key from to hops\n");
+    follow(out, at, t, p)
+}
+
+// Writes the line of a refused file.
+fn put_refused(b: &mut [u8], why: Refusal) -> usize
+    requires { ⌜ 16384 ≤ length (now b) ⌝ }
+    ensures { λ r. ⌜ Prints (now (b .entry)) 0 (refusedWord ++ (decimal (refusalNumber why) ++ (10 ∷ []))) r (now (b .exit)) ⌝ }
+{
+    let number = parts::answer_number(Answer::Refused(why));
+    let at = put_text(b, 0, b"refused ");
+    put_field(b, at, number, 10)
+}
+
+// Writes the listing of what a load left.
+fn put_loaded(b: &mut [u8], s: Stepped) -> usize
+    requires { ⌜ Loaded s × (16384 ≤ length (now b)) ⌝ }
+    ensures { λ r. ⌜ Prints (now (b .entry)) 0 (printOf s) r (now (b .exit)) ⌝ }
+{
+    let answer = s.answer;
+    match answer {
+        Answer::Done => print(s.table, s.pool, b),
+        Answer::Refused(why) => put_refused(b, why),
+    }
+}
+
+// The table of no node.
+fn no_table() -> Table
+    ensures { λ r. ⌜ r ≡ noTable ⌝ }
+{
+    let none = table_type::not_started(Refusal::Invalid);
+    none.table
+}
+
+// The pool in which nothing waits.
+fn no_pool() -> Pool
+    ensures { λ r. ⌜ r ≡ laid [] ⌝ }
+{
+    let none = parts::blank_message();
+    Pool {
+        count: 0,
+        places: [none; 256],
+    }
+}
+
+// Writes the listing of a file into the first bytes of a buffer, and tells how many: of a table file its header line and a line for each
+// waiting lookup, of any other file one line with the number of its refusal. 11 for a buffer of fewer than 16,384 bytes, which stays as it is.
+pub fn list(file: &[u8], out: &mut [u8]) -> Wrote
+    ensures { λ r. ⌜ (r ≡ listOf (now (file .entry)) (now (out .entry))) × (now (out .exit) ≡ listedOf (now (file .entry)) (now (out .entry))) ⌝ }
+{
+    if out.len() < 16384 {
+        return Wrote {
+            answer: Answer::Refused(Refusal::NoRoom),
+            count: 0,
+        };
+    }
+    let s = file_read::load(file, no_table(), no_pool(), 256);
+    let count = put_loaded(out, s);
+    Wrote {
+        answer: Answer::Done,
+        count,
+    }
+}

@@ -1,9 +1,0 @@
-pub mod Holder
-pub mod Holds
-pub mod Cover
-pub mod Few
-pub mod Beside
-pub mod Answers
-pub mod Proved
-pub mod Unique
-pub mod Worked

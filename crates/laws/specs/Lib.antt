@@ -1,5 +1,0 @@
-pub mod Best
-pub mod Closest
-pub mod Steps
-pub mod Leaf
-pub mod Hop

@@ -1,1 +1,0 @@
-// Laws of the rules' definitions, for whoever uses them: in specs/, no code.

@@ -1,0 +1,11 @@
+pub mod Stands
+pub mod Tracks
+pub mod Routings
+pub mod Joined
+pub mod Holder
+pub mod Taking
+pub mod Hops
+pub mod Arrives
+pub mod Limits
+pub mod Unheld
+pub mod Proved

@@ -1,0 +1,50 @@
+-- Proved, by name: each statement of Demand (demand 3), then each of Joining (one holder while others are joining). Assumes nothing.
+use Rattle.table.proofs.Sound.{sound}
+use Rattle.lookup_laws.specs.Claims.{EveryLookup, FatesHold, GoesNearer, FewRoutings, SettledArrives, TieBelow, CoversNearest}
+use Rattle.lookup_laws.specs.Joining.{OneHolder, HolderNearest, SettledFlanked, SomeUnheld, SettledHeld, SettledBeside}
+use Rattle.lookup_laws.proofs.Stands as stands
+use Rattle.lookup_laws.proofs.Tracks as tracks
+use Rattle.lookup_laws.proofs.Routings as routings
+use Rattle.lookup_laws.proofs.Arrives as arrives
+use Rattle.lookup_laws.proofs.Joined as joined
+use Rattle.lookup_laws.proofs.Holder as holder
+use Rattle.lookup_laws.proofs.Unheld as unheld
+
+pub every-lookup : EveryLookup
+every-lookup t p q e h one = stands.lookup-at (sound t p e) q h one
+
+pub fates-hold : FatesHold
+fates-hold = tracks.tracked
+
+pub goes-nearer : GoesNearer
+goes-nearer = routings.goes-nearer
+
+pub few-routings : FewRoutings
+few-routings = routings.few-routings
+
+pub settled-arrives : SettledArrives
+settled-arrives = arrives.settled-arrives
+
+pub tie-below-key : TieBelow
+tie-below-key = holder.tie-below-key
+
+pub covers-nearest-ready : CoversNearest
+covers-nearest-ready = holder.covers-nearest-ready
+
+pub one-holder : OneHolder
+one-holder = joined.one-holder
+
+pub holder-nearest : HolderNearest
+holder-nearest = joined.holder-nearest
+
+pub settled-flanked : SettledFlanked
+settled-flanked = holder.settled-flanked
+
+pub some-unheld : SomeUnheld
+some-unheld = unheld.some-unheld
+
+pub settled-held : SettledHeld
+settled-held = holder.settled-held
+
+pub settled-beside : SettledBeside
+settled-beside = holder.settled-beside

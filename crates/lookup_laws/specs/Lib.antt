@@ -1,0 +1,4 @@
+pub mod Journey
+pub mod Fates
+pub mod Claims
+pub mod Joining

@@ -1,4 +1,0 @@
-pub mod Places
-pub mod Gaps
-pub mod Fresh
-pub mod Chain

@@ -1,0 +1,5 @@
+pub mod Bools
+pub mod Bits
+pub mod Slots
+pub mod Laws
+pub mod Machine

@@ -1,0 +1,9 @@
+pub mod CountLaws
+pub mod ByCase
+pub mod Truth
+pub mod Plain
+pub mod Asked
+pub mod Proved
+pub mod Unique
+pub mod Cases
+pub mod Laws

@@ -1,0 +1,126 @@
+// Lookups and joins: the actions Lookup and Join, and the taking of a Lookup (kind 1) and of a JoinRequest (kind 2).
+ghost use mathlib.Core.Path.{_≡_};
+ghost use Prim.Native.Nat.{ℕ, _^_, _<_};
+ghost use Rattle.rules.specs.InnerAsks.{Listed};
+ghost use Rattle.rules.specs.Letters.{lookup, joinRequest, joinReply, noLegalRoute};
+ghost use Rattle.rules.specs.Actions.{planLookup, planJoin};
+ghost use Rattle.rules.specs.Take.{forwardPlan, planTakeLookup, planTakeJoinRequest};
+use rules::Hop;
+use rules::Message;
+use rules::Node;
+use rules::Plan;
+use rules::Planned;
+use rules::Refusal;
+use rules::Ring;
+use rules::Sides;
+use rules::Status;
+
+pub fn lookup_of(k: u32) -> Message
+    ensures { λ r. ⌜ r ≡ lookup k ⌝ }
+{
+    parts::write_letter(1, k, 0, 0, 0, parts::no_sides(), 0)
+}
+
+pub fn no_legal_route(k: u32) -> Message
+    ensures { λ r. ⌜ r ≡ noLegalRoute k ⌝ }
+{
+    parts::write_letter(6, k, 0, 0, 0, parts::no_sides(), 0)
+}
+
+pub fn join_request(j: u32, routing: u64) -> Message
+    ensures { λ r. ⌜ r ≡ joinRequest j routing ⌝ }
+{
+    parts::write_letter(2, j, 0, 0, routing, parts::no_sides(), 0)
+}
+
+pub fn join_reply(routing: u64, owner: u32, s: Sides) -> Message
+    ensures { λ r. ⌜ r ≡ joinReply routing owner s ⌝ }
+{
+    parts::write_letter(3, 0, 0, owner, routing, s, 0)
+}
+
+// Lookup(i, k): `waits` says whether that Lookup waits.
+pub fn plan_lookup(waits: bool, i: usize, k: u32, v: Node) -> Planned
+    ensures { λ r. ⌜ r ≡ planLookup waits i k v ⌝ }
+{
+    if waits {
+        return Planned::No(Refusal::Waits);
+    }
+    Planned::Go(parts::send_plan(v, lookup_of(k), i))
+}
+
+// Join(i, seed): `waits` says whether a JoinRequest of i waits, and u is the seed's node.
+pub fn plan_join(waits: bool, i: u32, v: Node, seed: usize, u: Node) -> Planned
+    ensures { λ r. ⌜ r ≡ planJoin waits i v seed u ⌝ }
+{
+    let s = v.status;
+    let other = u.status;
+    if !(parts::is_dead(s) & parts::is_ready(other)) {
+        return Planned::No(Refusal::Status);
+    }
+    if waits {
+        return Planned::No(Refusal::Waits);
+    }
+    if !leaf::empty(parts::sides_of(v)) {
+        return Planned::No(Refusal::LeafSet);
+    }
+    let next = parts::with_status(v, Status::Wait);
+    Planned::Go(parts::send_plan(next, join_request(i, 0), seed))
+}
+
+// A message to the next hop, or NoLegalRoute of k to i itself.
+pub fn forward(next: Hop, v: Node, m: Message, k: u32, i: usize) -> Plan
+    ensures { λ r. ⌜ r ≡ forwardPlan next v m k i ⌝ }
+{
+    let Hop::To(h) = next else {
+        return parts::send_plan(v, no_legal_route(k), i);
+    };
+    parts::send_plan(v, m, h)
+}
+
+// The taking of a Lookup of k at node i.
+pub fn plan_take_lookup(g: Ring, ids: &[u32; 64], dead: u64, i: usize, v: Node, k: u32) -> Planned
+    requires { ⌜ Listed g (now ids) × (i < 64) × (k < 2 ^ g .m) ⌝ }
+    ensures { λ r. ⌜ r ≡ planTakeLookup g (now (ids .entry)) dead i v k ⌝ }
+{
+    let s = v.status;
+    if !parts::is_ready(s) {
+        return Planned::No(Refusal::Status);
+    }
+    if leaf::covers(g, ids, i, parts::sides_of(v), k) {
+        return Planned::Go(parts::quiet_plan(v));
+    }
+    let next = hop::next_hop(g, ids, dead, i, v, k);
+    Planned::Go(forward(next, v, lookup_of(k), k, i))
+}
+
+// The taking of a JoinRequest of node j at node i.
+pub fn plan_take_join_request(
+    g: Ring,
+    ids: &[u32; 64],
+    dead: u64,
+    i: usize,
+    v: Node,
+    j: u32,
+    routing: u64,
+) -> Planned
+    requires { ⌜ Listed g (now ids) × (i < 64) × (j < 64) ⌝ }
+    ensures { λ r. ⌜ r ≡ planTakeJoinRequest g (now (ids .entry)) dead i v j routing ⌝ }
+{
+    let s = v.status;
+    if !parts::is_ready(s) {
+        return Planned::No(Refusal::Status);
+    }
+    let own = parts::sides_of(v);
+    let from = j as usize;
+    if marks::is_in(leaf::content(own, i), from) {
+        return Planned::No(Refusal::Partner);
+    }
+    let k = ids[from];
+    if leaf::covers(g, ids, i, own, k) {
+        return Planned::Go(parts::send_plan(v, join_reply(routing, i as u32, own), from));
+    }
+    let next = hop::next_hop(g, ids, dead, i, v, k);
+    let m = join_request(j, marks::joined(routing, v.routing));
+    Planned::Go(forward(next, v, m, k, i))
+}

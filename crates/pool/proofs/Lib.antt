@@ -1,0 +1,9 @@
+pub mod Equal
+pub mod Laid
+pub mod Sending
+pub mod NewOnes
+pub mod Laws
+pub mod Places
+pub mod Gaps
+pub mod Fresh
+pub mod Chain

@@ -1,0 +1,2 @@
+pub mod InnerSending
+pub mod InnerMix

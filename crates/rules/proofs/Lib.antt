@@ -1,0 +1,6 @@
+pub mod Best
+pub mod Closest
+pub mod Steps
+pub mod Leaf
+pub mod Hops
+pub mod Cases

@@ -1,9 +1,0 @@
-// The listing of a file, printed: for the programs that list.
-use libc::STDOUT_FILENO;
-
-pub fn show(file: &[u8]) {
-    let mut out = [0u8; 16384];
-    let wrote = listing::list(file, &mut out);
-    let count = wrote.count;
-    io::write_all(STDOUT_FILENO, &out[..count]);
-}

@@ -1,0 +1,146 @@
+-- What every step keeps, proved. A done step writes one node by a fine plan, so the ids stay and the node obeys its rules; what waits
+-- afterwards is what waited, less the message taken, and what the plan added where no equal waits. Assumes nothing.
+use mathlib.Core.Path.{_≡_, refl}
+use mathlib.Core.Logic.{_⊎_, inl, inr}
+use mathlib.Core.Bool.{true}
+use mathlib.Core.List.{List}
+use Prim.Native.Nat.{ℕ, _^_, _<_, _≤_}
+use native.Mathlib.Omega.{arith}
+use lib.Dec.{ltb}
+use lib.ListN.{length}
+use lib.Seq.{set-out, getD-set-same, getD-set-other, map-set-same}
+use borrow.Author.Tests.{ltb-true}
+use Rattle.marks.proofs.Bools.{and-right, lt-or-le, eq-or-ne}
+use Rattle.rules.specs.declared.Node.{Node}
+use Rattle.rules.specs.declared.Message.{Message}
+use Rattle.rules.specs.declared.Pool.{Pool}
+use Rattle.rules.specs.declared.Plan.{Plan}
+use Rattle.rules.specs.declared.Action.{Action}
+use Rattle.rules.specs.declared.Action.the-variants.{Lookup, Join, RequestLease, LeaseExpired, GrantExpired, Take}
+use Rattle.rules.specs.Actions.{waits, joinWaits}
+use Rattle.rules.specs.Fits.{nodeFits}
+use Rattle.rules.specs.Letters.{lookup}
+use Rattle.rules.specs.Mail.{removedAt}
+use Rattle.rules.specs.Nodes.{noNode, placed}
+use Rattle.rules.specs.Plans.{mailed}
+use Rattle.rules.specs.Pool.{messageAt, waiting}
+use Rattle.table_type.specs.declared.Table.{Table}
+use Rattle.table.specs.Settled.{deadSet}
+use Rattle.table.specs.Step.{inRange}
+use Rattle.table_type.specs.Table.{nodeAt, withNode, idOf, idsOf, ringOf}
+use Rattle.pool.proofs.Laws.{All, all-at, all-index, all-removed, all-mailed, waiting-at, waiting-short, laid-at, waiting-laid}
+use Rattle.pool.proofs.Laws.{Apart, apart-different, apart-removed, apart-mailed}
+use Rattle.table.proofs.Nodes.{NodeRules, node-rules}
+use Rattle.table.proofs.Obeys.{obeys}
+use Rattle.table.proofs.Sound.{Sound, sound-valid}
+use Rattle.table.specs.Claims.{KeepsValid, SameRing, KeepsRing, RefusalKeeps}
+use Rattle.table.proofs.By.{slotOf, remainingOf, plannedOf, DoneWith, leavesOf, slot-in-range, by-step, step-refused, step-done}
+use Rattle.table.proofs.Comes.{go-comes}
+use Rattle.table.proofs.Plans.{Fits, FinePlan, FinePlanned, fine-fits}
+use Rattle.table.proofs.Plans.{fine-lookup, fine-join, fine-request-lease, fine-lease-expired, fine-grant-expired}
+use Rattle.table.proofs.Takes.{fine-take}
+
+-- ---- every plan is fine
+
+module _ {t : Table} {p : Pool} (s : Sound t p) where
+  listed-rules : (i : ℕ) → i < t .n → NodeRules (ringOf t) i (nodeAt t i)
+  listed-rules i h = node-rules (ringOf t) i (nodeAt t i) (s .node i h)
+
+  planned-fine : (a : Action) → inRange t p a ≡ true → FinePlanned (ringOf t) (slotOf p a) (nodeAt t (slotOf p a)) (plannedOf t p a)
+  planned-fine (Lookup i k) e =
+      let h = slot-in-range s (Lookup i k) e in
+      fine-lookup h (listed-rules i h) (waits (waiting p) (placed (lookup k) i)) k (ltb-true k (2 ^ t .m) (and-right (ltb i (t .n)) _ e))
+  planned-fine (Join i seed) e =
+      let h = slot-in-range s (Join i seed) e in
+      fine-join h (listed-rules i h) (joinWaits (waiting p) i) seed (nodeAt t seed) (ltb-true seed (t .n) (and-right (ltb i (t .n)) _ e))
+  planned-fine (RequestLease i) e =
+      let h = slot-in-range s (RequestLease i) e in
+      fine-request-lease h (listed-rules i h) (idsOf t)
+  planned-fine (LeaseExpired i j) e =
+      let h = slot-in-range s (LeaseExpired i j) e in
+      fine-lease-expired h (listed-rules i h) (idsOf t) j
+  planned-fine (GrantExpired i j) e =
+      let h = slot-in-range s (GrantExpired i j) e in
+      fine-grant-expired h (listed-rules i h) j (nodeAt t j)
+  planned-fine (Take place) e =
+      let o = obeys (ringOf t) (messageAt p place) (s .message place (ltb-true place (p .count) e)) in
+      fine-take (s .listed) (o .dest-in) (listed-rules (messageAt p place .dest) (o .dest-in)) (deadSet t) o
+
+pub done-fine : {t : Table} {p : Pool} {len : ℕ} {a : Action} {x : Plan} → DoneWith t p len a x
+    → FinePlan (ringOf t) (slotOf p a) (nodeAt t (slotOf p a)) x
+done-fine {a = a} {x = x} d = go-comes (planned-fine (d .sound) a (d .in-range)) x (d .plan)
+
+-- ---- one node written
+
+-- what stands at a slot afterwards: what was written there, or what stood
+pub written : (C : Node → Type 0) (t : Table) (i : ℕ) (v : Node) (s : ℕ) → (s ≡ i → C v) → C (nodeAt t s) → C (nodeAt (withNode t i v) s)
+written C t i v s new old = go (eq-or-ne s i) (lt-or-le i (length (t .nodes)))
+  where
+    go : (s ≡ i) ⊎ (s ≡ i → ⊥) → (i < length (t .nodes)) ⊎ (length (t .nodes) ≤ i) → C (nodeAt (withNode t i v) s)
+    go (inr d) any = rw (getD-set-other (t .nodes) i s v noNode d) old
+    go (inl e) (inl l) = rw (e, getD-set-same (t .nodes) i v noNode l) (new e)
+    go (inl e) (inr l) = rw (set-out (t .nodes) i v l) old
+
+pub written-ids : (t : Table) (i : ℕ) (v : Node) → v .id ≡ nodeAt t i .id → idsOf (withNode t i v) ≡ idsOf t
+written-ids t i v e = map-set-same idOf (t .nodes) i v noNode e
+
+-- ---- the messages that wait when additions begin
+
+by-left : (C : List Message → Type 0) (p : Pool) (a : Action) → C (waiting p) → ((place : ℕ) → C (removedAt (waiting p) place))
+    → C (remainingOf p a)
+by-left C p (Lookup i k) all less = all
+by-left C p (Join i seed) all less = all
+by-left C p (RequestLease i) all less = all
+by-left C p (LeaseExpired i j) all less = all
+by-left C p (GrantExpired i j) all less = all
+by-left C p (Take place) all less = less place
+
+module _ {t : Table} {p : Pool} (s : Sound t p) (a : Action) where
+  pub waiting-fit : All (Fits (ringOf t)) (waiting p)
+  waiting-fit =
+      all-index (waiting p)
+      (λ q l. let k : q < p .count = omega (arith, waiting-short p) in rw (waiting-at p q k) (s .message q k))
+
+  left-fit : All (Fits (ringOf t)) (remainingOf p a)
+  left-fit = by-left (All (Fits (ringOf t))) p a waiting-fit (λ place. all-removed place waiting-fit)
+
+  left-apart : Apart (remainingOf p a)
+  left-apart =
+      let apart : Apart (waiting p) = apart-different (waiting p) .1 (s .different) in
+      by-left Apart p a apart (λ place. apart-removed place apart)
+
+-- ---- a done step
+
+module _ {t : Table} {p : Pool} {len : ℕ} {a : Action} {x : Plan} (d : DoneWith t p len a x) where
+  pub done-sound : Sound (leavesOf t p a x .table) (leavesOf t p a x .pool)
+  done-sound =
+      let s = d .sound in
+      let fine = done-fine d in
+      let i = slotOf p a in
+      let zs = mailed x (remainingOf p a) in
+      let fit : All (Fits (ringOf t)) zs = all-mailed (fine .mail) (left-fit s a) in
+      let apart : Apart zs = apart-mailed x (left-apart s a) in
+      record {
+        numbers = s .numbers;
+        listed = rw (written-ids t i (x .node) (fine .same-id)) (s .listed);
+        node = λ q h. written (λ v. nodeFits (ringOf t) q v ≡ true) t i (x .node) q (λ e. rw e (fine-fits fine)) (s .node q h);
+        blank = λ q l h. written (λ v. v ≡ noNode) t i (x .node) q (λ e. absurd (omega (arith, d .slot-in))) (s .blank q l h);
+        counted = d .room;
+        message = λ q l. rw (laid-at zs q l) (all-at fit q l);
+        different = rw (waiting-laid zs) (apart-different zs .0 apart);
+      }
+
+  pub done-ring : SameRing t (leavesOf t p a x .table)
+  done-ring = record { m = refl; l = refl; n = refl; ids = written-ids t (slotOf p a) (x .node) (done-fine d .same-id) }
+
+-- ---- what Keeps states
+
+pub keeps-valid : KeepsValid
+keeps-valid t p len a e = let r = step-done t p len a e in rw (r .2) (sound-valid (done-sound (r .1)))
+
+pub keeps-ring : KeepsRing
+keeps-ring t p len a =
+    by-step (λ s. SameRing t (s .table)) t p len a (λ why r. record { m = refl; l = refl; n = refl; ids = refl }) (λ x d. done-ring d)
+
+pub refusal-keeps : RefusalKeeps
+refusal-keeps t p len a why e = step-refused t p len a why e .1

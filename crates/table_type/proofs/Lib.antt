@@ -1,0 +1,3 @@
+pub mod IdLaws
+pub mod Starts
+pub mod Laws

@@ -1,0 +1,2 @@
+pub mod InnerAlone
+pub mod InnerNodes

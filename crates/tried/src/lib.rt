@@ -1,1 +1,0 @@
-// A join, computed by the checker from the definitions: in specs/, no code.

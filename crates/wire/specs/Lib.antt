@@ -1,3 +1,0 @@
-pub mod Wire
-pub mod Unique
-pub mod Kept
