@@ -1,4 +1,4 @@
-/* The bench for C: five calls on table files (docs/FORMAT.md). Link target/staticlib/libabi.a, which `rt staticlib abi` makes (x86-64).
+/* The bench for C: five calls on table files (docs/FORMAT.md). Link target/staticlib/libface_c.a, which `rt staticlib face_c` makes (x86-64).
  *
  * Every call answers one 64-bit word. Its low 32 bits are the number: 0 done, 1 to 11 refused (docs/REFUSALS.md). Its high 32 bits
  * are the count of bytes written to the start of `out`. Where the number is not 0 the count is 0 and `out` is untouched; where it is 0,

@@ -58,7 +58,7 @@ fn inverse(bytes: &[u8]) -> bool {
 #[test]
 fn corpus_there_and_back() {
     let [asked, told] = ["stdin", "stdout"]
-        .map(|name| fs::read(format!("{}/../crates/driver/{name}", env!("CARGO_MANIFEST_DIR"))).unwrap());
+        .map(|name| fs::read(format!("{}/../crates/run_driver/{name}", env!("CARGO_MANIFEST_DIR"))).unwrap());
     let (asked, told) = (bodies(&asked), bodies(&told));
     assert_eq!(asked.len(), told.len());
     let mut loaded = 0;

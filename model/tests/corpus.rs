@@ -12,7 +12,7 @@ use std::collections::BTreeSet;
 type Case = (&'static str, u32, u32);
 
 /// The numbers of 01, "Actions" and "Take, by kind". That there are no others is proved in
-/// `crates/keeps/specs/Numbers.antt` (`step-numbers`, which has 0, 1 and 10 for all, and `take-kind-6`, that 0 is
+/// `crates/table_type/specs/Numbers.antt` (`step-numbers`, which has 0, 1 and 10 for all, and `take-kind-6`, that 0 is
 /// not answered there). 1 is left out where the place is in range, and 10, for a file that loads has a valid table.
 const NUMBERS: [(&str, u32, &[u32]); 14] = [
     ("Lookup", 0, &[0, 1, 3, 6]),
@@ -33,7 +33,7 @@ const NUMBERS: [(&str, u32, &[u32]); 14] = [
 
 /// The requests or replies of a stored file, without their length words.
 fn stored(name: &str) -> Vec<Vec<u8>> {
-    let path = format!("{}/../crates/driver/{name}", env!("CARGO_MANIFEST_DIR"));
+    let path = format!("{}/../crates/run_driver/{name}", env!("CARGO_MANIFEST_DIR"));
     let bytes = std::fs::read(path).expect("the corpus is there");
     let mut rest = &bytes[..];
     let mut bodies = Vec::new();
