@@ -3,7 +3,7 @@
 use crate::args::{Given, Opt};
 use crate::session::Session;
 use crate::trouble::Trouble;
-use crate::{ask, check, table_commands, try_commands, water};
+use crate::{ask, check, page, sheet, table_commands, try_commands, water};
 
 pub struct Command {
     pub name: &'static str,
@@ -14,6 +14,7 @@ pub struct Command {
     pub run: fn(&mut Session, &Given) -> Result<(), Trouble>,
 }
 
+/// `-o` of every command.
 const OUT: Opt = Opt {
     name: "-o",
     value: Some("FILE"),
@@ -123,6 +124,24 @@ pub const COMMANDS: &[Command] = &[
             says: "keeps the records in FILE from one run to the next; made where it is not there",
         }],
         run: water::water,
+    },
+    Command {
+        name: "page",
+        usage: "TABLE [ACTIONS] [-k] [-o FILE]",
+        says: "one page, to open in a browser and to print: the ring, step by step",
+        help: "ACTIONS as for `do`. The page needs no network and nothing else. It opens at the first step, or by #last at the last, and\n\
+               prints the step that is shown as one A4 sheet, with the checksum of the table file's bytes. A plan with a refused\n\
+               action has its page too, which shows why; the status is 1 then.",
+        options: &[OUT, KEEP_GOING],
+        run: page::page,
+    },
+    Command {
+        name: "print",
+        usage: "PAGE [--step N] [-o FILE]",
+        says: "prints a page as one A4 sheet (PDF), by the browser chromium",
+        help: "Any browser prints the page as well. The last step is printed where none is named.",
+        options: &[OUT, Opt { name: "--step", value: Some("N"), says: "the step that is shown; 0 is the table before the plan" }],
+        run: sheet::print,
     },
     Command {
         name: "picture",

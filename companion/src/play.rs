@@ -21,6 +21,8 @@ pub struct Step {
     pub refusal: Option<Refusal>,
     /// What a done step changed.
     pub changes: Vec<String>,
+    /// The table after it, done or refused.
+    pub after: Table,
 }
 
 /// A line of the plan, its steps and how it ended.
@@ -97,15 +99,21 @@ impl<'a> Play<'a> {
         let reason = Why::new(&self.table).refused(words, reply.number);
         let written = action::written(words, &self.names);
         let refusal = Some(Refusal { number: reply.number, of: String::new(), reason });
-        Ok(Step { words: written, sentence: String::new(), refusal, changes: vec![] })
+        Ok(Step {
+            words: written,
+            sentence: String::new(),
+            refusal,
+            changes: vec![],
+            after: self.table.clone(),
+        })
     }
 
     fn made(&mut self, words: ActionWords, result: &[u8]) -> Result<Step, Trouble> {
         let after = file::known(result)?;
         let sentence = tell::step(words, &self.table, &after);
         let changes = change::between(&self.table, &after);
-        self.table = after;
-        Ok(Step { words: action::written(words, &self.names), sentence, refusal: None, changes })
+        self.table = after.clone();
+        Ok(Step { words: action::written(words, &self.names), sentence, refusal: None, changes, after })
     }
 
     /// The oldest message whose step is done, until none is.
