@@ -1,117 +1,158 @@
-//! The subcommands.
+//! The commands, one row each: name, words, what it says, help, options, and what runs it.
 
-use crate::action;
-use crate::driver::{Driver, Start};
-use crate::file;
-use crate::parse::{self, Text};
-use crate::picture::{svg, Scene};
-use crate::print;
-use crate::rehearse::{table, Rehearsal};
-use crate::survey::Survey;
-use crate::table::{Names, Table};
-use crate::trouble::{Fault, Trouble};
-use crate::words::Line;
-use std::fs;
-use std::io::{self, Read, Write};
+use crate::args::{Given, Opt};
+use crate::session::Session;
+use crate::trouble::Trouble;
+use crate::{ask, check, page, sheet, table_commands, try_commands, water};
 
-/// Prints a table file as text; a refused one too where its layout can be read.
-pub fn text(program: &str, name: &str) -> Result<(), Trouble> {
-    let bytes = read(name)?;
-    let reply = Driver::run(program)?.load(&bytes)?;
-    if let Some(table) = file::read(&bytes) {
-        write("-", print::table(&table).as_bytes())?;
-    }
-    reply.done().map(|_| ())
+pub struct Command {
+    pub name: &'static str,
+    pub usage: &'static str,
+    pub says: &'static str,
+    pub help: &'static str,
+    pub options: &'static [Opt],
+    pub run: fn(&mut Session, &Given) -> Result<(), Trouble>,
 }
 
-/// Writes the table file of a text; of a refused table too.
-pub fn file(program: &str, name: &str, out: &str) -> Result<(), Trouble> {
-    let described = described(name, &read(name)?)?;
-    let mut driver = Driver::run(program)?;
-    let bytes = bytes(&mut driver, described)?;
-    write(out, &bytes)?;
-    driver.load(&bytes)?.done().map(|_| ())
-}
+/// `-o` of every command.
+const OUT: Opt = Opt {
+    name: "-o",
+    value: Some("FILE"),
+    says: "the result goes to FILE, when all is done and at once; text where FILE ends in .txt",
+};
+const KEEP_GOING: Opt =
+    Opt { name: "-k", value: None, says: "goes on after a refused action; the status is 1 all the same" };
+const LONG: Opt = Opt { name: "-v", value: None, says: "tells what every step changed" };
 
-/// Prints a start as text.
-pub fn start(program: &str, words: &[&str]) -> Result<(), Trouble> {
-    let bad = |fault: Fault| Trouble::Bad("start".to_string(), fault);
-    let made = parse::start(&mut Line::new(1, words.to_vec())).map_err(bad)?;
-    let bytes = begun(&mut Driver::run(program)?, &made)?;
-    write("-", print::table(&table(&bytes)?).as_bytes())
-}
+/// What every help page ends with.
+pub const UNPROVED: &str =
+    "Answers (numbers, tables, listings, settled, who covers a key) are the proved code's. This command, its reasons\n\
+     and its pictures are not proved.";
 
-/// Prints a rehearsal; whether every action was done. The table after it goes to `out`.
-pub fn rehearse(program: &str, name: &str, actions: &str, out: Option<&str>) -> Result<bool, Trouble> {
-    let (mut driver, table) = loaded(program, name)?;
-    let bad = |fault: Fault| Trouble::Bad(actions.to_string(), fault);
-    let list = words(actions, &read(actions)?)?;
-    let asked = action::actions(&list, &Names::new(table.ids())).map_err(bad)?;
-    let mut rehearsal = Rehearsal::new(&mut driver, table);
-    let last = rehearsal.run(&asked)?;
-    write("-", rehearsal.said.as_bytes())?;
-    if let Some(out) = out {
-        write(out, &file::write(&last))?;
-    }
-    Ok(!rehearsal.refused)
-}
+pub const COMMANDS: &[Command] = &[
+    Command {
+        name: "new",
+        usage: "M=8 L=1 ready IDS [dead IDS] [-o FILE]",
+        says: "makes a table: which controllers are ready, which are dead",
+        help: "The ids stand in any order, with spaces or commas between them. `ids IDS` in place of `dead IDS` lists all ids in\n\
+               slot order instead. Without -o the table is printed as text.",
+        options: &[OUT],
+        run: table_commands::new,
+    },
+    Command {
+        name: "show",
+        usage: "TABLE [-o FILE]",
+        says: "a table as text, or as a file with -o",
+        help: "A refused table is shown too where its layout can be read; it is written nowhere by -o.",
+        options: &[
+            OUT,
+            Opt { name: "--fields", value: None, says: "every field of the table file, with its offset and bytes" },
+            Opt { name: "--bytes", value: None, says: "the table file on standard output, of a refused table too" },
+        ],
+        run: table_commands::show,
+    },
+    Command {
+        name: "list",
+        usage: "TABLE",
+        says: "where each waiting lookup travels, with its path",
+        help: "One line for each waiting lookup: key, where it waits, who delivers it (`-`: nobody), routings made, path.",
+        options: &[],
+        run: ask::list,
+    },
+    Command {
+        name: "who",
+        usage: "TABLE [KEY ..]",
+        says: "who covers a key; without a key, what each ready node covers",
+        help: "Keys that nobody or several cover are named as such.",
+        options: &[],
+        run: ask::who,
+    },
+    Command {
+        name: "do",
+        usage: "TABLE ACTIONS [-k] [-v] [-o FILE]",
+        says: "makes actions in turn, tells what each does, and writes the table after them",
+        help: "ACTIONS is a file with one action a line, or the actions themselves with commas between them:\n\
+               ring do estate.table join 17 at 18 until ready, lookup 80 at 17 -o after.table\n\
+               A refused action changes nothing and ends the plan; then nothing is written. With `-o -` the table is printed as\n\
+               text in place of the report.",
+        options: &[OUT, KEEP_GOING, LONG],
+        run: try_commands::play,
+    },
+    Command {
+        name: "why",
+        usage: "TABLE [ID | ACTION]",
+        says: "why a table is not settled, a node not ready, an action refused",
+        help: "The rule of the scope document (01) is named, with the numbers of the table. The status is 0 where there is\n\
+               nothing to explain: the table is settled, the node is ready, the action would be done.",
+        options: &[],
+        run: ask::why,
+    },
+    Command {
+        name: "diff",
+        usage: "TABLE TABLE",
+        says: "what differs between two tables",
+        help: "By the ids of nodes and the words of messages. The status is 1 where they differ.",
+        options: &[],
+        run: ask::diff,
+    },
+    Command {
+        name: "waiting",
+        usage: "TABLE [ID ..]",
+        says: "the first waiting message of each node",
+        help: "",
+        options: &[],
+        run: ask::waiting,
+    },
+    Command {
+        name: "check",
+        usage: "REHEARSAL",
+        says: "checks a contractor's rehearsal: accepted, or the first bad step and what is wrong with it",
+        help: "REHEARSAL is a text: `from FILE`, then a line `ACTION => FILE` for each step, with the table that is said to result.\n\
+               Files are looked for beside it. `#` begins a comment.",
+        options: &[],
+        run: check::check,
+    },
+    Command {
+        name: "water",
+        usage: "[TABLE RECORDS] [--store FILE]",
+        says: "places water records on the settled table, all or none of them",
+        help: "RECORDS are comma-separated: key, month, rain, evapotranspiration, runoff, the last three in tenths of a\n\
+               millimetre; a first line may name the columns. Without TABLE and RECORDS what the store holds is told.",
+        options: &[Opt {
+            name: "--store",
+            value: Some("FILE"),
+            says: "keeps the records in FILE from one run to the next; made where it is not there",
+        }],
+        run: water::water,
+    },
+    Command {
+        name: "page",
+        usage: "TABLE [ACTIONS] [-k] [-o FILE]",
+        says: "one page, to open in a browser and to print: the ring, step by step",
+        help: "ACTIONS as for `do`. The page needs no network and nothing else. It opens at the first step, or by #last at the last, and\n\
+               prints the step that is shown as one A4 sheet, with the checksum of the table file's bytes. A plan with a refused\n\
+               action has its page too, which shows why; the status is 1 then.",
+        options: &[OUT, KEEP_GOING],
+        run: page::page,
+    },
+    Command {
+        name: "print",
+        usage: "PAGE [--step N] [-o FILE]",
+        says: "prints a page as one A4 sheet (PDF), by the browser chromium",
+        help: "Any browser prints the page as well. The last step is printed where none is named.",
+        options: &[OUT, Opt { name: "--step", value: Some("N"), says: "the step that is shown; 0 is the table before the plan" }],
+        run: sheet::print,
+    },
+    Command {
+        name: "picture",
+        usage: "TABLE [-o FILE]",
+        says: "the ring as a picture (SVG)",
+        help: "",
+        options: &[OUT],
+        run: table_commands::picture,
+    },
+];
 
-/// Writes the picture of a table.
-pub fn picture(program: &str, name: &str, out: &str) -> Result<(), Trouble> {
-    let (mut driver, table) = loaded(program, name)?;
-    let mut survey = Survey::new(&mut driver, &table);
-    let (arcs, journeys) = (survey.arcs()?, survey.journeys()?);
-    write(out, svg(&Scene { table, arcs, journeys }).as_bytes())
-}
-
-/// The table of a table file or a text, if the proved code loads it.
-fn loaded(program: &str, name: &str) -> Result<(Driver, Table), Trouble> {
-    let given = read(name)?;
-    let described = if given.contains(&0) { None } else { Some(described(name, &given)?) };
-    let mut driver = Driver::run(program)?;
-    let bytes = match described {
-        None => given,
-        Some(described) => bytes(&mut driver, described)?,
-    };
-    let table = table(&driver.load(&bytes)?.done()?)?;
-    Ok((driver, table))
-}
-
-fn described(name: &str, given: &[u8]) -> Result<Text, Trouble> {
-    parse::text(&words(name, given)?).map_err(|fault| Trouble::Bad(name.to_string(), fault))
-}
-
-/// The table file that a text describes.
-fn bytes(driver: &mut Driver, described: Text) -> Result<Vec<u8>, Trouble> {
-    match described {
-        Text::Table(table) => Ok(file::write(&table)),
-        Text::Start(start) => begun(driver, &start),
-    }
-}
-
-fn begun(driver: &mut Driver, start: &Start) -> Result<Vec<u8>, Trouble> {
-    driver.start(start)?.done()
-}
-
-fn words(name: &str, bytes: &[u8]) -> Result<String, Trouble> {
-    String::from_utf8(bytes.to_vec()).map_err(|_| Trouble::Failed(format!("{name}: no text (not UTF-8)")))
-}
-
-/// A file, or standard input for `-`.
-fn read(name: &str) -> Result<Vec<u8>, Trouble> {
-    let mut bytes = Vec::new();
-    let outcome = match name {
-        "-" => io::stdin().read_to_end(&mut bytes).map(|_| bytes),
-        _ => fs::read(name),
-    };
-    outcome.map_err(|error| Trouble::io(name, &error))
-}
-
-/// Into a file, or to standard output for `-`.
-fn write(name: &str, bytes: &[u8]) -> Result<(), Trouble> {
-    let outcome = match name {
-        "-" => io::stdout().write_all(bytes).and_then(|()| io::stdout().flush()),
-        _ => fs::write(name, bytes),
-    };
-    outcome.map_err(|error| Trouble::io(name, &error))
+pub fn named(name: &str) -> Option<&'static Command> {
+    COMMANDS.iter().find(|command| command.name == name)
 }

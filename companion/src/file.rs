@@ -1,6 +1,7 @@
 //! The table file, as bytes and as a table.
 
 use crate::table::{Message, Node, Table};
+use crate::trouble::Trouble;
 
 const HEADER: usize = 32;
 const NODE: usize = 64;
@@ -82,4 +83,9 @@ impl Reader<'_> {
         self.0 = rest;
         *taken
     }
+}
+
+/// The table of a file that the proved code wrote.
+pub fn known(bytes: &[u8]) -> Result<Table, Trouble> {
+    read(bytes).ok_or_else(|| Trouble::Failed("the proved driver wrote no table file".to_string()))
 }

@@ -44,6 +44,12 @@ const KINDS: [Form; 8] = [
 pub const RECORD: Form =
     Form { name: "message", fields: &[At, Word, Flag, Owner, Sixth, Set(0), Set(1), Set(2), Set(3)] };
 
+/// The name of a kind.
+pub fn name(kind: u32) -> Option<&'static str> {
+    let form = usize::try_from(kind).ok().and_then(|kind| KINDS.get(kind.checked_sub(1)?));
+    form.map(|form| form.name)
+}
+
 impl Field {
     /// The word before the field. A key has none.
     pub fn keyword(self) -> &'static str {

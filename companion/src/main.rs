@@ -1,64 +1,91 @@
-//! The companion: table files as text and back, rehearsals, pictures. It is not proved; every step, start, listing and
-//! test for settled is asked of the proved code through its driver, whose path is the first argument.
+//! ring: the bench from the shell. It is not proved; every step, start, listing, test for settled, verdict and record is asked
+//! of the proved code through its driver. The first argument says how many words run the driver, which follow.
 
 mod action;
+mod args;
+mod ask;
+mod change;
+mod check;
 mod command;
+mod csv;
 mod draw;
 mod driver;
+mod faults;
+mod fields;
 mod file;
+mod files;
 mod form;
+mod frames;
+mod help;
+mod json;
 mod layout;
+mod listing;
+mod page;
 mod parse;
 mod picture;
+mod plan;
+mod play;
 mod print;
-mod rehearse;
+mod rules;
+mod session;
+mod sha256;
+mod sheet;
+mod store;
 mod survey;
 mod table;
+mod table_commands;
+mod tell;
 #[cfg(test)]
 mod tests;
 mod trouble;
+mod try_commands;
+mod water;
+mod why;
 mod words;
 
+use args::Given;
+use session::Session;
+use std::ffi::OsString;
+use std::io::{self, Write};
 use std::process::ExitCode;
 use trouble::Trouble;
 
-const USAGE: &str = "usage:
-  companion text FILE                     a table file as text
-  companion file TEXT OUT                 a text as table file
-  companion start M=8 L=1 ready IDS ids IDS
-                                          a start as text
-  companion rehearse TABLE ACTIONS [OUT]  actions, one by one; OUT gets the table file after them
-  companion svg TABLE OUT                 a picture
-TABLE is a table file or a text. `-` is standard input or output. docs/COMPANION.md has the forms.
-The companion is not proved. Each step is made by the proved code.
-";
-
 fn main() -> ExitCode {
-    let args: Vec<String> = std::env::args().skip(1).collect();
-    let args: Vec<&str> = args.iter().map(String::as_str).collect();
-    match run(&args) {
-        Ok(true) => ExitCode::SUCCESS,
-        Ok(false) => ExitCode::FAILURE,
+    let mut words: Vec<OsString> = std::env::args_os().skip(1).collect();
+    let count = words.first().and_then(|word| word.to_str()).and_then(|word| word.parse::<usize>().ok());
+    let Some(count) = count.filter(|count| *count < words.len()) else {
+        return ended(Err(Trouble::Failed("run this program by bin/ring".to_string())));
+    };
+    let rest = words.split_off(1 + count);
+    words.remove(0);
+    ended(run(Session::new(words), &rest))
+}
+
+/// Says what went wrong, and gives the status.
+fn ended(outcome: Result<(), Trouble>) -> ExitCode {
+    match outcome {
+        Ok(()) => ExitCode::SUCCESS,
         Err(trouble) => {
-            eprintln!("{trouble}");
+            let said = trouble.to_string();
+            if !said.is_empty() {
+                writeln!(io::stderr(), "{said}").ok();
+            }
             ExitCode::from(trouble.status())
         }
     }
 }
 
-/// Whether nothing was refused.
-fn run(args: &[&str]) -> Result<bool, Trouble> {
-    match *args {
-        [_, "help"] => {
-            print!("{USAGE}");
-            Ok(true)
-        }
-        [driver, "text", file] => command::text(driver, file).map(|()| true),
-        [driver, "file", text, out] => command::file(driver, text, out).map(|()| true),
-        [driver, "start", ref words @ ..] => command::start(driver, words).map(|()| true),
-        [driver, "rehearse", table, actions] => command::rehearse(driver, table, actions, None),
-        [driver, "rehearse", table, actions, out] => command::rehearse(driver, table, actions, Some(out)),
-        [driver, "svg", table, out] => command::picture(driver, table, out).map(|()| true),
-        _ => Err(Trouble::Failed(format!("not a command\n{}", USAGE.trim_end()))),
+fn run(mut session: Session, words: &[OsString]) -> Result<(), Trouble> {
+    let Some((first, rest)) = words.split_first() else {
+        return Err(Trouble::Misuse("", "a command is missing".to_string()));
+    };
+    let name = first.to_string_lossy();
+    if let Some(text) = help::answer(&name, rest) {
+        return files::print(text.as_bytes());
     }
+    let Some(command) = command::named(&name) else {
+        return Err(Trouble::Misuse("", format!("{name}: no command")));
+    };
+    let given = Given::read(command.name, command.options, rest)?;
+    (command.run)(&mut session, &given)
 }

@@ -39,23 +39,57 @@ fn nothing_more(rest: &mut [Line]) -> Result<(), Fault> {
     }
 }
 
-/// The words after `start`: M, L, then the ready nodes and the ids.
+/// The words after `start` or `new`: M, L, the ready nodes, and the others: `dead` with those that are not ready, in any
+/// order, or `ids` with all, in slot order.
 pub fn start(line: &mut Line) -> Result<Start, Fault> {
     let m = line.take_setting("M", u64::MAX)?;
     let l = line.take_setting("L", u64::MAX)?;
     line.take_exactly("ready")?;
-    let mut ids = line.clone();
-    while ids.peek().is_some_and(|word| word != "ids") {
-        ids.take("`ids`")?;
+    if line.rest().contains(&"ids") {
+        return in_slots(line, m, l);
     }
-    ids.take_exactly("ids")?;
-    let mut listed = Vec::new();
-    while ids.peek().is_some() {
-        listed.push(ids.take_u32("an id")?);
+    let ready = ids(line)?;
+    let mut all = ready.clone();
+    if line.peek().is_some() {
+        line.take_exactly("dead")?;
+        all.extend(ids(line)?);
+        line.end()?;
     }
+    all.sort_unstable();
+    let marks = all.iter().zip(0..).filter(|(id, _)| ready.contains(id)).map(|(_, slot)| slot);
+    let ready = marks.fold(0, |set, slot| set | 1u64.checked_shl(slot).unwrap_or(0));
+    Ok(Start { m, l, ready, ids: all })
+}
+
+fn in_slots(line: &mut Line, m: u64, l: u64) -> Result<Start, Fault> {
+    let mut rest = line.clone();
+    while rest.peek().is_some_and(|word| word != "ids") {
+        rest.take("`ids`")?;
+    }
+    rest.take_exactly("ids")?;
+    let listed = ids(&mut rest)?;
+    rest.end()?;
     let ready = set(line, &Names::new(listed.clone()))?;
     line.take_exactly("ids")?;
     Ok(Start { m, l, ready, ids: listed })
+}
+
+/// Ids, as far as words begin with a digit.
+fn ids(line: &mut Line) -> Result<Vec<u32>, Fault> {
+    let mut ids = Vec::new();
+    while line.peek().is_some_and(|word| word != "dead") {
+        ids.push(line.take_u32("an id")?);
+    }
+    Ok(ids)
+}
+
+/// A node that is listed.
+pub fn listed(line: &mut Line, names: &Names) -> Result<u32, Fault> {
+    let slot = node(line, names)?;
+    if slot as usize >= names.count() {
+        return Err(line.fault("no such slot"));
+    }
+    Ok(slot)
 }
 
 /// A node: its id, or `slot` and its slot.
@@ -72,14 +106,14 @@ fn table(first: &mut Line, rest: &mut [Line]) -> Result<Table, Fault> {
     let m = first.take_setting("M", u32::MAX.into())? as u32;
     let l = first.take_setting("L", u32::MAX.into())? as u32;
     first.end()?;
-    let names = Names::new(ids(rest)?);
+    let names = Names::new(ids_of(rest)?);
     let mut reader = Reader { names, table: Table { m, l, ..Table::default() }, given: vec![] };
     rest.iter_mut().try_for_each(|line| reader.line(line))?;
     Ok(reader.table)
 }
 
 /// The ids of all nodes, which sets may name before their node's line.
-fn ids(lines: &[Line]) -> Result<Vec<u32>, Fault> {
+fn ids_of(lines: &[Line]) -> Result<Vec<u32>, Fault> {
     let nodes = lines.iter().filter(|line| line.peek() == Some("node"));
     let id = |line: &Line| {
         let mut line = line.clone();

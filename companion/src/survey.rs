@@ -1,10 +1,12 @@
 //! What a table says of keys and lookups, found by asking the proved code.
 
-use crate::driver::{Driver, TAKE_FIRST};
+use crate::action;
+use crate::driver::Driver;
 use crate::file;
-use crate::rehearse::table;
+use crate::rules::Rules;
 use crate::table::{Message, Node, Table};
 use crate::trouble::Trouble;
+use std::collections::HashMap;
 
 /// Keys from one to another, rising, both held.
 #[derive(Clone, Copy, Debug, PartialEq, Eq)]
@@ -28,40 +30,81 @@ pub enum End {
     NotReady,
 }
 
-/// What taking a lookup does to it.
+/// What handling a lookup does to it.
 enum Fate {
     Routed(u32),
     Ended(End),
 }
 
+/// Asks about the tables of one plan: what a node covers follows from its slot and its sides, so it is asked once for these.
 pub struct Survey<'a> {
+    pub driver: &'a mut Driver,
+    known: HashMap<(u32, u64, u64), Arc>,
+}
+
+impl<'a> Survey<'a> {
+    pub fn new(driver: &'a mut Driver) -> Survey<'a> {
+        Survey { driver, known: HashMap::new() }
+    }
+
+    /// What each node covers; nothing where it is not ready.
+    pub fn arcs(&mut self, table: &Table) -> Result<Vec<Option<Arc>>, Trouble> {
+        let arc = |(node, slot): (&Node, u32)| {
+            if node.status != Node::READY {
+                return Ok(None);
+            }
+            let sides = (slot, node.left(), node.right());
+            if let Some(arc) = self.known.get(&sides) {
+                return Ok(Some(*arc));
+            }
+            let arc = Asked { driver: self.driver, table }.arc(slot)?;
+            self.known.insert(sides, arc);
+            Ok(Some(arc))
+        };
+        table.nodes.iter().zip(0..).map(arc).collect()
+    }
+
+    /// The ready nodes that deliver a key.
+    pub fn holders(&mut self, table: &Table, key: u32) -> Result<Vec<u32>, Trouble> {
+        let mut holders = Vec::new();
+        for slot in Rules(table).ready() {
+            if (Asked { driver: self.driver, table }).covers(slot, key)? {
+                holders.push(slot);
+            }
+        }
+        Ok(holders)
+    }
+
+    pub fn journeys(&mut self, table: &Table) -> Result<Vec<Journey>, Trouble> {
+        let lookups = table.messages.iter().filter(|message| message.kind == Message::LOOKUP);
+        lookups.map(|lookup| Asked { driver: self.driver, table }.journey(lookup)).collect()
+    }
+}
+
+/// One table, of which the proved code is asked.
+struct Asked<'a> {
     driver: &'a mut Driver,
     table: &'a Table,
 }
 
-impl<'a> Survey<'a> {
-    pub fn new(driver: &'a mut Driver, table: &'a Table) -> Survey<'a> {
-        Survey { driver, table }
-    }
-
-    /// What each node covers; nothing where it is not ready.
-    pub fn arcs(&mut self) -> Result<Vec<Option<Arc>>, Trouble> {
-        let nodes = self.table.nodes.iter().zip(0..);
-        let arc = |(node, slot): (&Node, u32)| {
-            (node.status == Node::READY).then(|| self.arc(node.id, slot)).transpose()
-        };
-        nodes.map(arc).collect()
-    }
-
-    pub fn journeys(&mut self) -> Result<Vec<Journey>, Trouble> {
-        let lookups = self.table.messages.iter().filter(|message| message.kind == Message::LOOKUP);
-        lookups.map(|lookup| self.journey(lookup)).collect()
+impl Asked<'_> {
+    /// The arc of a ready node. Its ends are asked where 01's formula puts them, and searched for if they are not there.
+    fn arc(&mut self, slot: u32) -> Result<Arc, Trouble> {
+        let rules = Rules(self.table);
+        let (from, to, last) = (rules.right_cover(slot), rules.left_cover(slot), rules.last());
+        let (id, whole) = (rules.id(slot), rules.fall(to, from) == last);
+        let (before, after) = (from.wrapping_sub(1) & last, to.wrapping_add(1) & last);
+        let inside = self.covers(slot, from)? && self.covers(slot, to)?;
+        if inside && !whole && !self.covers(slot, before)? && !self.covers(slot, after)? {
+            return Ok(Arc { from, to });
+        }
+        self.search(id, slot)
     }
 
     /// The arc of a ready node: all of the ring, or less than half of it above the id and less than half below. The id is
     /// in it unless the right side alone is empty; then the arc begins above the id.
-    fn arc(&mut self, id: u32, slot: u32) -> Result<Arc, Trouble> {
-        let (half, last) = (1u32 << (self.table.m - 1), u32::MAX >> (32 - self.table.m));
+    fn search(&mut self, id: u32, slot: u32) -> Result<Arc, Trouble> {
+        let (half, last) = (1u32 << (self.table.m - 1), Rules(self.table).last());
         let up = |by: u32| id.wrapping_add(by) & last;
         let down = |by: u32| id.wrapping_sub(by) & last;
         if self.covers(slot, up(half))? {
@@ -94,7 +137,7 @@ impl<'a> Survey<'a> {
     }
 
     fn covers(&mut self, slot: u32, key: u32) -> Result<bool, Trouble> {
-        let fate = self.taken(&Message::lookup(key, slot))?;
+        let fate = self.handled(&Message::lookup(key, slot))?;
         Ok(matches!(fate, Fate::Ended(End::Delivered)))
     }
 
@@ -102,24 +145,76 @@ impl<'a> Survey<'a> {
         let mut path = vec![lookup.at];
         loop {
             let at = path[path.len() - 1];
-            match self.taken(&Message { at, ..*lookup })? {
+            match self.handled(&Message { at, ..*lookup })? {
                 Fate::Routed(to) => path.push(to),
                 Fate::Ended(end) => return Ok(Journey { key: lookup.word, path, end }),
             }
         }
     }
 
-    /// Takes a lookup as the only message.
-    fn taken(&mut self, lookup: &Message) -> Result<Fate, Trouble> {
-        let reply = self.driver.step(TAKE_FIRST, &file::write(&self.table.with_only(*lookup)))?;
-        if reply.number == 2 {
-            return Ok(Fate::Ended(End::NotReady));
+    /// Handles a lookup as the only message, by the action that is done.
+    fn handled(&mut self, lookup: &Message) -> Result<Fate, Trouble> {
+        let file = file::write(&self.table.with_only(*lookup));
+        let mut refused = 0;
+        for row in action::on_messages() {
+            let reply = self.driver.step([row.number, 0, 0], &file)?;
+            if reply.number == 0 {
+                return Ok(fate(&file::known(&reply.result)?));
+            }
+            refused = if refused == 0 { reply.number } else { refused.min(reply.number) };
         }
-        let after = table(&reply.done()?)?;
-        Ok(match after.messages.first() {
-            None => Fate::Ended(End::Delivered),
-            Some(message) if message.kind == Message::LOOKUP => Fate::Routed(message.at),
-            Some(_) => Fate::Ended(End::NoLegalRoute),
-        })
+        match refused {
+            2 => Ok(Fate::Ended(End::NotReady)),
+            number => Err(Trouble::refused(number)),
+        }
+    }
+}
+
+/// What became of the only message.
+fn fate(after: &Table) -> Fate {
+    match after.messages.first() {
+        None => Fate::Ended(End::Delivered),
+        Some(message) if message.kind == Message::LOOKUP => Fate::Routed(message.at),
+        Some(_) => Fate::Ended(End::NoLegalRoute),
+    }
+}
+
+/// The keys that no arc holds, and those that two or more hold, as arcs, rising.
+pub fn unshared(arcs: &[Option<Arc>], last: u32) -> (Vec<Arc>, Vec<Arc>) {
+    let arcs: Vec<Arc> = arcs.iter().flatten().copied().collect();
+    let mut bounds: Vec<u32> = vec![0];
+    bounds.extend(arcs.iter().flat_map(|arc| [arc.from, arc.to.wrapping_add(1) & last]));
+    bounds.sort_unstable();
+    bounds.dedup();
+    let holds = |key: u32| {
+        let within = |arc: &&Arc| key.wrapping_sub(arc.from) & last <= arc.to.wrapping_sub(arc.from) & last;
+        arcs.iter().filter(within).count().min(2)
+    };
+    let mut found: [Vec<Arc>; 3] = Default::default();
+    let ends = bounds.iter().skip(1).map(|bound| bound - 1).chain([last]);
+    for (from, to) in bounds.iter().copied().zip(ends) {
+        let list = &mut found[holds(from)];
+        match list.last_mut() {
+            Some(arc) if from > 0 && arc.to == from - 1 => arc.to = to,
+            _ => list.push(Arc { from, to }),
+        }
+    }
+    let [none, _, several] = found;
+    (none, several)
+}
+
+#[cfg(test)]
+mod tests {
+    use super::*;
+
+    #[test]
+    fn keys_of_nobody_and_of_two() {
+        let arc = |from, to| Some(Arc { from, to });
+        let worked = [arc(185, 17), arc(18, 41), arc(42, 80), arc(81, 184), None];
+        assert_eq!(unshared(&worked, 255), (vec![], vec![]));
+        let (none, two) = unshared(&[arc(200, 17), arc(18, 50), arc(42, 80)], 255);
+        assert_eq!((none, two), (vec![Arc { from: 81, to: 199 }], vec![Arc { from: 42, to: 50 }]));
+        assert_eq!(unshared(&[None], 255).0, [Arc { from: 0, to: 255 }]);
+        assert_eq!(unshared(&[arc(18, 17), arc(66, 65)], 255).1, [Arc { from: 0, to: 255 }]);
     }
 }

@@ -34,7 +34,34 @@ pub struct Message {
 impl Node {
     pub const SETS: [&'static str; 7] = ["left", "right", "probing", "failed", "routing", "lease", "grant"];
     pub const STATUSES: [&'static str; 4] = ["dead", "wait", "ok", "ready"];
+    pub const DEAD: u32 = 0;
+    pub const WAIT: u32 = 1;
+    pub const OK: u32 = 2;
     pub const READY: u32 = 3;
+
+    pub fn left(&self) -> u64 {
+        self.sets[0]
+    }
+
+    pub fn right(&self) -> u64 {
+        self.sets[1]
+    }
+
+    pub fn probing(&self) -> u64 {
+        self.sets[2]
+    }
+
+    pub fn failed(&self) -> u64 {
+        self.sets[3]
+    }
+
+    pub fn lease(&self) -> u64 {
+        self.sets[5]
+    }
+
+    pub fn grant(&self) -> u64 {
+        self.sets[6]
+    }
 
     /// The status word, or the number where there is no word.
     pub fn status_word(&self) -> String {
@@ -48,6 +75,13 @@ impl Node {
 impl Message {
     pub const SETS: [&'static str; 4] = ["routing", "left", "right", "failed"];
     pub const LOOKUP: u32 = 1;
+    pub const JOIN_REQUEST: u32 = 2;
+    pub const JOIN_REPLY: u32 = 3;
+    pub const PROBE: u32 = 4;
+    pub const PROBE_REPLY: u32 = 5;
+    pub const NO_LEGAL_ROUTE: u32 = 6;
+    pub const LEASE_REQUEST: u32 = 7;
+    pub const BROADCAST: u32 = 8;
 
     pub fn lookup(key: u32, at: u32) -> Message {
         Message { kind: Message::LOOKUP, at, word: key, ..Message::default() }
@@ -88,6 +122,10 @@ impl Names {
             Some(id) if !self.shared.contains(id) => id.to_string(),
             _ => format!("slot {slot}"),
         }
+    }
+
+    pub fn count(&self) -> usize {
+        self.ids.len()
     }
 
     /// The names of a set's members.

@@ -1,4 +1,4 @@
-//! Text and file are inverse: on the driver's corpus, on the requests of the file that COMPANION_REQUESTS names, and on
+//! Text and file are inverse: on the driver's corpus, on the requests of the file that RING_REQUESTS names, and on
 //! odd records.
 
 use crate::file;
@@ -74,7 +74,7 @@ fn corpus_there_and_back() {
 
 #[test]
 fn requests_there_and_back() {
-    if let Ok(name) = std::env::var("COMPANION_REQUESTS") {
+    if let Ok(name) = std::env::var("RING_REQUESTS") {
         let stream = fs::read(name).unwrap();
         let readable = bodies(&stream).into_iter().filter_map(file_of).filter(|bytes| inverse(bytes)).count();
         assert!(readable > 100);

@@ -30,6 +30,11 @@ impl<'a> Line<'a> {
         self.words.join(" ")
     }
 
+    /// The words that are not taken yet.
+    pub fn rest(&self) -> &[&'a str] {
+        &self.words[self.next.min(self.words.len())..]
+    }
+
     pub fn peek(&self) -> Option<&'a str> {
         self.words.get(self.next).copied()
     }
@@ -64,6 +69,17 @@ impl<'a> Line<'a> {
             word if word == wanted => Ok(()),
             _ => Err(self.fault(&format!("`{wanted}` is expected"))),
         }
+    }
+
+    /// Takes the words before this one, and it.
+    pub fn until(&mut self, word: &str) -> Result<Line<'a>, Fault> {
+        let begin = self.next;
+        while self.peek().is_some_and(|next| next != word) {
+            self.next += 1;
+        }
+        let taken = Line { number: self.number, words: self.words[begin..self.next].to_vec(), next: 0 };
+        self.take_exactly(word)?;
+        Ok(taken)
     }
 
     pub fn end(&mut self) -> Result<(), Fault> {
