@@ -1,10 +1,7 @@
 /* answer: answers the driver's requests (docs/DRIVER.md) on standard input, but those of water records and of what waits for a node, by the five
    calls. A rehearsal is checked by step and memcmp. */
-#include <stdbool.h>
-#include <stdio.h>
-#include <string.h>
-
 #include "tarpudhriv.h"
+#include "words.h"
 
 enum { ROOM = 65536, IDS = 65, STEPS = 1000, OVER = 12 };
 
@@ -89,21 +86,33 @@ static uint64_t reply_to(const uint8_t *request, size_t len) {
     }
 }
 
-static void send32(uint32_t x) {
-    for (int k = 0; k < 4; k++) putchar((int)(x >> 8 * k & 255));
+static void send32(uint8_t *to, uint32_t x) {
+    for (int k = 0; k < 4; k++) to[k] = (uint8_t)(x >> 8 * k);
 }
 
-int main(void) {
+/* Reads a whole request or the end of input; whether there is one. */
+static bool request(size_t *len) {
     uint8_t head[4];
-    while (fread(head, 1, 4, stdin) == 4) {
-        size_t len = little(head, 4), kept = len < ROOM ? len : ROOM;
-        if (fread(body, 1, kept, stdin) != kept) return 1;
-        for (size_t past = kept; past < len; past++)
-            if (getchar() == EOF) return 1;
+    size_t count = get(head, sizeof head);
+    if (count == 0) return false;
+    *len = little(head, 4);
+    size_t kept = *len < ROOM ? *len : ROOM;
+    bool whole = count == sizeof head && get(body, kept) == kept;
+    for (size_t past = kept; whole && past < *len; past++) whole = getchar() != EOF;
+    if (!whole) misuse("standard input", "it ends inside a request");
+    return true;
+}
+
+int main(int argc, char **argv) {
+    size_t len;
+    if (argc > 1) misuse(argv[1], "nothing is expected; usage: answer <REQUESTS");
+    while (request(&len)) {
+        uint8_t head[8];
         uint64_t word = len > ROOM ? TARPUDHRIV_NO_ACTION : reply_to(body, len);
-        send32(4 + tarpudhriv_count(word));
-        send32(tarpudhriv_number(word));
-        fwrite(out, 1, tarpudhriv_count(word), stdout);
+        send32(head, 4 + tarpudhriv_count(word));
+        send32(head + 4, tarpudhriv_number(word));
+        put(head, sizeof head);
+        put(out, tarpudhriv_count(word));
     }
-    return 0;
+    return DONE;
 }

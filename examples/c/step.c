@@ -1,35 +1,44 @@
 /* step ACTION X [Y]: reads a table file on standard input, makes one step, and writes the table file after it to standard output. A refusal writes
- * `refused N` to standard error, and N is the exit status. */
-#include <stdio.h>
-#include <stdlib.h>
-#include <string.h>
-
+ * `refused N` to standard error, and the status is 1. */
 #include "tarpudhriv.h"
+#include "words.h"
 
-static const char *const actions[] = {"lookup", "join", "request-lease", "lease-expired", "grant-expired", "take"};
+/* An action's name, its number, and how many words it has. */
+static const struct action {
+    const char *name;
+    uint64_t number;
+    int words;
+} actions[] = {
+    {"lookup", TARPUDHRIV_LOOKUP, 2},
+    {"join", TARPUDHRIV_JOIN, 2},
+    {"request-lease", TARPUDHRIV_REQUEST_LEASE, 1},
+    {"lease-expired", TARPUDHRIV_LEASE_EXPIRED, 2},
+    {"grant-expired", TARPUDHRIV_GRANT_EXPIRED, 2},
+    {"take", TARPUDHRIV_TAKE, 1},
+};
 
-/* The number of an action's name, or 0, which is no action's. */
-static uint64_t action_of(const char *name) {
-    for (uint64_t k = 0; k < 6; k++)
-        if (strcmp(name, actions[k]) == 0) return k + 1;
-    return 0;
+static const struct action *action_of(const char *name) {
+    for (size_t k = 0; k < sizeof actions / sizeof *actions; k++)
+        if (strcmp(name, actions[k].name) == 0) return &actions[k];
+    misuse(name, "no action; it is lookup, join, request-lease, lease-expired, grant-expired or take");
+    return NULL;
 }
 
 int main(int argc, char **argv) {
     static uint8_t file[TARPUDHRIV_FILE + 1], out[TARPUDHRIV_FILE];
-    uint64_t action = argc > 2 && argc < 5 ? action_of(argv[1]) : 0;
-    if (action == 0) {
-        fprintf(stderr, "usage: step lookup|join|request-lease|lease-expired|grant-expired|take X [Y] <FILE >NEXT\n");
-        return 64;
-    }
-    uint64_t x = strtoull(argv[2], NULL, 10), y = argc > 3 ? strtoull(argv[3], NULL, 10) : 0;
+    if (argc < 2) misuse("step", "usage: step ACTION X [Y] <FILE >NEXT");
+    const struct action *action = action_of(argv[1]);
+    if (argc < 2 + action->words) misuse(argv[argc - 1], "after this a number is missing");
+    if (argc > 2 + action->words) misuse(argv[2 + action->words], "nothing more is expected");
+    uint64_t x = number(argv[2], UINT64_MAX, "a number is expected");
+    uint64_t y = action->words > 1 ? number(argv[3], UINT64_MAX, "a number is expected") : 0;
     /* one byte more than the longest table file, so that a longer one is refused */
-    size_t len = fread(file, 1, sizeof file, stdin);
-    uint64_t word = tarpudhriv_step(file, len, action, x, y, out, sizeof out);
+    size_t len = get(file, sizeof file);
+    uint64_t word = tarpudhriv_step(file, len, action->number, x, y, out, sizeof out);
     if (tarpudhriv_number(word) != 0) {
         fprintf(stderr, "refused %u\n", tarpudhriv_number(word));
-        return (int)tarpudhriv_number(word);
+        return REFUSED;
     }
-    fwrite(out, 1, tarpudhriv_count(word), stdout);
-    return 0;
+    put(out, tarpudhriv_count(word));
+    return DONE;
 }

@@ -1,5 +1,8 @@
 //! The bench for Rust: safe functions over the five calls. A table is its file, as bytes; a refusal is 01's number.
 
+use std::error::Error;
+use std::fmt;
+
 /// The longest table file.
 pub const FILE: usize = 18_464;
 
@@ -20,6 +23,34 @@ pub enum Action {
 /// 01's number, 1 to 11.
 #[derive(Clone, Copy, Debug, PartialEq, Eq)]
 pub struct Refused(pub u32);
+
+impl Refused {
+    /// 01's words for the number.
+    pub fn meaning(self) -> &'static str {
+        match self.0 {
+            1 => "slot, place or key out of range",
+            2 => "status forbids it",
+            3 => "the same request already waits",
+            4 => "leaf set empty, not empty or incomplete, as named",
+            5 => "sender or partner not allowed",
+            6 => "the pool after the step would exceed 256",
+            7 => "file shorter than 32 bytes",
+            8 => "M, L, n or message count out of range, or last header word not 0",
+            9 => "an offset, the total or the real length disagrees with the counts",
+            10 => "a table, record or start list breaks validity; A empty; message list without 256 places",
+            11 => "write buffer too small",
+            _ => "no number of the scope document",
+        }
+    }
+}
+
+impl fmt::Display for Refused {
+    fn fmt(&self, f: &mut fmt::Formatter<'_>) -> fmt::Result {
+        write!(f, "refused {}: {}", self.0, self.meaning())
+    }
+}
+
+impl Error for Refused {}
 
 /// A `&[T]` of the bench is a pointer that is not null and a length.
 mod calls {

@@ -2,6 +2,7 @@
 //! what waits for a node, by the five calls. A rehearsal is checked by step and `==`.
 
 use std::io::{self, Read, Write};
+use std::process::ExitCode;
 use tarpudhriv::{Action, Refused};
 
 /// What a request that is none is answered.
@@ -83,12 +84,10 @@ fn reply_to(rehearsal: &mut Rehearsal, request: &[u8]) -> Result<Vec<u8>, Refuse
     }
 }
 
-fn main() -> io::Result<()> {
-    let (mut from, mut to) = (io::stdin().lock(), io::stdout().lock());
-    let (mut head, mut rehearsal) = ([0; 4], Rehearsal::default());
-    while from.read_exact(&mut head).is_ok() {
-        let mut request = vec![0; u32::from_le_bytes(head) as usize];
-        from.read_exact(&mut request)?;
+/// Answers until the input ends; an input that ends inside a request, and output that fails, are errors.
+fn answer(mut from: impl Read, mut to: impl Write) -> io::Result<()> {
+    let mut rehearsal = Rehearsal::default();
+    while let Some(request) = next_request(&mut from)? {
         let reply = reply_to(&mut rehearsal, &request);
         let (number, result) = match &reply {
             Ok(result) => (0, result.as_slice()),
@@ -98,5 +97,27 @@ fn main() -> io::Result<()> {
         to.write_all(&number.to_le_bytes())?;
         to.write_all(result)?;
     }
-    Ok(())
+    to.flush()
+}
+
+/// The next request, or nothing at the end of the input.
+fn next_request(from: &mut impl Read) -> io::Result<Option<Vec<u8>>> {
+    let mut head = Vec::new();
+    from.take(4).read_to_end(&mut head)?;
+    let Ok(length) = <[u8; 4]>::try_from(head.as_slice()) else {
+        return if head.is_empty() { Ok(None) } else { Err(io::ErrorKind::UnexpectedEof.into()) };
+    };
+    let mut request = vec![0; u32::from_le_bytes(length) as usize];
+    from.read_exact(&mut request)?;
+    Ok(Some(request))
+}
+
+fn main() -> ExitCode {
+    match answer(io::stdin().lock(), io::stdout().lock()) {
+        Ok(()) => ExitCode::SUCCESS,
+        Err(error) => {
+            writeln!(io::stderr(), "answer: {error}").ok();
+            ExitCode::from(2)
+        }
+    }
 }
