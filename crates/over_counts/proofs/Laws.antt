@@ -16,8 +16,8 @@ use Rattle.marks.proofs.Bools.{lt-or-le, eq-or-ne}
 use Rattle.rules.specs.declared.Message.{Message}
 use Rattle.rules.specs.declared.Pool.{Pool}
 use Rattle.rules.specs.Pool.{blank, messageAt, waiting}
-use Rattle.over_counts.specs.Counts.{isFor, countFor, numbersTo, countAt}
-use Rattle.over_counts.proofs.CountLaws.{numbers-length, numbers-at}
+use Rattle.counts.specs.Counts.{isFor, countFor, numbersTo, countAt}
+use Rattle.counts.proofs.CountLaws.{numbers-length, numbers-at}
 use Rattle.over_counts.specs.InnerWalk.{waitingIn, oneMore}
 
 -- ---- how many wait

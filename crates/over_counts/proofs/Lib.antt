@@ -1,9 +1,2 @@
-pub mod CountLaws
-pub mod ByCase
-pub mod Truth
-pub mod Plain
-pub mod Asked
-pub mod Proved
 pub mod Unique
-pub mod Cases
 pub mod Laws

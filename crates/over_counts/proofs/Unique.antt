@@ -7,45 +7,53 @@ use Rattle.rules.specs.declared.Action.{Action}
 use Rattle.rules.specs.declared.Pool.{Pool}
 use Rattle.file.specs.declared.Wrote.{Wrote}
 use Rattle.face_table.specs.declared.Rest.{Rest}
-use Rattle.over_counts.specs.declared.Counted.{Counted}
-use Rattle.over_counts.specs.declared.After.{After}
-use Rattle.over_counts.specs.declared.Has.{Has}
-use Rattle.over_counts.specs.declared.First.{First}
-use Rattle.over_counts.specs.declared.Polled.{Polled}
-use Rattle.over_counts.specs.Counts.{countsOf, agreeOf, isSoundCounted, stepWith, loadWith, startWith, wroteWith, writtenWith, restWith}
-use Rattle.over_counts.specs.Counts.{hasOf, firstOf, polledOf}
+use Rattle.counts.specs.declared.Counted.{Counted}
+use Rattle.counts.specs.declared.After.{After}
+use Rattle.counts.specs.declared.Has.{Has}
+use Rattle.counts.specs.declared.First.{First}
+use Rattle.counts.specs.declared.Polled.{Polled}
+use Rattle.over_counts.specs.Contract.{CountsOf, Agree, IsSound, Step, Load, Start, Write, Settled, HasMessage, FirstMessage, Poll}
+use Rattle.over_counts.specs.Contract.{HasNumber, FirstNumber, PolledNumber}
 
-pub counts-of-unique : (p : Pool) (r r′ : List ℕ) → r ≡ countsOf p → r′ ≡ countsOf p → r ≡ r′
+pub counts-of-unique : (p : Pool) (r r′ : List ℕ) → CountsOf p r → CountsOf p r′ → r ≡ r′
 counts-of-unique p r r′ h h′ = h ∙ sym h′
 
-pub agree-unique : (c : List ℕ) (p : Pool) (r r′ : Bool) → r ≡ agreeOf c p → r′ ≡ agreeOf c p → r ≡ r′
-agree-unique c p r r′ h h′ = h ∙ sym h′
+pub agree-unique : (counts : List ℕ) (p : Pool) (r r′ : Bool) → Agree counts p r → Agree counts p r′ → r ≡ r′
+agree-unique counts p r r′ h h′ = h ∙ sym h′
 
 module _ (x : Counted) (len : ℕ) where
-  pub is-sound-unique : (r r′ : Bool) → r ≡ isSoundCounted x len → r′ ≡ isSoundCounted x len → r ≡ r′
+  pub is-sound-unique : (r r′ : Bool) → IsSound x len r → IsSound x len r′ → r ≡ r′
   is-sound-unique r r′ h h′ = h ∙ sym h′
 
-  pub step-unique : (a : Action) (r r′ : After) → r ≡ stepWith x len a → r′ ≡ stepWith x len a → r ≡ r′
+  pub step-unique : (a : Action) (r r′ : After) → Step x len a r → Step x len a r′ → r ≡ r′
   step-unique a r r′ h h′ = h ∙ sym h′
 
-  pub load-unique : (bs : List ℕ) (r r′ : After) → r ≡ loadWith bs x len → r′ ≡ loadWith bs x len → r ≡ r′
+  pub load-unique : (bs : List ℕ) (r r′ : After) → Load bs x len r → Load bs x len r′ → r ≡ r′
   load-unique bs r r′ h h′ = h ∙ sym h′
 
-  pub start-unique : (m l : ℕ) (ids : List ℕ) (a : ℕ) (r r′ : After) → r ≡ startWith x len m l ids a → r′ ≡ startWith x len m l ids a → r ≡ r′
+  pub start-unique : (m l : ℕ) (ids : List ℕ) (a : ℕ) (r r′ : After) → Start x len m l ids a r → Start x len m l ids a r′ → r ≡ r′
   start-unique m l ids a r r′ h h′ = h ∙ sym h′
 
-  pub write-unique : (buf : List ℕ) (r r′ : Wrote) (left left′ : List ℕ) → (r ≡ wroteWith x len buf) × (left ≡ writtenWith x len buf)
-      → (r′ ≡ wroteWith x len buf) × (left′ ≡ writtenWith x len buf) → (r ≡ r′) × (left ≡ left′)
-  write-unique buf r r′ left left′ h h′ = (h .0 ∙ sym (h′ .0), h .1 ∙ sym (h′ .1))
+  pub write-unique : (buf left left′ : List ℕ) (r r′ : Wrote) → Write x len buf left r → Write x len buf left′ r′ → (r ≡ r′) × (left ≡ left′)
+  write-unique buf left left′ r r′ h h′ = (h .0 ∙ sym (h′ .0), h .1 ∙ sym (h′ .1))
 
-  pub settled-unique : (r r′ : Rest) → r ≡ restWith x len → r′ ≡ restWith x len → r ≡ r′
+  pub settled-unique : (r r′ : Rest) → Settled x len r → Settled x len r′ → r ≡ r′
   settled-unique r r′ h h′ = h ∙ sym h′
 
-  pub has-message-unique : (i : ℕ) (r r′ : Has) → r ≡ hasOf x len i → r′ ≡ hasOf x len i → r ≡ r′
+  pub has-message-unique : (i : ℕ) (r r′ : Has) → HasMessage x len i r → HasMessage x len i r′ → r ≡ r′
   has-message-unique i r r′ h h′ = h ∙ sym h′
 
-  pub first-message-unique : (i : ℕ) (r r′ : First) → r ≡ firstOf x len i → r′ ≡ firstOf x len i → r ≡ r′
+  pub first-message-unique : (i : ℕ) (r r′ : First) → FirstMessage x len i r → FirstMessage x len i r′ → r ≡ r′
   first-message-unique i r r′ h h′ = h ∙ sym h′
 
-  pub poll-unique : (r r′ : Polled) → r ≡ polledOf x len → r′ ≡ polledOf x len → r ≡ r′
+  pub poll-unique : (r r′ : Polled) → Poll x len r → Poll x len r′ → r ≡ r′
   poll-unique r r′ h h′ = h ∙ sym h′
+
+pub has-number-unique : (r : Has) (x x′ : ℕ) → HasNumber r x → HasNumber r x′ → x ≡ x′
+has-number-unique r x x′ h h′ = h ∙ sym h′
+
+pub first-number-unique : (r : First) (x x′ : ℕ) → FirstNumber r x → FirstNumber r x′ → x ≡ x′
+first-number-unique r x x′ h h′ = h ∙ sym h′
+
+pub polled-number-unique : (r : Polled) (x x′ : ℕ) → PolledNumber r x → PolledNumber r x′ → x ≡ x′
+polled-number-unique r x x′ h h′ = h ∙ sym h′

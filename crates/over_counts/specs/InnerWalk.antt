@@ -4,7 +4,7 @@ use mathlib.Core.List.{List}
 use Prim.Native.Nat.{ℕ, _+_}
 use lib.Dec.{ltb}
 use lib.ListN.{set}
-use Rattle.over_counts.specs.Counts.{countAt}
+use Rattle.counts.specs.Counts.{countAt}
 
 -- as many as are counted, and all 256 places where more are
 unfoldable pub waitingIn : ℕ → ℕ

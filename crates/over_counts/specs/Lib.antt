@@ -1,3 +1,2 @@
-pub mod Counts
 pub mod InnerWalk
-pub mod Claims
+pub mod Contract

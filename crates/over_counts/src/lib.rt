@@ -6,9 +6,15 @@ ghost use lib.Dec.{ltb};
 ghost use Rattle.marks.specs.Marks.{gather};
 ghost use Rattle.rules.specs.Mail.{sameTo};
 ghost use Rattle.rules.specs.Pool.{waiting};
-ghost use Rattle.over_counts.specs.Counts.{countsOf, agreeOf, isSoundCounted, countsAfter, afterBy, refusedWith, stepWith, loadWith, startWith};
-ghost use Rattle.over_counts.specs.Counts.{wroteWith, writtenWith, restWith, countAt, firstFor, firstSaid, hasOf, firstOf, polledOf};
+ghost use Rattle.counts.specs.Counts.{countsAfter, afterBy, refusedWith, countAt, firstFor, firstSaid};
+ghost use Rattle.over_counts.specs.Contract.{CountsOf, Agree, IsSound, Step, Load, Start, Write, Settled, HasMessage, FirstMessage, Poll};
+ghost use Rattle.over_counts.specs.Contract.{HasNumber, FirstNumber, PolledNumber};
 ghost use Rattle.over_counts.specs.InnerWalk.{waitingIn, oneMore};
+use counts::After;
+use counts::Counted;
+use counts::First;
+use counts::Has;
+use counts::Polled;
 use face_table::Rest;
 use file::Wrote;
 use marks::Found;
@@ -17,40 +23,6 @@ use rules::Answer;
 use rules::Pool;
 use rules::Refusal;
 use table_type::Stepped;
-use table_type::Table;
-
-// A table, its pool, and for each slot how many messages wait for its node.
-pub struct Counted {
-    pub table: Table,
-    pub pool: Pool,
-    pub counts: [u32; 64],
-}
-
-// What a step, a load or a start leaves.
-pub struct After {
-    pub answer: Answer,
-    pub counted: Counted,
-}
-
-// Whether a node has a message, or why that was not looked at.
-pub enum Has {
-    Yes,
-    No,
-    NotAsked(Refusal),
-}
-
-// The place of a node's first message, if it has one, or why that was not looked at.
-pub enum First {
-    At(usize),
-    None,
-    NotAsked(Refusal),
-}
-
-// The nodes that have a message, or why that was not looked at.
-pub enum Polled {
-    Nodes(u64),
-    NotAsked(Refusal),
-}
 
 // How many messages wait in a pool of any content: as many as it counts, and all 256 places where it counts more.
 fn waiting_in(count: usize) -> usize
@@ -71,7 +43,7 @@ fn count_one(counts: &mut [u32; 64], slot: usize)
 
 // For each slot how many messages wait for its node.
 pub fn counts_of(p: Pool) -> [u32; 64]
-    ensures { λ r. ⌜ r ≡ countsOf p ⌝ }
+    ensures { λ r. ⌜ CountsOf p r ⌝ }
 {
     let n = waiting_in(p.count);
     let mut counts = [0u32; 64];
@@ -100,7 +72,7 @@ fn same(a: &[u32; 64], b: &[u32; 64]) -> bool
 
 // Do the counts agree with the pool?
 pub fn agree(counts: [u32; 64], p: Pool) -> bool
-    ensures { λ r. ⌜ r ≡ agreeOf counts p ⌝ }
+    ensures { λ r. ⌜ Agree counts p r ⌝ }
 {
     let mine = counts_of(p);
     same(&counts, &mine)
@@ -108,7 +80,7 @@ pub fn agree(counts: [u32; 64], p: Pool) -> bool
 
 // Is the table valid, its list of messages one of 256 places, and do its counts agree with its pool?
 pub fn is_sound(x: Counted, len: usize) -> bool
-    ensures { λ r. ⌜ r ≡ isSoundCounted x len ⌝ }
+    ensures { λ r. ⌜ IsSound x len r ⌝ }
 {
     let t = x.table;
     let p = x.pool;
@@ -160,7 +132,7 @@ fn refused(x: Counted, why: Refusal) -> After
 
 // The step: 10 before anything else for counts that disagree with the pool, then as without counts. A refusal changes nothing.
 pub fn step(x: Counted, len: usize, a: Action) -> After
-    ensures { λ r. ⌜ r ≡ stepWith x len a ⌝ }
+    ensures { λ r. ⌜ Step x len a r ⌝ }
 {
     let t = x.table;
     let p = x.pool;
@@ -173,7 +145,7 @@ pub fn step(x: Counted, len: usize, a: Action) -> After
 
 // Reads a table file and works its counts out. What was there before is not looked at. A refusal changes nothing.
 pub fn load(file: &[u8], x: Counted, len: usize) -> After
-    ensures { λ r. ⌜ r ≡ loadWith (now (file .entry)) x len ⌝ }
+    ensures { λ r. ⌜ Load (now (file .entry)) x len r ⌝ }
 {
     let t = x.table;
     let p = x.pool;
@@ -183,7 +155,7 @@ pub fn load(file: &[u8], x: Counted, len: usize) -> After
 
 // The start, for which nothing waits. What was there before is not looked at. A refusal changes nothing.
 pub fn start(x: Counted, len: usize, m: u32, l: u32, ids: &[u32], a: u64) -> After
-    ensures { λ r. ⌜ r ≡ startWith x len m l (now (ids .entry)) a ⌝ }
+    ensures { λ r. ⌜ Start x len m l (now (ids .entry)) a r ⌝ }
 {
     let t = x.table;
     let p = x.pool;
@@ -194,7 +166,7 @@ pub fn start(x: Counted, len: usize, m: u32, l: u32, ids: &[u32], a: u64) -> Aft
 // Writes the table file: 10 before anything else for counts that disagree with the pool, then as without counts. A refusal leaves the
 // buffer as it is.
 pub fn write(x: Counted, len: usize, buf: &mut [u8]) -> Wrote
-    ensures { λ r. ⌜ (r ≡ wroteWith x len (now (buf .entry))) × (now (buf .exit) ≡ writtenWith x len (now (buf .entry))) ⌝ }
+    ensures { λ r. ⌜ Write x len (now (buf .entry)) (now (buf .exit)) r ⌝ }
 {
     let t = x.table;
     let p = x.pool;
@@ -207,7 +179,7 @@ pub fn write(x: Counted, len: usize, buf: &mut [u8]) -> Wrote
 
 // Is the table settled? 10 before anything else for counts that disagree with the pool, then as without counts.
 pub fn settled(x: Counted, len: usize) -> Rest
-    ensures { λ r. ⌜ r ≡ restWith x len ⌝ }
+    ensures { λ r. ⌜ Settled x len r ⌝ }
 {
     let t = x.table;
     let p = x.pool;
@@ -250,7 +222,7 @@ fn first_said(p: Pool, i: u32) -> First
 // Does node i have a message? It is answered from the count. 10 for an invalid table, a list without 256 places or counts that disagree with
 // the pool, then 1 for a slot out of range.
 pub fn has_message(x: Counted, len: usize, i: usize) -> Has
-    ensures { λ r. ⌜ r ≡ hasOf x len i ⌝ }
+    ensures { λ r. ⌜ HasMessage x len i r ⌝ }
 {
     let t = x.table;
     let counts = x.counts;
@@ -265,7 +237,7 @@ pub fn has_message(x: Counted, len: usize, i: usize) -> Has
 
 // Where is the first message for node i? It does not look where the count is 0. The numbers are those of `has_message`.
 pub fn first_message(x: Counted, len: usize, i: usize) -> First
-    ensures { λ r. ⌜ r ≡ firstOf x len i ⌝ }
+    ensures { λ r. ⌜ FirstMessage x len i r ⌝ }
 {
     let t = x.table;
     let counts = x.counts;
@@ -299,7 +271,7 @@ fn nodes_counted(counts: &[u32; 64], n: usize) -> u64
 
 // Which nodes have a message? Asked once for all of them, and answered from the counts; 10 as for `has_message`.
 pub fn poll(x: Counted, len: usize) -> Polled
-    ensures { λ r. ⌜ r ≡ polledOf x len ⌝ }
+    ensures { λ r. ⌜ Poll x len r ⌝ }
 {
     let t = x.table;
     let counts = x.counts;
@@ -307,4 +279,36 @@ pub fn poll(x: Counted, len: usize) -> Polled
         return Polled::NotAsked(Refusal::Invalid);
     }
     Polled::Nodes(nodes_counted(&counts, t.n))
+}
+
+// 01's number of an answer of `has_message`: 0 where it was looked at.
+pub fn has_number(r: Has) -> u32
+    ensures { λ x. ⌜ HasNumber r x ⌝ }
+{
+    match r {
+        Has::Yes => 0,
+        Has::No => 0,
+        Has::NotAsked(why) => parts::answer_number(Answer::Refused(why)),
+    }
+}
+
+// 01's number of an answer of `first_message`: 0 where it was looked at.
+pub fn first_number(r: First) -> u32
+    ensures { λ x. ⌜ FirstNumber r x ⌝ }
+{
+    match r {
+        First::At(_) => 0,
+        First::None => 0,
+        First::NotAsked(why) => parts::answer_number(Answer::Refused(why)),
+    }
+}
+
+// 01's number of an answer of `poll`: 0 where it was looked at.
+pub fn polled_number(r: Polled) -> u32
+    ensures { λ x. ⌜ PolledNumber r x ⌝ }
+{
+    match r {
+        Polled::Nodes(_) => 0,
+        Polled::NotAsked(why) => parts::answer_number(Answer::Refused(why)),
+    }
 }

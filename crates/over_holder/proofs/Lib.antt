@@ -1,7 +1,1 @@
-pub mod Cover
-pub mod Few
-pub mod Beside
-pub mod Answers
-pub mod Proved
 pub mod Unique
-pub mod Cases

@@ -1,2 +1,1 @@
-pub mod Holder
-pub mod Claims
+pub mod Contract

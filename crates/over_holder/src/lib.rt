@@ -7,23 +7,29 @@ ghost use Rattle.rules.specs.Leaf.{coversOf};
 ghost use Rattle.rules.specs.Nodes.{sidesOf};
 ghost use Rattle.rules.specs.Plans.{isReady};
 ghost use Rattle.table_type.specs.Table.{ringOf, idsOf};
-ghost use Rattle.over_holder.specs.Holder.{coveredBy, copiesOf, heldAt, holdingIn, holdingOf};
+ghost use Rattle.holder.specs.Holder.{coveredBy, copiesOf, heldAt, holdingIn};
+ghost use Rattle.over_holder.specs.Contract.{HeldBy, Number};
 use face_table::Rest;
+use holder::Holding;
 use marks::Found;
+use rules::Answer;
 use rules::Node;
 use rules::Pool;
-use rules::Refusal;
 use rules::Ring;
 use rules::Way;
 use table_type::Table;
 
-// The slot of the node that holds a key and the slots of the copies, or why there is none: the table is not valid or the list has not 256
-// places, the key is not below 2^M, or the table is not settled.
-pub enum Holding {
-    NotAsked(Refusal),
-    OutOfRange,
-    Unsettled,
-    By(usize, u64),
+// The number of an answer: 0 held, 1 a key out of range, 10 an invalid table or a message list without 256 places, 15 the table is not
+// settled.
+pub fn number(h: Holding) -> u32
+    ensures { λ x. ⌜ Number h x ⌝ }
+{
+    match h {
+        Holding::NotAsked(why) => parts::answer_number(Answer::Refused(why)),
+        Holding::OutOfRange => 1,
+        Holding::Unsettled => 15,
+        Holding::By(_, _) => 0,
+    }
 }
 
 // Is the node at slot s ready, and does it cover k?
@@ -101,7 +107,7 @@ fn looked_for(t: Table, settled: bool, k: u64) -> Holding
 // Who holds key k: not asked for a list without 256 places or an invalid table (10), then out of range, then not settled, else the node
 // that covers k and its neighbours.
 pub fn held_by(t: Table, p: Pool, len: usize, k: u64) -> Holding
-    ensures { λ r. ⌜ r ≡ holdingOf t p len k ⌝ }
+    ensures { λ r. ⌜ HeldBy t p len k r ⌝ }
 {
     let rest = face_table::settled(t, p, len);
     match rest {

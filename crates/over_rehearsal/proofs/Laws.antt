@@ -20,9 +20,9 @@ use Rattle.file.specs.Format.{totalOf, fileOf}
 use Rattle.file.specs.Held.{Held}
 use Rattle.file.proofs.Theorems.{total-most, counted, written}
 use Rattle.file.specs.Write.{wroteOf, writtenOf}
-use Rattle.over_rehearsal.specs.Rehearsal.{same, mostSteps, isOpen}
-use Rattle.over_rehearsal.specs.declared.Verdict.{Verdict}
-use Rattle.over_rehearsal.specs.declared.Verdict.the-variants.{Accepted, Bad}
+use Rattle.rehearsal.specs.Rehearsal.{same, mostSteps, isOpen}
+use Rattle.rehearsal.specs.declared.Verdict.{Verdict}
+use Rattle.rehearsal.specs.declared.Verdict.the-variants.{Accepted, Bad}
 
 pub one-more : (n : ℕ) → n + 1 ≡ suc n
 one-more n = simp unary-clauses

@@ -1,9 +1,2 @@
-pub mod SameFiles
-pub mod Whole
-pub mod OneMore
-pub mod Singly
-pub mod Over
-pub mod Proved
 pub mod Unique
-pub mod Cases
 pub mod Laws

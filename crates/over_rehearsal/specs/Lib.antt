@@ -1,2 +1,1 @@
-pub mod Rehearsal
-pub mod Claims
+pub mod Contract

@@ -6,44 +6,22 @@ ghost use Prim.Native.Nat.{_<_};
 ghost use lib.ListN.{length};
 ghost use Rattle.file.specs.Format.{fileOf};
 ghost use Rattle.table.specs.Valid.{validOf};
-ghost use Rattle.over_rehearsal.specs.Rehearsal.{mostSteps, same as sameOf, agreesWith, isOpen, startVerdict, checkedOf, beginOf, handedOf, replyNumber};
+ghost use Rattle.rehearsal.specs.Rehearsal.{mostSteps, same as sameOf, agreesWith, isOpen, startVerdict, checkedOf};
+ghost use Rattle.over_rehearsal.specs.Contract.{Begin, Next, Number};
 ghost use Rattle.table.specs.InnerDone.{ValidDone};
+use rehearsal::Checker;
+use rehearsal::Handed;
+use rehearsal::Reply;
+use rehearsal::Verdict;
 use rules::Action;
 use rules::Answer;
 use rules::Pool;
 use table_type::Stepped;
 use table_type::Table;
 
-// What is said of the start and of the steps that were looked at: accepted so far, or the number of the first bad step, 0 for the start.
-pub enum Verdict {
-    Accepted,
-    Bad(usize),
-}
-
-// The verdict, how many steps were found good, and the table and the messages after the last of them: those of the start where there is none, and of no
-// table where the start does not load.
-pub struct Checker {
-    pub verdict: Verdict,
-    pub steps: usize,
-    pub table: Table,
-    pub pool: Pool,
-}
-
-// A step is looked at, or it is refused: the check has ended, or 1,000 steps were looked at.
-pub enum Reply {
-    LookedAt,
-    Over,
-}
-
-// The reply to a step that was handed over, and the checker after it.
-pub struct Handed {
-    pub reply: Reply,
-    pub checker: Checker,
-}
-
 // The number of a reply: 0 for a step that was looked at, whether it was found good or bad, and 12 for a further step after an end or beyond 1,000.
 pub fn number(r: Reply) -> u32
-    ensures { λ x. ⌜ x ≡ replyNumber r ⌝ }
+    ensures { λ x. ⌜ Number r x ⌝ }
 {
     match r {
         Reply::LookedAt => 0,
@@ -146,7 +124,7 @@ fn start_verdict(answer: Answer) -> Verdict
 
 // Begins with the starting table file: accepted so far if it loads, else the start is bad, with the number 0.
 pub fn begin(file: &[u8]) -> Checker
-    ensures { λ r. ⌜ r ≡ beginOf (now (file .entry)) ⌝ }
+    ensures { λ r. ⌜ Begin (now (file .entry)) r ⌝ }
 {
     let s = face_file::loaded(file);
     let answer = s.answer;
@@ -162,7 +140,7 @@ pub fn begin(file: &[u8]) -> Checker
 
 // Looks at one more step: an action, and the table file that is said to result. 12 after an end or beyond 1,000, and the checker stays as it is.
 pub fn next(c: Checker, a: Action, stated: &[u8]) -> Handed
-    ensures { λ r. ⌜ r ≡ handedOf c a (now (stated .entry)) ⌝ }
+    ensures { λ r. ⌜ Next c a (now (stated .entry)) r ⌝ }
 {
     let verdict = c.verdict;
     if !is_open(verdict, c.steps) {

@@ -1,13 +1,3 @@
-pub mod Mixed
-pub mod AlikeLaws
-pub mod Lists
-pub mod Last
-pub mod Range
-pub mod Seats
-pub mod Replies
-pub mod After
-pub mod Proved
 pub mod Unique
-pub mod Cases
 pub mod Signed
 pub mod Places

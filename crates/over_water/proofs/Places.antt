@@ -14,14 +14,14 @@ use mir.Syntax.{w64}
 use mir.Val.{Val, SFits}
 use denote.Laws.{Is}
 use Rattle.marks.proofs.Bools.{bool-cases}
-use Rattle.over_water.specs.declared.Record.{Record}
-use Rattle.over_water.specs.declared.Held.{Held}
-use Rattle.over_water.specs.declared.Store.{Store}
-use Rattle.over_water.specs.declared.Looked.the-variants.{At, Nothing}
-use Rattle.over_water.specs.Water.{foundIn, alike, noneHeld, countOf, heldOf, seatOf, changeOf, totalOf}
-use Rattle.over_water.proofs.Seats.{count-most}
+use Rattle.water.specs.declared.Record.{Record}
+use Rattle.water.specs.declared.Held.{Held}
+use Rattle.water.specs.declared.Store.{Store}
+use Rattle.water.specs.declared.Looked.the-variants.{At, Nothing}
+use Rattle.water.specs.Water.{foundIn, alike, noneHeld, countOf, heldOf, seatOf, changeOf, totalOf}
+use Rattle.water.proofs.Seats.{count-most}
 use Rattle.over_water.proofs.Signed.{size-sum, fits}
-use Rattle.over_water.proofs.Store as store
+use Rattle.water.proofs.Store as store
 
 -- a store by value has 512 places
 pub record Full (s : Store) : Type 0 where

@@ -1,3 +1,1 @@
-pub mod Water
-pub mod History
-pub mod Claims
+pub mod Contract

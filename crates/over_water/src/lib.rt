@@ -3,66 +3,25 @@
 ghost use mathlib.Core.Path.{_≡_};
 ghost use Prim.Native.Nat.{_^_, _<_, _≤_};
 ghost use lib.IntN.{natAbs};
-ghost use Rattle.over_water.specs.Water.{inRange, changeOf, countOf, heldOf, seatOf, keptAt, emptyStore};
-ghost use Rattle.over_water.specs.Water.{refusedOf, putOf, placeBy, placeOf, lookedUp, sumOf, whyNumber, replyNumber};
-ghost use Rattle.over_water.specs.Water.{alike as alikeOf};
-use over_holder::Holding;
+ghost use Rattle.water.specs.Water.{inRange, changeOf, countOf, heldOf, seatOf, keptAt};
+ghost use Rattle.water.specs.Water.{refusedOf, putOf, placeBy, whyNumber};
+ghost use Rattle.water.specs.Water.{alike as alikeOf};
+ghost use Rattle.over_water.specs.Contract.{Number, Empty, Change, Place, LookUp, Sum};
+use holder::Holding;
 use rules::Pool;
 use table_type::Table;
-
-// A record: a key, a month from 1 to 12, and rain, evapotranspiration and runoff in tenths of a millimetre. The fields are wider
-// than their ranges, so that 14 can be answered.
-pub struct Record {
-    pub key: u64,
-    pub month: u32,
-    pub rain: u32,
-    pub evapotranspiration: u32,
-    pub runoff: u32,
-}
-
-// A record that is held: its original at slot `holder`, copies at the slots of a set.
-pub struct Held {
-    pub original: Record,
-    pub holder: usize,
-    pub copies: u64,
-}
-
-// The records that are held: the first `count` of 512 places, in the order in which their key and month were first accepted. A count
-// beyond 512 stands for all places.
-pub struct Store {
-    pub count: usize,
-    pub places: [Held; 512],
-}
-
-// What is held of a key and month.
-pub enum Looked {
-    At(Held),
-    Nothing,
-}
-
-// Why a record is not taken.
-pub enum Why {
-    Invalid,
-    OutOfRange,
-    Unsettled,
-    NoRoom,
-}
-
-pub enum Reply {
-    Accepted,
-    Refused(Why),
-}
-
-// The reply to a record, and the store after it.
-pub struct Placed {
-    pub reply: Reply,
-    pub store: Store,
-}
+use water::Held;
+use water::Looked;
+use water::Placed;
+use water::Record;
+use water::Reply;
+use water::Store;
+use water::Why;
 
 // The number of a reply: 0 accepted, 10 an invalid table or a message list without 256 places, 14 a number out of range, 15 the table is
 // not settled, 16 no room for a new key and month.
 pub fn number(r: Reply) -> u32
-    ensures { λ x. ⌜ x ≡ replyNumber r ⌝ }
+    ensures { λ x. ⌜ Number r x ⌝ }
 {
     match r {
         Reply::Accepted => 0,
@@ -83,7 +42,7 @@ fn why_number(w: Why) -> u32
 
 // The store in which nothing is held.
 pub fn empty() -> Store
-    ensures { λ r. ⌜ r ≡ emptyStore ⌝ }
+    ensures { λ r. ⌜ Empty r ⌝ }
 {
     let none = Held {
         original: Record {
@@ -111,7 +70,7 @@ fn difference(r: Record) -> i64
 
 // The change of stored water: rain - evapotranspiration - runoff.
 pub fn change(r: Record) -> i64
-    ensures { λ x. ⌜ x ≡ changeOf r ⌝ }
+    ensures { λ x. ⌜ Change r x ⌝ }
 {
     difference(r)
 }
@@ -224,14 +183,14 @@ fn place_by(w: Holding, s: Store, r: Record) -> Placed
 // Places a record: at the node that covers its key, with copies at that node's neighbours, and in place of an earlier one of the same key
 // and month. A refusal leaves the store as it is.
 pub fn place(t: Table, p: Pool, len: usize, s: Store, r: Record) -> Placed
-    ensures { λ x. ⌜ x ≡ placeOf t p len s r ⌝ }
+    ensures { λ x. ⌜ Place t p len s r x ⌝ }
 {
     place_by(over_holder::held_by(t, p, len, r.key), s, r)
 }
 
 // What is held of a key and month.
 pub fn look_up(s: Store, key: u64, month: u32) -> Looked
-    ensures { λ x. ⌜ x ≡ lookedUp s key month ⌝ }
+    ensures { λ x. ⌜ LookUp s key month x ⌝ }
 {
     let r = Record {
         key,
@@ -251,7 +210,7 @@ pub fn look_up(s: Store, key: u64, month: u32) -> Looked
 
 // The sum of the changes over the held originals.
 pub fn sum(s: Store) -> i64
-    ensures { λ x. ⌜ x ≡ sumOf s ⌝ }
+    ensures { λ x. ⌜ Sum s x ⌝ }
 {
     let n = held_count(s.count);
     let mut out: i64 = 0;

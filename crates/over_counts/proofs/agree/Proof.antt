@@ -1,7 +1,7 @@
 -- `counts::agree` meets its contract: its own counts are compared with those given. Assumes nothing.
 use mathlib.Core.Path.{_∙_, ap}
 use Rattle.rules.specs.Mail.{sameTo}
-use Rattle.over_counts.proofs.ByCase.{same-agrees}
+use Rattle.counts.proofs.ByCase.{same-agrees}
 use borrow.Author.Needs.{needs}
 use Rattle.over_counts.proofs.agree.Statement.{statement}
 use Rattle.over_counts.proofs.agree.Tie as tie

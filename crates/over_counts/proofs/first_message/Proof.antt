@@ -5,8 +5,8 @@ use borrow.Author.Tests.{not-true, not-false}
 use mathlib.Core.Bool.{true}
 use Prim.Native.Nat.{_<_}
 use native.Mathlib.Omega.{arith}
-use Rattle.over_counts.specs.Counts.{isSoundCounted}
-use Rattle.over_counts.proofs.ByCase.{tells, first-invalid, first-out, first-none, first-walked}
+use Rattle.counts.specs.Counts.{isSoundCounted}
+use Rattle.counts.proofs.ByCase.{tells, first-invalid, first-out, first-none, first-walked}
 use borrow.Author.Needs.{needs}
 use Rattle.over_counts.proofs.first_message.Statement.{statement}
 use Rattle.over_counts.proofs.first_message.Tie as tie

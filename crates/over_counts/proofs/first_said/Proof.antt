@@ -1,6 +1,6 @@
 -- `counts::first_said` meets its contract: what was found decides the definition's case. Assumes nothing.
 use mathlib.Core.Path.{sym, _∙_, ap}
-use Rattle.over_counts.specs.Counts.{firstSaid}
+use Rattle.counts.specs.Counts.{firstSaid}
 use borrow.Author.Needs.{needs}
 use Rattle.over_counts.proofs.first_said.Statement.{statement}
 use Rattle.over_counts.proofs.first_said.Tie as tie

@@ -4,8 +4,8 @@ use borrow.Author.Tests.{not-true, not-false}
 use mathlib.Core.Bool.{true}
 use Prim.Native.Nat.{_<_}
 use native.Mathlib.Omega.{arith}
-use Rattle.over_counts.specs.Counts.{isSoundCounted}
-use Rattle.over_counts.proofs.ByCase.{tells, has-invalid, has-out, has-yes, has-no}
+use Rattle.counts.specs.Counts.{isSoundCounted}
+use Rattle.counts.proofs.ByCase.{tells, has-invalid, has-out, has-yes, has-no}
 use borrow.Author.Needs.{needs}
 use Rattle.over_counts.proofs.has_message.Statement.{statement}
 use Rattle.over_counts.proofs.has_message.Tie as tie

@@ -1,7 +1,7 @@
 -- `counts::is_sound` meets its contract: the definition's three tests, in its order. Assumes nothing.
 use mathlib.Core.Path.{sym, _∙_}
 use borrow.Author.Tests.{not-true, not-false}
-use Rattle.over_counts.proofs.ByCase.{other-length, not-valid, then-agrees}
+use Rattle.counts.proofs.ByCase.{other-length, not-valid, then-agrees}
 use borrow.Author.Needs.{needs}
 use Rattle.over_counts.proofs.is_sound.Statement.{statement}
 use Rattle.over_counts.proofs.is_sound.Tie as tie

@@ -1,6 +1,6 @@
 -- `counts::load` meets its contract: the counts are made of what the load leaves. Assumes nothing.
 use mathlib.Core.Path.{_∙_, ap}
-use Rattle.over_counts.specs.Counts.{afterBy, loadWith}
+use Rattle.counts.specs.Counts.{afterBy, loadWith}
 use borrow.Author.Needs.{needs}
 use Rattle.over_counts.proofs.load.Statement.{statement}
 use Rattle.over_counts.proofs.load.Tie as tie

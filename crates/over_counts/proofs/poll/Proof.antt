@@ -2,9 +2,9 @@
 use mathlib.Core.Path.{_≡_, sym, _∙_, ap}
 use borrow.Author.Tests.{not-true, not-false}
 use mathlib.Core.Bool.{true}
-use Rattle.over_counts.specs.declared.Polled.the-variants as polled
-use Rattle.over_counts.specs.Counts.{isSoundCounted}
-use Rattle.over_counts.proofs.ByCase.{tells, polled-invalid, polled-nodes}
+use Rattle.counts.specs.declared.Polled.the-variants as polled
+use Rattle.counts.specs.Counts.{isSoundCounted}
+use Rattle.counts.proofs.ByCase.{tells, polled-invalid, polled-nodes}
 use borrow.Author.Needs.{needs}
 use Rattle.over_counts.proofs.poll.Statement.{statement}
 use Rattle.over_counts.proofs.poll.Tie as tie

@@ -1,7 +1,7 @@
 -- `counts::settled` meets its contract: whether the counts agree decides the definition's case. Assumes nothing.
 use mathlib.Core.Path.{sym, _∙_}
 use borrow.Author.Tests.{not-true, not-false}
-use Rattle.over_counts.proofs.CountLaws.{rest-agreed, rest-disagreed}
+use Rattle.counts.proofs.CountLaws.{rest-agreed, rest-disagreed}
 use borrow.Author.Needs.{needs}
 use Rattle.over_counts.proofs.settled.Statement.{statement}
 use Rattle.over_counts.proofs.settled.Tie as tie

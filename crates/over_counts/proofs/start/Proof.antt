@@ -1,6 +1,6 @@
 -- `counts::start` meets its contract: the counts are made of what the start leaves. Assumes nothing.
 use mathlib.Core.Path.{_∙_, ap}
-use Rattle.over_counts.specs.Counts.{afterBy, startWith}
+use Rattle.counts.specs.Counts.{afterBy, startWith}
 use borrow.Author.Needs.{needs}
 use Rattle.over_counts.proofs.start.Statement.{statement}
 use Rattle.over_counts.proofs.start.Tie as tie

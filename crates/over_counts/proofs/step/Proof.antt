@@ -1,8 +1,8 @@
 -- `counts::step` meets its contract: whether the counts agree decides the definition's case. Assumes nothing.
 use mathlib.Core.Path.{sym, _∙_, ap}
 use borrow.Author.Tests.{not-true, not-false}
-use Rattle.over_counts.specs.Counts.{afterBy}
-use Rattle.over_counts.proofs.CountLaws.{step-agreed, step-disagreed}
+use Rattle.counts.specs.Counts.{afterBy}
+use Rattle.counts.proofs.CountLaws.{step-agreed, step-disagreed}
 use borrow.Author.Needs.{needs}
 use Rattle.over_counts.proofs.step.Statement.{statement}
 use Rattle.over_counts.proofs.step.Tie as tie

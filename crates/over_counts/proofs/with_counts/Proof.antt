@@ -1,5 +1,5 @@
 -- `counts::with_counts` meets its contract: the counts after the call beside what the call leaves. Assumes nothing.
-use Rattle.over_counts.specs.Counts.{afterBy}
+use Rattle.counts.specs.Counts.{afterBy}
 use borrow.Author.Needs.{needs}
 use Rattle.over_counts.proofs.with_counts.Statement.{statement}
 use Rattle.over_counts.proofs.with_counts.Tie as tie

@@ -1,7 +1,7 @@
 -- `counts::write` meets its contract: whether the counts agree decides the definition's case. Assumes nothing.
 use mathlib.Core.Path.{sym, _∙_}
 use borrow.Author.Tests.{not-true, not-false}
-use Rattle.over_counts.proofs.CountLaws.{wrote-agreed, wrote-disagreed, written-agreed, written-disagreed}
+use Rattle.counts.proofs.CountLaws.{wrote-agreed, wrote-disagreed, written-agreed, written-disagreed}
 use borrow.Author.Needs.{needs}
 use Rattle.over_counts.proofs.write.Statement.{statement}
 use Rattle.over_counts.proofs.write.Tie as tie

@@ -1,7 +1,7 @@
 -- `holder::copies` meets its contract: it makes the set as the definition does. Assumes nothing.
 use borrow.Author.Needs.{needs}
 use mathlib.Core.Path.{_∙_}
-use Rattle.over_holder.specs.Holder.{copiesOf}
+use Rattle.holder.specs.Holder.{copiesOf}
 use Rattle.over_holder.proofs.copies.Statement.{statement}
 use Rattle.over_holder.proofs.copies.Tie as tie
 

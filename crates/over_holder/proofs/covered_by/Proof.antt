@@ -13,7 +13,7 @@ use Rattle.rules.specs.Nodes.{sidesOf}
 use Rattle.rules.specs.Plans.{isReady}
 use Rattle.table_type.specs.declared.Table.{Table}
 use Rattle.table_type.specs.Table.{nodeAt, idsOf, ringOf}
-use Rattle.over_holder.specs.Holder.{readyCovers, coveredBy}
+use Rattle.holder.specs.Holder.{readyCovers, coveredBy}
 use Rattle.over_holder.proofs.covered_by.Statement.{statement}
 use Rattle.over_holder.proofs.covered_by.Tie as tie
 

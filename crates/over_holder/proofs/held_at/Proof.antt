@@ -6,7 +6,7 @@ use native.Mathlib.Omega.{arith}
 use Rattle.marks.specs.declared.Found.the-variants.{At}
 use Rattle.marks.proofs.Slots.{first-found}
 use Rattle.table_type.specs.declared.Table.{Table}
-use Rattle.over_holder.specs.Holder.{readyCovers, coveredBy}
+use Rattle.holder.specs.Holder.{readyCovers, coveredBy}
 use Rattle.over_holder.proofs.held_at.Statement.{statement}
 use Rattle.over_holder.proofs.held_at.Tie as tie
 

@@ -15,9 +15,9 @@ use Rattle.table_type.specs.declared.Table.{Table}
 use Rattle.table_type.specs.Table.{ringOf, idsOf}
 use Rattle.table.specs.Settled.{isSettled}
 use Rattle.table.specs.Step.{isSound}
-use Rattle.over_holder.specs.declared.Holding.{Holding}
-use Rattle.over_holder.specs.declared.Holding.the-variants as held
-use Rattle.over_holder.specs.Holder.{holdingIn, holdingOf}
+use Rattle.holder.specs.declared.Holding.{Holding}
+use Rattle.holder.specs.declared.Holding.the-variants as held
+use Rattle.holder.specs.Holder.{holdingIn, holdingOf}
 use Rattle.over_holder.proofs.held_by.Statement.{statement}
 use Rattle.over_holder.proofs.held_by.Tie as tie
 

@@ -9,9 +9,9 @@ use native.Mathlib.Omega.{arith}
 use lib.Dec.{lit<}
 use lib.Pow.{shl-exact, pow-mono}
 use Rattle.table_type.specs.declared.Table.{Table}
-use Rattle.over_holder.specs.declared.Holding.{Holding}
-use Rattle.over_holder.specs.declared.Holding.the-variants.{OutOfRange, Unsettled}
-use Rattle.over_holder.specs.Holder.{coveredBy, heldAt, holdingIn}
+use Rattle.holder.specs.declared.Holding.{Holding}
+use Rattle.holder.specs.declared.Holding.the-variants.{OutOfRange, Unsettled}
+use Rattle.holder.specs.Holder.{coveredBy, heldAt, holdingIn}
 use Rattle.over_holder.proofs.looked_for.Statement.{statement}
 use Rattle.over_holder.proofs.looked_for.Tie as tie
 

@@ -1,7 +1,7 @@
 -- `rehearsal::agrees` meets its contract. Assumes nothing.
 use borrow.Author.Needs.{needs}
 use mathlib.Core.Path.{_∙_}
-use Rattle.over_rehearsal.specs.Rehearsal.{agreesWith}
+use Rattle.rehearsal.specs.Rehearsal.{agreesWith}
 use Rattle.over_rehearsal.proofs.agrees.Statement.{statement}
 use Rattle.over_rehearsal.proofs.agrees.Tie as tie
 

@@ -1,6 +1,6 @@
 -- `rehearsal::begin` meets its contract: the file as it loads, with the verdict of its start. Assumes nothing.
 use borrow.Author.Needs.{needs}
-use Rattle.over_rehearsal.specs.Rehearsal.{beginOf}
+use Rattle.rehearsal.specs.Rehearsal.{beginOf}
 use Rattle.over_rehearsal.proofs.begin.Statement.{statement}
 use Rattle.over_rehearsal.proofs.begin.Tie as tie
 

@@ -2,8 +2,8 @@
 use borrow.Author.Needs.{needs}
 use mathlib.Core.Path.{sym, _∙_, ap}
 use Prim.Native.Nat.{ℕ}
-use Rattle.over_rehearsal.specs.declared.Verdict.the-variants.{Accepted, Bad}
-use Rattle.over_rehearsal.specs.Rehearsal.{checkedOf}
+use Rattle.rehearsal.specs.declared.Verdict.the-variants.{Accepted, Bad}
+use Rattle.rehearsal.specs.Rehearsal.{checkedOf}
 use Rattle.over_rehearsal.proofs.Laws.{one-more}
 use Rattle.over_rehearsal.proofs.checked.Statement.{statement}
 use Rattle.over_rehearsal.proofs.checked.Tie as tie

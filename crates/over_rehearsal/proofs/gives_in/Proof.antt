@@ -6,7 +6,7 @@ use lib.ListN.{length, take}
 use lib.Seq.{length-take-le}
 use Rattle.file.specs.Format.{fileOf}
 use Rattle.file_write.proofs.Values.{held-of}
-use Rattle.over_rehearsal.specs.Rehearsal.{same}
+use Rattle.rehearsal.specs.Rehearsal.{same}
 use Rattle.over_rehearsal.proofs.Laws.{whole-long, whole-file}
 use Rattle.over_rehearsal.proofs.gives_in.Statement.{statement}
 use Rattle.over_rehearsal.proofs.gives_in.Tie as tie

@@ -3,7 +3,7 @@ use mathlib.Core.Path.{_≡_, refl, sym, _∙_}
 use Prim.Native.Nat.{_-_, _≤_}
 use native.Mathlib.Omega.{arith}
 use lib.ListN.{length, drop}
-use Rattle.over_rehearsal.specs.Rehearsal.{same}
+use Rattle.rehearsal.specs.Rehearsal.{same}
 use Rattle.over_rehearsal.proofs.Laws.{same-long, same-turn, same-not, same-end}
 use Rattle.over_rehearsal.proofs.same.Statement.{statement}
 use Rattle.over_rehearsal.proofs.same.Tie as tie

@@ -2,7 +2,7 @@
 use borrow.Author.Needs.{needs}
 use mir.Syntax.{w32}
 use mir.Val.{Fits}
-use Rattle.over_water.specs.Water.{changeOf}
+use Rattle.water.specs.Water.{changeOf}
 use Rattle.over_water.proofs.Signed.{two-fit, three-fit, three-is, change-small}
 use Rattle.over_water.proofs.difference.Statement.{statement}
 use Rattle.over_water.proofs.difference.Tie as tie

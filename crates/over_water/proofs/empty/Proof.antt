@@ -1,6 +1,6 @@
 -- `water::empty` meets its contract: every place is blank. Assumes nothing.
 use mathlib.Core.Path.{refl}
-use Rattle.over_water.specs.Water.{emptyStore}
+use Rattle.water.specs.Water.{emptyStore}
 use Rattle.over_water.proofs.empty.Statement.{statement}
 use Rattle.over_water.proofs.empty.Tie as tie
 

@@ -2,7 +2,7 @@
 use borrow.Author.Needs.{needs}
 use borrow.Author.Tests.{le-leb, lt-leb}
 use native.Mathlib.Numerals.{add-one}
-use Rattle.over_water.specs.Water.{keptAt}
+use Rattle.water.specs.Water.{keptAt}
 use Rattle.over_water.proofs.kept.Statement.{statement}
 use Rattle.over_water.proofs.kept.Tie as tie
 

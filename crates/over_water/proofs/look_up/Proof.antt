@@ -4,12 +4,12 @@ use mathlib.Core.Path.{_≡_, sym, _∙_, ap}
 use Prim.Native.Nat.{ℕ, _<_, _≤_}
 use native.Mathlib.Omega.{arith}
 use lib.ListN.{getD}
-use Rattle.over_water.specs.declared.Record.{Record}
-use Rattle.over_water.specs.declared.Held.{Held}
-use Rattle.over_water.specs.declared.Looked.the-variants.{At, Nothing}
-use Rattle.over_water.specs.declared.Store.{Store}
-use Rattle.over_water.specs.Water.{noneHeld, countOf, heldOf, seatOf, foundIn}
-use Rattle.over_water.proofs.Seats.{count-most}
+use Rattle.water.specs.declared.Record.{Record}
+use Rattle.water.specs.declared.Held.{Held}
+use Rattle.water.specs.declared.Looked.the-variants.{At, Nothing}
+use Rattle.water.specs.declared.Store.{Store}
+use Rattle.water.specs.Water.{noneHeld, countOf, heldOf, seatOf, foundIn}
+use Rattle.water.proofs.Seats.{count-most}
 use Rattle.over_water.proofs.Places.{Full, full, held-length, held-at, look-found, look-none}
 use Rattle.over_water.proofs.look_up.Statement.{statement}
 use Rattle.over_water.proofs.look_up.Tie as tie

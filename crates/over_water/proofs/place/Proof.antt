@@ -1,7 +1,7 @@
 -- `water::place` meets its contract: it asks who holds the key, and goes by the answer. Assumes nothing.
 use borrow.Author.Needs.{needs}
 use mathlib.Core.Path.{_∙_}
-use Rattle.over_water.specs.Water.{placeOf}
+use Rattle.water.specs.Water.{placeOf}
 use Rattle.over_water.proofs.place.Statement.{statement}
 use Rattle.over_water.proofs.place.Tie as tie
 

@@ -4,13 +4,13 @@ use borrow.Author.Needs.{needs}
 use mathlib.Core.Path.{_≡_, sym, _∙_}
 use mathlib.Core.Bool.{true, false}
 use Prim.Native.Nat.{ℕ}
-use Rattle.over_holder.specs.declared.Holding.{Holding}
-use Rattle.over_holder.specs.declared.Holding.the-variants as held
+use Rattle.holder.specs.declared.Holding.{Holding}
+use Rattle.holder.specs.declared.Holding.the-variants as held
 use Rattle.rules.specs.declared.Refusal.{Refusal}
-use Rattle.over_water.specs.declared.Record.{Record}
-use Rattle.over_water.specs.declared.Store.{Store}
-use Rattle.over_water.specs.declared.Why.the-variants.{Invalid, OutOfRange, Unsettled}
-use Rattle.over_water.specs.Water.{inRange, refusedOf, putOf, placeBy}
+use Rattle.water.specs.declared.Record.{Record}
+use Rattle.water.specs.declared.Store.{Store}
+use Rattle.water.specs.declared.Why.the-variants.{Invalid, OutOfRange, Unsettled}
+use Rattle.water.specs.Water.{inRange, refusedOf, putOf, placeBy}
 use Rattle.over_water.proofs.place_by.Statement.{statement}
 use Rattle.over_water.proofs.place_by.Tie as tie
 

@@ -3,11 +3,11 @@ use borrow.Author.Needs.{needs}
 use borrow.Author.Tests.{lt-ltb, le-ltb}
 use mathlib.Core.Path.{_≡_, _∙_}
 use Prim.Native.Nat.{ℕ, _<_, _≤_}
-use Rattle.over_water.specs.declared.Record.{Record}
-use Rattle.over_water.specs.declared.Store.{Store}
-use Rattle.over_water.specs.declared.Reply.the-variants.{Accepted}
-use Rattle.over_water.specs.declared.Why.the-variants.{NoRoom}
-use Rattle.over_water.specs.Water.{heldOf, seatOf, keptAt, refusedOf, putOf}
+use Rattle.water.specs.declared.Record.{Record}
+use Rattle.water.specs.declared.Store.{Store}
+use Rattle.water.specs.declared.Reply.the-variants.{Accepted}
+use Rattle.water.specs.declared.Why.the-variants.{NoRoom}
+use Rattle.water.specs.Water.{heldOf, seatOf, keptAt, refusedOf, putOf}
 use Rattle.over_water.proofs.put.Statement.{statement}
 use Rattle.over_water.proofs.put.Tie as tie
 

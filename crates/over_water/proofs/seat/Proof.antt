@@ -4,8 +4,8 @@ use borrow.Author.Needs.{needs}
 use mathlib.Core.Path.{_≡_, sym, _∙_}
 use Prim.Native.Nat.{_-_, _≤_}
 use native.Mathlib.Omega.{arith}
-use Rattle.over_water.specs.Water.{heldOf}
-use Rattle.over_water.proofs.Seats.{count-most}
+use Rattle.water.specs.Water.{heldOf}
+use Rattle.water.proofs.Seats.{count-most}
 use Rattle.over_water.proofs.Places.{Full, full, Passed, none-passed, passed-all, found, passed-more}
 use Rattle.over_water.proofs.seat.Statement.{statement}
 use Rattle.over_water.proofs.seat.Tie as tie

@@ -6,8 +6,8 @@ use native.Mathlib.Omega.{arith}
 use lib.IntN.{natAbs, _+ℤ_}
 use mir.Syntax.{w64}
 use mir.Val.{toZ}
-use Rattle.over_water.specs.Water.{heldOf}
-use Rattle.over_water.proofs.Seats.{count-most}
+use Rattle.water.specs.Water.{heldOf}
+use Rattle.water.proofs.Seats.{count-most}
 use Rattle.over_water.proofs.Places.{Full, full, Summed, none-summed, sum-fits, summed-more, summed-all}
 use Rattle.over_water.proofs.Signed.{stored}
 use Rattle.over_water.proofs.sum.Statement.{statement}

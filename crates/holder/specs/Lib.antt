@@ -1,0 +1,2 @@
+pub mod Holder
+pub mod Claims

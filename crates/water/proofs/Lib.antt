@@ -1,0 +1,10 @@
+pub mod Mixed
+pub mod AlikeLaws
+pub mod Lists
+pub mod Last
+pub mod Range
+pub mod Seats
+pub mod Replies
+pub mod After
+pub mod Proved
+pub mod Cases

@@ -1,0 +1,3 @@
+pub mod Water
+pub mod History
+pub mod Claims
