@@ -4,3 +4,8 @@ pub mod Steps
 pub mod Leaf
 pub mod Hops
 pub mod Cases
+pub mod Small
+pub mod ActionCases
+pub mod RouteCases
+pub mod ProbeCases
+pub mod LeaseCases
