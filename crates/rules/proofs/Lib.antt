@@ -9,3 +9,8 @@ pub mod ActionCases
 pub mod RouteCases
 pub mod ProbeCases
 pub mod LeaseCases
+pub mod LeafCases
+pub mod HopCases
+pub mod MailCases
+pub mod FitsCases
+pub mod NumberCases
