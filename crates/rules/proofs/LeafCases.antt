@@ -64,6 +64,9 @@ pub record LeafSets : Type 0 where
       × (isComplete (six 2) (sides 2 16) ≡ false) × (isComplete (six 1) noSides ≡ false)
   -- empty: both hold none
   pub empty : (isEmpty noSides ≡ true) × (isEmpty (sides 2 0) ≡ false) × (isEmpty (sides 0 2) ≡ false)
+  -- by its neighbours, 40 and 200, and not by its ends, 80 and 160: 10 covers 234 to 255 and 0 to 25
+  pub by-neighbours : (coversOf (six 2) sixIds 0 (sides 6 48) 25 ≡ true) × (coversOf (six 2) sixIds 0 (sides 6 48) 26 ≡ false)
+      × (coversOf (six 2) sixIds 0 (sides 6 48) 234 ≡ true) × (coversOf (six 2) sixIds 0 (sides 6 48) 233 ≡ false)
   -- 17 with 65 on its left and none on its right: it covers 18 to 41
   pub right-none : (coversOf four ids 0 (sides 4 0) 41 ≡ true) × (coversOf four ids 0 (sides 4 0) 42 ≡ false)
       × (coversOf four ids 0 (sides 4 0) 18 ≡ true) × (coversOf four ids 0 (sides 4 0) 17 ≡ false)
@@ -95,6 +98,7 @@ leaf-sets =
       complete = (refl, refl);
       incomplete = (refl, refl, refl, refl);
       empty = (refl, refl, refl);
+      by-neighbours = (refl, refl, refl, refl);
       right-none = (refl, refl, refl, refl);
       left-none = (refl, refl, refl, refl);
     }
