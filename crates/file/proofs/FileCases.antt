@@ -101,7 +101,7 @@ layout = refl
 
 -- the same bytes read
 pub layout-read : (fileTable (headerBytes ++ (nodeBytes ++ (replicate 64 0 ++ messageBytes))) .nodes
-        ≡ node 67305985 Ok 5 6 7 8 9 10 1301839424133073931 ∷ replicate 63 noNode)
+    ≡ node 67305985 Ok 5 6 7 8 9 10 1301839424133073931 ∷ replicate 63 noNode)
     × (filePool (headerBytes ++ (nodeBytes ++ (replicate 64 0 ++ messageBytes))) ≡ laid (message 1 2 134678021 4 29 30 31 2025241152513840661 32 33 ∷ []))
 unfolding opened
 layout-read = (refl, refl)

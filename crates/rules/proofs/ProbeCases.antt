@@ -35,6 +35,8 @@ pub record JoinReplyTaken : Type 0 where
   -- 160 is told, and is neither the next up nor the next down: it is not probed
   pub done : made (replied 0 0 0 Wait)
       ≡ (node 80 Wait 8 32 40 0 61 2 1, placed (lsProbe 2 (sides 8 32) 0) 3 ∷ placed (lsProbe 2 (sides 8 32) 0) 5 ∷ [])
+  pub stays-ready : made (replied 0 0 0 Ready)
+      ≡ (node 80 Ready 8 32 40 0 61 2 1, placed (lsProbe 2 (sides 8 32) 0) 3 ∷ placed (lsProbe 2 (sides 8 32) 0) 5 ∷ [])
   -- the node itself is neither in its leaf set nor probed
   pub without-itself : made (repliedWithItself Wait)
       ≡ (node 80 Wait 8 16 24 0 28 0 0, placed (lsProbe 2 (sides 8 16) 0) 3 ∷ placed (lsProbe 2 (sides 8 16) 0) 4 ∷ [])
@@ -42,7 +44,16 @@ pub record JoinReplyTaken : Type 0 where
 pub join-reply-taken : JoinReplyTaken
 unfolding opened
 join-reply-taken =
-    record { two = refl; four-left = refl; four-right = refl; five = refl; four-first = refl; done = refl; without-itself = refl }
+    record {
+      two = refl;
+      four-left = refl;
+      four-right = refl;
+      five = refl;
+      four-first = refl;
+      done = refl;
+      stays-ready = refl;
+      without-itself = refl;
+    }
 
 -- ---- 4. From j. 2 if dead; 4 if wait with empty leaf set; 5 if j = i. F = failed without j. S = leaf set, with j added unless in it. P1 = the members of
 -- content(S) that are also in m's failed. P2 = content of S after adding m's content without F, minus content(S). P = the union of P1 and P2, without
