@@ -165,6 +165,8 @@ pub record Loads : Type 0 where
   pub last : number (header 8 1 2 1 32 160 216 1 body) 256 ≡ 8
   -- the greatest numbers are in range: 9 by the length
   pub greatest : number (w32 32 (w32 8 (w32 64 (0 ∷ 1 ∷ 0 ∷ 0 ∷ w32 32 (w32 160 (w32 216 (w32 0 body))))))) 256 ≡ 9
+  -- so are more nodes than there are ids
+  pub crowded : number (header 2 1 5 0 32 160 216 0 []) 256 ≡ 9
   -- 9: an offset, the total or the real length disagrees with the counts
   pub offsets : (number (header 8 1 2 1 33 160 216 0 body) 256 ≡ 9) × (number (header 8 1 2 1 32 161 216 0 body) 256 ≡ 9)
   pub total : number (header 8 1 2 1 32 160 217 0 body) 256 ≡ 9
@@ -192,6 +194,7 @@ loads =
       count = refl;
       last = refl;
       greatest = refl;
+      crowded = refl;
       offsets = (refl, refl);
       total = refl;
       long = (refl, refl);

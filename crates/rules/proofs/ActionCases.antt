@@ -38,7 +38,7 @@ lookup-cases =
 
 -- slot 2 joins at slot 1, by whether its JoinRequest waits, its status and sides, and the seed's status
 abbrev joins : Bool → Status → ℕ → ℕ → Status → Planned
-joins waiting s left right seed = planJoin waiting 2 (node 65 s left right 8 8 4 1 2) 1 (node 18 seed 4 1 0 0 7 5 5)
+joins waiting s left right seed = planJoin waiting 2 (node 65 s left right 8 8 13 1 2) 1 (node 18 seed 4 1 0 0 7 5 5)
 
 pub record JoinCases : Type 0 where
   pub two : atEach (λ s. joins false s 0 0 Ready) ≡ 0 ∷ 2 ∷ 2 ∷ 2 ∷ []
@@ -50,7 +50,7 @@ pub record JoinCases : Type 0 where
   pub four-right : atEach (joins false Dead 0 2) ≡ 2 ∷ 2 ∷ 2 ∷ 4 ∷ []
   -- 3 before 4
   pub three-first : numberOf (joins true Dead 8 2 Ready) ≡ 3
-  pub done : made (joins false Dead 0 0 Ready) ≡ (node 65 Wait 0 0 8 8 4 1 2, placed (joinRequest 2 0) 1 ∷ [])
+  pub done : made (joins false Dead 0 0 Ready) ≡ (node 65 Wait 0 0 8 8 13 1 2, placed (joinRequest 2 0) 1 ∷ [])
   -- anywhere, with any routing set; of i, and a JoinRequest
   pub waits-anywhere : joinWaits (placed (lookup 2) 2 ∷ placed (joinRequest 2 7) 0 ∷ []) 2 ≡ true
   pub waits-of-another : joinWaits (placed (joinRequest 1 0) 2 ∷ []) 2 ≡ false
