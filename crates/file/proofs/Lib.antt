@@ -6,3 +6,4 @@ pub mod Back
 pub mod Exactly
 pub mod Theorems
 pub mod Replies
+pub mod FileCases

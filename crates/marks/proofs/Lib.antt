@@ -3,3 +3,4 @@ pub mod Bits
 pub mod Slots
 pub mod Laws
 pub mod Machine
+pub mod Cases

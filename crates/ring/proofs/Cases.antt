@@ -1,5 +1,6 @@
 -- 01's worked values, P1 to P7, P8's tie, P10 and Fall at M = 32, as one table proved of the definitions. For P4 to P7 the checker computes the
--- test at each of the 256 keys (`each-key`). Assumes nothing.
+-- test at each of the 256 keys (`each-key`). `further` has what they leave open: distances round the ring's end, the tie there, and an odd gap.
+-- Assumes nothing.
 use mathlib.Core.Path.{_≡_, refl, sym}
 use mathlib.Core.Logic.{⊎-elim}
 use mathlib.Core.Bool.{Bool, true, false, _&&_, _||_, Bool·beq, and-eq-true-iff}
@@ -53,4 +54,31 @@ worked =
       tie = (refl, refl, refl, refl);
       p10 = refl;
       wide = refl;
+    }
+
+pub record Further : Type 0 where
+  -- Fall(x, x) = 0
+  pub self : fallOf 256 17 17 ≡ 0
+  -- d + N if d < -N/2; d - N if d > N/2; else d
+  pub signed : (signedOf 256 3 250 ≡ pos 9) × (signedOf 256 250 3 ≡ negsuc 8) × (signedOf 256 17 95 ≡ negsuc 77) × (signedOf 256 95 17 ≡ pos 78)
+  pub past-half : (signedOf 256 129 0 ≡ negsuc 126) × (signedOf 256 0 129 ≡ pos 127)
+  pub size : (absDistOf 256 250 3 ≡ 9) × (absDistOf 256 0 128 ≡ 128)
+  -- key 0 is reached from 250 by rising, though 6 is the smaller id at the same distance
+  pub tie : (nearer 256 0 250 6 ≡ true) × (nearer 256 0 6 250 ≡ false) × (nearer 256 0 6 6 ≡ false)
+  -- a smaller AbsDist comes first, whatever the direction
+  pub smaller : (nearer 256 0 5 250 ≡ true) × (nearer 256 0 250 5 ≡ false)
+  -- 10 with 15 on its left and 3 on its right: an odd gap on each side
+  pub cover : (leftCoverOf 256 10 15 ≡ 12) × (rightCoverOf 256 10 3 ≡ 7) × (leftCoverOf 256 250 5 ≡ 255) × (rightCoverOf 256 5 250 ≡ 0)
+
+pub further : Further
+unfolding fallOf leftCoverOf rightCoverOf signedOf absDistOf risesTo nearer
+further =
+    record {
+      self = refl;
+      signed = (refl, refl, refl, refl);
+      past-half = (refl, refl);
+      size = (refl, refl);
+      tie = (refl, refl, refl);
+      smaller = (refl, refl);
+      cover = (refl, refl, refl, refl);
     }

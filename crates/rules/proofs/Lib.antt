@@ -4,3 +4,13 @@ pub mod Steps
 pub mod Leaf
 pub mod Hops
 pub mod Cases
+pub mod Small
+pub mod ActionCases
+pub mod RouteCases
+pub mod ProbeCases
+pub mod LeaseCases
+pub mod LeafCases
+pub mod HopCases
+pub mod MailCases
+pub mod FitsCases
+pub mod NumberCases

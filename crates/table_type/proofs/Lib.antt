@@ -1,3 +1,4 @@
 pub mod IdLaws
 pub mod Starts
 pub mod Laws
+pub mod StartCases

@@ -1,0 +1,96 @@
+-- Take of kinds 1, 2 and 6, and which plan belongs to which kind, computed by the checker on 01's worked ids: each refusal, the lowest where two apply, and
+-- what is done. Assumes nothing.
+use mathlib.Core.Path.{_≡_, refl}
+use mathlib.Core.List.{List, [], _∷_}
+use Prim.Native.Nat.{ℕ}
+use Rattle.rules.specs.declared.Ring.{Ring}
+use Rattle.rules.specs.declared.Status.{Status}
+use Rattle.rules.specs.declared.Status.the-variants.{Dead, Wait, Ok, Ready}
+use Rattle.rules.specs.declared.Node.{Node}
+use Rattle.rules.specs.declared.Message.{Message}
+use Rattle.rules.specs.declared.Planned.{Planned}
+use Rattle.rules.specs.declared.Planned.the-variants.{No}
+use Rattle.rules.specs.declared.Refusal.the-variants as no
+use Rattle.rules.specs.Nodes.{placed}
+use Rattle.rules.specs.Letters.{lookup, joinRequest, joinReply, noLegalRoute}
+use Rattle.rules.specs.Take.{planTake, planTakeLookup, planTakeJoinRequest, planTakeJoinReply, planTakeProbe, planTakeProbeReply}
+use Rattle.rules.specs.Take.{planTakeLeaseRequest, planTakeBroadcast}
+use Rattle.rules.proofs.Small.{opened, four, ids, node, sides, atEach, made}
+
+-- ---- 1. 2 unless ready. If i covers k, delivered: nothing is added. Else Lookup goes to the next hop, or NoLegalRoute(k) to i.
+
+-- key k at 65 in slot 2, with 95 on its left and 18 on its right, by the dead and by its failed
+abbrev takes : ℕ → ℕ → ℕ → Status → Planned
+takes dead failed k s = planTakeLookup four ids dead 2 (node 65 s 8 2 1 failed 15 5 3) k
+
+pub record LookupTaken : Type 0 where
+  pub two : atEach (takes 0 0 200) ≡ 2 ∷ 2 ∷ 2 ∷ 0 ∷ []
+  pub two-covered : atEach (takes 0 0 60) ≡ 2 ∷ 2 ∷ 2 ∷ 0 ∷ []
+  pub delivered : made (takes 0 0 60 Ready) ≡ (node 65 Ready 8 2 1 0 15 5 3, [])
+  pub goes-on : made (takes 0 0 200 Ready) ≡ (node 65 Ready 8 2 1 0 15 5 3, placed (lookup 200) 1 ∷ [])
+  pub no-route : made (takes 8 2 200 Ready) ≡ (node 65 Ready 8 2 1 2 15 5 3, placed (noLegalRoute 200) 2 ∷ [])
+  -- a covered key is delivered, whatever failed
+  pub delivered-alone : made (takes 8 2 60 Ready) ≡ (node 65 Ready 8 2 1 2 15 5 3, [])
+
+pub lookup-taken : LookupTaken
+unfolding opened
+lookup-taken = record { two = refl; two-covered = refl; delivered = refl; goes-on = refl; no-route = refl; delivered-alone = refl }
+
+-- ---- 2. From j. 2 unless ready; 5 if j is in i's content. If i covers j's id, a JoinReply to j with m's routing set and i's leaf set.
+-- Else to the next hop with i's routing set joined in, or NoLegalRoute(id of j) to i.
+
+-- a JoinRequest of 95 in slot 3, with routing set {3}, at 65 with 17 on its left and 18 on its right
+abbrev covering : ℕ → Status → Planned
+covering j s = planTakeJoinRequest four ids 0 2 (node 65 s 1 2 8 0 7 5 3) j 8
+
+-- and at 18, with 65 on its left and 17 on its right
+abbrev passing : ℕ → ℕ → ℕ → Status → Planned
+passing dead failed j s = planTakeJoinRequest four ids dead 1 (node 18 s 4 1 8 failed 3 5 4) j 8
+
+pub record JoinRequestTaken : Type 0 where
+  pub two : atEach (covering 3) ≡ 2 ∷ 2 ∷ 2 ∷ 0 ∷ []
+  -- 2 before 5; content is left, right and i
+  pub five-left : atEach (covering 0) ≡ 2 ∷ 2 ∷ 2 ∷ 5 ∷ []
+  pub five-right : atEach (covering 1) ≡ 2 ∷ 2 ∷ 2 ∷ 5 ∷ []
+  pub five-itself : atEach (covering 2) ≡ 2 ∷ 2 ∷ 2 ∷ 5 ∷ []
+  pub five-passing : atEach (passing 0 0 2) ≡ 2 ∷ 2 ∷ 2 ∷ 5 ∷ []
+  pub reply : made (covering 3 Ready) ≡ (node 65 Ready 1 2 8 0 7 5 3, placed (joinReply 8 2 (sides 1 2)) 3 ∷ [])
+  pub goes-on : made (passing 0 0 3 Ready) ≡ (node 18 Ready 4 1 8 0 3 5 4, placed (joinRequest 3 11) 2 ∷ [])
+  -- with 65 dead and 17 failed
+  pub no-route : made (passing 4 1 3 Ready) ≡ (node 18 Ready 4 1 8 1 3 5 4, placed (noLegalRoute 95) 1 ∷ [])
+
+pub join-request-taken : JoinRequestTaken
+unfolding opened
+join-request-taken =
+    record {
+      two = refl;
+      five-left = refl;
+      five-right = refl;
+      five-itself = refl;
+      five-passing = refl;
+      reply = refl;
+      goes-on = refl;
+      no-route = refl;
+    }
+
+-- ---- by kind; 6. 5 always.
+
+pub record ByKind (g : Ring) (ids : List ℕ) (dead i : ℕ) (v : Node) (m : Message) : Type 0 where
+  pub one : planTake 1 g ids dead i v m ≡ planTakeLookup g ids dead i v (m .word)
+  pub two : planTake 2 g ids dead i v m ≡ planTakeJoinRequest g ids dead i v (m .word) (m .routing)
+  pub three : planTake 3 g ids dead i v m ≡ planTakeJoinReply g ids i v m
+  pub four : planTake 4 g ids dead i v m ≡ planTakeProbe g ids i v m
+  pub five : planTake 5 g ids dead i v m ≡ planTakeProbeReply g ids i v m
+  pub six : planTake 6 g ids dead i v m ≡ No no.Partner
+  pub seven : planTake 7 g ids dead i v m ≡ planTakeLeaseRequest g ids i v (m .word)
+  pub eight : planTake 8 g ids dead i v m ≡ planTakeBroadcast g ids i v m
+
+pub by-kind : (g : Ring) (ids : List ℕ) (dead i : ℕ) (v : Node) (m : Message) → ByKind g ids dead i v m
+unfolding planTake
+by-kind g ids dead i v m =
+    record { one = refl; two = refl; three = refl; four = refl; five = refl; six = refl; seven = refl; eight = refl }
+
+-- NoLegalRoute of key 200 at 65, at each status
+pub no-legal-route-taken : atEach (λ s. planTake 6 four ids 0 2 (node 65 s 8 2 0 0 15 5 3) (noLegalRoute 200)) ≡ 5 ∷ 5 ∷ 5 ∷ 5 ∷ []
+unfolding opened
+no-legal-route-taken = refl

@@ -1,0 +1,126 @@
+-- Valid tables, and what a plan that is carried out leaves, computed by the checker: one table for each part of the test, and the pool at 256 and 257.
+-- Assumes nothing.
+use mathlib.Core.Path.{_≡_, refl}
+use mathlib.Core.Bool.{Bool, true, false}
+use mathlib.Core.List.{List, [], _∷_, _++_}
+use Prim.Native.Nat.{ℕ, _-_}
+use lib.ListN.{length, replicate}
+use Rattle.marks.specs.Marks.{has, tally, allTo, sizeOf, listed}
+use Rattle.marks.specs.declared.Found.the-variants.{At}
+use Rattle.rules.specs.declared.Status.{Status}
+use Rattle.rules.specs.declared.Status.the-variants.{Dead, Ok, Ready}
+use Rattle.rules.specs.declared.Ring.{Ring}
+use Rattle.rules.specs.declared.Node.{Node}
+use Rattle.rules.specs.declared.Message.{Message}
+use Rattle.rules.specs.declared.Pool.{Pool}
+use Rattle.rules.specs.declared.Plan.{Plan}
+use Rattle.rules.specs.declared.Refusal.{Refusal}
+use Rattle.rules.specs.declared.Refusal.the-variants as no
+use Rattle.rules.specs.declared.Planned.the-variants.{No, Go}
+use Rattle.rules.specs.Letters.{lookup}
+use Rattle.rules.specs.Mail.{alike, allDifferent, firstFrom, firstEqual, added, sentTo}
+use Rattle.rules.specs.Nodes.{noNode, placed}
+use Rattle.rules.specs.Pool.{blank, waiting, laid}
+use Rattle.rules.specs.Fits.{numbersFit, idFits, sideFits, leafFits, othersFit, nodeFits, isBlank, slotFits}
+use Rattle.rules.specs.Fits.{wordFits, flagFits, carriedFits, ownerFits, routingFits, failedFits, fieldsFit, messageFits}
+use Rattle.rules.specs.Plans.{mailed}
+use Rattle.table_type.specs.declared.Table.{Table}
+use Rattle.table_type.specs.Table.{withNode}
+use Rattle.table.specs.Valid.{nodesFit, messagesFit, poolFits, validOf}
+use Rattle.table.specs.Settle.{refusedOf, doneOf, carriedOut, settle}
+
+-- ---- tables
+
+-- a node by id, status, left and right
+abbrev node : ℕ → Status → ℕ → ℕ → Node
+node id s left right = record { id = id; status = s; left = left; right = right; probing = 0; failed = 0; routing = 0; lease = 0; grant = 0 }
+
+-- M, and the nodes of slots 0 to 63: two listed ones, and the rest
+abbrev table : ℕ → Node → Node → List Node → Table
+table m a b rest = record { m = m; l = 1; n = 2; nodes = a ∷ b ∷ rest }
+
+abbrev a : Node
+a = node 17 Ready 2 2
+
+abbrev b : Node
+b = node 18 Ready 1 1
+
+abbrev blanks : List Node
+blanks = replicate 62 noNode
+
+abbrev k : ℕ → Message
+k key = placed (lookup key) 1
+
+pub record ValidCases : Type 0 where
+  pub valid : validOf (table 8 a b blanks) (laid (k 80 ∷ k 90 ∷ [])) ≡ true
+  -- all numbers are in range
+  pub wide : validOf (table 33 a b blanks) (laid []) ≡ false
+  -- each slot: a listed one, the last listed one, one that is not listed, the last one
+  pub first-slot : validOf (table 8 (node 17 Ready 1 2) b blanks) (laid []) ≡ false
+  pub second-slot : validOf (table 8 a (node 17 Ready 1 1) blanks) (laid []) ≡ false
+  pub third-slot : validOf (table 8 a b (node 65 Dead 0 0 ∷ replicate 61 noNode)) (laid []) ≡ false
+  pub last-slot : validOf (table 8 a b (replicate 61 noNode ++ (node 65 Dead 0 0 ∷ []))) (laid []) ≡ false
+  -- each message obeys its kind: the first, the last
+  pub first-message : validOf (table 8 a b blanks) (laid (k 256 ∷ k 90 ∷ [])) ≡ false
+  pub last-message : validOf (table 8 a b blanks) (laid (k 80 ∷ k 256 ∷ [])) ≡ false
+  -- places past the count are not looked at
+  pub past-the-count : validOf (table 8 a b blanks) (record { count = 1; places = k 80 ∷ k 256 ∷ k 80 ∷ [] }) ≡ true
+  -- no two messages are equal
+  pub equal : validOf (table 8 a b blanks) (laid (k 80 ∷ k 90 ∷ k 80 ∷ [])) ≡ false
+
+pub valid-cases : ValidCases
+unfolding validOf numbersFit nodesFit slotFits idFits nodeFits leafFits sideFits othersFit isBlank listed sizeOf tally has allTo poolFits
+    messagesFit messageFits fieldsFit wordFits flagFits carriedFits ownerFits routingFits failedFits allDifferent alike
+valid-cases =
+    record {
+      valid = refl;
+      wide = refl;
+      first-slot = refl;
+      second-slot = refl;
+      third-slot = refl;
+      last-slot = refl;
+      first-message = refl;
+      last-message = refl;
+      past-the-count = refl;
+      equal = refl;
+    }
+
+-- ---- at most 256 messages
+
+-- a pool of so many messages
+abbrev counted : ℕ → List Message → Pool
+counted n places = record { count = n; places = places }
+
+pub at-256 : (g : Ring) (xs : List Message) → messagesFit g (counted 256 xs) ≡ true → allDifferent (waiting (counted 256 xs)) ≡ true
+    → poolFits g (counted 256 xs) ≡ true
+unfolding poolFits
+at-256 g xs m d = rw (m, d)
+
+pub at-257 : (g : Ring) (xs : List Message) → poolFits g (counted 257 xs) ≡ false
+unfolding poolFits
+at-257 g xs = refl
+
+-- ---- what an action leaves
+
+module _ (t : Table) (p : Pool) (ys : List Message) (i : ℕ) where
+  -- refused: the table and the pool as they were
+  pub refused : (why : Refusal) → settle t p ys i (No why) ≡ refusedOf t p why
+  unfolding settle
+  refused why = refl
+
+  -- 6 if the pool after the step would exceed 256
+  pub full : (x : Plan) → length (mailed x ys) ≡ 257 → settle t p ys i (Go x) ≡ refusedOf t p no.Full
+  unfolding settle carriedOut
+  full x e = rw e
+
+  pub not-full : (x : Plan) → length (mailed x ys) ≡ 256 → settle t p ys i (Go x) ≡ doneOf (withNode t i (x .node)) (laid (mailed x ys))
+  unfolding settle carriedOut
+  not-full x e = rw e
+
+-- a lookup of 90 is sent to slot 0, and the node of slot 1 becomes ok: that node alone is another, the pool is what waited and the new message,
+-- and the pool before is no part of it
+pub done : settle (table 8 a b []) (laid (k 70 ∷ [])) (k 80 ∷ []) 1
+    (Go (record { node = node 18 Ok 1 1; first = lookup 90; to = At 0; each = blank; all = 0 }))
+    ≡ doneOf (table 8 a (node 18 Ok 1 1) []) (laid (k 80 ∷ placed (lookup 90) 0 ∷ []))
+unfolding settle carriedOut mailed sentTo added firstEqual firstFrom alike allTo has
+done = refl
