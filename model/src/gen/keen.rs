@@ -13,21 +13,21 @@ use crate::view::View;
 
 /// A valid table and a Take on it.
 pub fn keen(rng: &mut Rng) -> (Case, Action) {
-    let case = &mut tables::small(rng);
+    let mut case = tables::small(rng);
     let i = rng.below(case.table.n);
     let j = rng.member(below(case.table.n) & !bit(i));
     let message = match rng.below(22) {
-        21 => welcome(rng, case, i, j),
-        0..=3 => crossed(rng, case, i, j),
-        4..=6 => mixed(rng, case, i, j),
-        7..=9 => last_reply(rng, case, i, j),
-        10..=14 => failed_sender(rng, case, i, j),
-        15 => asked(rng, case, i),
-        _ => neighbours_move(rng, case, i),
+        0..=3 => crossed(rng, &mut case, i, j),
+        4..=6 => mixed(rng, &mut case, i, j),
+        7..=9 => last_reply(rng, &mut case, i, j),
+        10..=14 => failed_sender(rng, &mut case, i, j),
+        15 => asked(rng, &mut case, i),
+        16..=20 => neighbours_move(rng, &mut case, i),
+        _ => welcome(rng, &mut case, i, j),
     };
     case.push(message);
     let place = case.place_of(&message).expect("it waits");
-    (case.clone(), Action::Take { place })
+    (case, Action::Take { place })
 }
 
 fn whole(case: &Case, i: usize) -> Sides {

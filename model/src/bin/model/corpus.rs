@@ -9,7 +9,7 @@ use std::fs::File;
 use std::io::{self, BufWriter, Write};
 
 /// What a request is kept for.
-#[derive(PartialEq, Eq, PartialOrd, Ord)]
+#[derive(Clone, PartialEq, Eq, PartialOrd, Ord)]
 enum Label {
     /// A name, a number answered, and a short result.
     Answer(String, u32, Vec<u8>),
@@ -19,21 +19,38 @@ enum Label {
     Other(String, u32),
 }
 
+impl Label {
+    /// The label without the name of the request that tells a misreading.
+    fn reason(&self) -> Label {
+        match self {
+            Label::Told(slip, _) => Label::Told(*slip, String::new()),
+            other => other.clone(),
+        }
+    }
+}
+
 /// How many requests are kept for an answer, for a misreading and of others.
 const ANSWERS: usize = 2;
-const TOLD: usize = 1;
+const TOLD: usize = 2;
 const OTHERS: usize = 6;
+
+/// A request of more bytes is kept where there is no other for its answer or misreading.
+const LONG: usize = 2_000;
 
 /// The length of the longest other.
 const LONGEST_OTHER: usize = 800;
 
-/// A request, smaller ones first, and its reply.
-type Kept = BTreeMap<(usize, Vec<u8>), Vec<u8>>;
+/// A request after its length, so that smaller ones come first.
+type Place = (usize, Vec<u8>);
+
+/// Requests and their replies.
+type Kept = BTreeMap<Place, Vec<u8>>;
 
 /// Writes requests and the replies to them: of `count` requests of the seed, but for those of rehearsals and records,
 /// the smallest for each answer and for each misreading, and some others.
 pub fn corpus(seed: u64, count: u64, requests: &str, replies: &str) -> io::Result<bool> {
-    let kept = choose(seed, count);
+    let mut kept = choose(seed, count);
+    shorten(&mut kept);
     let (mut to_in, mut to_out) =
         (BufWriter::new(File::create(requests)?), BufWriter::new(File::create(replies)?));
     let mut written = BTreeSet::new();
@@ -59,9 +76,11 @@ fn choose(seed: u64, count: u64) -> BTreeMap<Label, Kept> {
         for slip in told {
             keep(&mut kept, Label::Told(slip as usize, name.clone()), TOLD, &request, reply);
         }
-        let others: &mut Kept = kept.entry(Label::Other(name, number)).or_default();
-        if others.len() < OTHERS && request.len() <= LONGEST_OTHER {
-            others.insert((request.len(), request), reply.to_vec());
+        if request.len() <= LONGEST_OTHER {
+            let others = kept.entry(Label::Other(name, number)).or_default();
+            if others.len() < OTHERS {
+                others.insert((request.len(), request), reply.to_vec());
+            }
         }
     }
     kept
@@ -81,6 +100,21 @@ fn answer(name: &str, number: u32, result: &[u8]) -> Label {
         _ => &[],
     };
     Label::Answer(name.to_string(), number, short.to_vec())
+}
+
+/// Leaves out long requests, but for the smallest one of an answer or of a misreading.
+fn shorten(kept: &mut BTreeMap<Label, Kept>) {
+    let mut needed = BTreeMap::new();
+    for (label, requests) in kept.iter() {
+        let least = requests.keys().next().expect("one is kept");
+        needed
+            .entry(label.reason())
+            .and_modify(|other: &mut Place| *other = least.min(other).clone())
+            .or_insert(least.clone());
+    }
+    for (label, requests) in kept.iter_mut() {
+        requests.retain(|place, _| place.0 <= LONG || needed[&label.reason()] == *place);
+    }
 }
 
 /// Keeps the smallest `most` requests of a label.
