@@ -66,8 +66,8 @@ impl Tally {
         self.counts[slip as usize]
     }
 
-    /// The misreadings that fewer than `least` requests tell, though they are neither equivalent nor, where one request
-    /// does, rare; and those told though they are equivalent.
+    /// The misreadings that fewer than `least` requests tell, of the rare ones those that none tells, and those that are
+    /// told though they are equivalent.
     pub fn wrong(&self, least: u64) -> Vec<Slip> {
         let wrong = |&slip: &Slip| match (slip.equivalent(), slip.rare()) {
             (Some(_), _) => self.count(slip) > 0,
@@ -77,7 +77,7 @@ impl Tally {
         Slip::ALL.iter().copied().filter(wrong).collect()
     }
 
-    /// The misreadings told apart, and in one line.
+    /// How many misreadings are told apart, in one line.
     pub fn summary(&self, by: &str) -> String {
         let (all, told) = (Slip::ALL.len(), self.counts.iter().filter(|&&count| count > 0).count());
         let equivalent = Slip::ALL.iter().filter(|slip| slip.equivalent().is_some()).count();

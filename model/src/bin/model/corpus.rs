@@ -15,7 +15,7 @@ enum Label {
     Answer(String, u32, Vec<u8>),
     /// A misreading that is told apart, and the name of the request that tells it.
     Told(usize, String),
-    /// A name, and the number of a done or refused request that is not among the smallest.
+    /// A name and a number answered, of the first requests that are not long.
     Other(String, u32),
 }
 
@@ -37,7 +37,7 @@ const OTHERS: usize = 6;
 /// A request of more bytes is kept where there is no other for its answer or misreading.
 const LONG: usize = 2_000;
 
-/// The length of the longest other.
+/// The length of the longest of the others.
 const LONGEST_OTHER: usize = 800;
 
 /// A request after its length, so that smaller ones come first.

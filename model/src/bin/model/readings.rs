@@ -45,7 +45,8 @@ fn report(slip: Slip, Record { told, first }: &Record) -> bool {
 /// Counts the misreadings that `count` requests tell apart; true if each is told by `least` or more.
 pub fn told_by_seed(seed: u64, count: u64, least: u64) -> io::Result<bool> {
     let requests = Requests::new(seed).zip(0..count).map(|(request, _)| request);
-    let by = format!("{count} requests of seed {seed}, each by {least} or more");
+    let rare = Slip::ALL.iter().filter(|slip| slip.rare().is_some()).count();
+    let by = format!("{count} requests of seed {seed}, each by {least} or more but for {rare} rare ones");
     Ok(told(&Tally::of(requests), &by, least))
 }
 
