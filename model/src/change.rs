@@ -2,7 +2,8 @@
 
 use crate::index::Index;
 use crate::message::{Message, Pool};
-use crate::reading::{Reading, Slip};
+use crate::reading::Reading;
+use crate::slip::Slip;
 use crate::slips;
 use crate::table::{Node, Table};
 use crate::view::View;
@@ -32,7 +33,7 @@ pub(crate) struct Change {
 }
 
 impl Change {
-    /// A probe is answered by one reply and at most 4L probes, by a misreading one more.
+    /// A probe is answered by one reply and at most 4L probes. What a misreading sends beyond is dropped.
     const MOST: usize = 2 + 4 * 8;
 
     #[inline]
@@ -61,11 +62,11 @@ impl Change {
         let r = scene.view.r;
         self.sent += 1;
         let mut fresh = scene.index.find(scene.pool, &message).is_none() || r.takes(Slip::EqualKept);
-        if r.takes(Slip::EqualWithoutSets) {
-            fresh = !scene.waiting().iter().any(|other| slips::same_ends(other, &message));
+        if let Some(equal) = slips::held_equal(r, scene.waiting(), &message) {
+            fresh = !equal;
         }
         self.fresh += usize::from(fresh);
-        if fresh || r.takes(Slip::EqualMovesToEnd) {
+        if (fresh || r.takes(Slip::EqualMovesToEnd)) && self.len < Change::MOST {
             self.added[self.len] = message;
             self.len += 1;
         }
@@ -76,6 +77,9 @@ impl Change {
     pub fn fits<R: Reading>(&self, r: R, count: usize) -> bool {
         let stay = count - usize::from(self.taken.is_some() && !r.takes(Slip::SixBeforeRemoval));
         let more = r.pick(Slip::SixCountsEqual, self.sent, self.fresh);
+        if r.takes(Slip::SixDropsRest) {
+            return true;
+        }
         stay + more <= Table::MESSAGES - r.pick(Slip::SixAt255, 1, 0)
     }
 
@@ -84,7 +88,8 @@ impl Change {
     pub fn carry_out<R: Reading>(&self, r: R, table: &mut Table, pool: &mut Pool) {
         table.nodes[self.slot] = self.node;
         let mut count = table.count;
-        if let Some(place) = self.taken {
+        let taken = self.taken.filter(|_| !r.takes(Slip::TakenStays));
+        if let Some(place) = taken {
             if r.takes(Slip::RemovalSwaps) {
                 pool[place] = pool[count - 1];
             } else {
@@ -92,7 +97,11 @@ impl Change {
             }
             count -= 1;
         }
+        let stayed = count;
         for message in &self.added[..self.len] {
+            if !r.is_right() && count == Table::MESSAGES {
+                break;
+            }
             if r.takes(Slip::EqualMovesToEnd) {
                 if let Some(place) = pool[..count].iter().position(|other| other == message) {
                     pool.copy_within(place + 1..count, place);
@@ -103,7 +112,10 @@ impl Change {
             count += 1;
         }
         if r.takes(Slip::AddAtFront) {
-            pool[..count].rotate_right(self.len);
+            pool[..count].rotate_right(count - stayed);
+        }
+        if let (true, Some(place)) = (r.takes(Slip::AddedAtGap), taken) {
+            pool[place..count].rotate_right(count - stayed);
         }
         pool[count..].fill(Message::Blank);
         table.count = count;

@@ -2,8 +2,9 @@
 
 use crate::index::Index;
 use crate::message::{Fields, Message, Pool, EMPTY_POOL};
-use crate::reading::{Reading, Right, Slip};
+use crate::reading::{Reading, Right};
 use crate::refusal::{refuse_if, Refusal};
+use crate::slip::Slip;
 use crate::table::{Node, Sides, Status, Table};
 use crate::valid::{check, in_limits, lent, lent_mut};
 
@@ -31,14 +32,16 @@ pub fn load_as<R: Reading>(
     table: &mut Table,
     pool: &mut [Message],
 ) -> Result<(), Refusal> {
-    let header = Header::read(bytes)?;
+    refuse_if(r.takes(Slip::HeaderAloneIsSeven) && bytes.len() == HEADER, Refusal::Short)?;
+    let header = Header::read(r, bytes)?;
     if r.takes(Slip::NineBeforeEight) {
         refuse_if(!header.lengths_agree(r, bytes.len()), Refusal::Lengths)?;
     }
-    refuse_if(!header.in_range(r), Refusal::Header)?;
+    let out = r.pick(Slip::HeaderIsTen, Refusal::Invalid, Refusal::Header);
+    refuse_if(!header.in_range(r), out)?;
     refuse_if(!header.lengths_agree(r, bytes.len()), header.wrong_length(r, bytes.len()))?;
     let pool = lent_mut(pool)?;
-    let (n, count) = (header.n as usize, header.count as usize);
+    let (n, count) = (header.n as usize, header.count_in(bytes.len()));
     let mut read = Table { m: header.m, l: header.l, n, count, ..Table::BLANK };
     for (node, record) in read.nodes[..n].iter_mut().zip(bytes[HEADER..].chunks_exact(NODE)) {
         *node = read_node(r, record).ok_or(Refusal::Invalid)?;
@@ -64,13 +67,22 @@ struct Header {
 
 impl Header {
     #[inline]
-    fn read(bytes: &[u8]) -> Result<Header, Refusal> {
+    fn read<R: Reading>(r: R, bytes: &[u8]) -> Result<Header, Refusal> {
         let Some(bytes) = bytes.first_chunk::<HEADER>() else {
             return Err(Refusal::Short);
         };
         let mut read = Reader(bytes);
-        let [m, l, n, count, nodes, messages, total, last] = [(); 8].map(|()| read.word());
+        let mut words = [(); 8].map(|()| read.word());
+        exchange(r, &HEADER_WORDS, &mut words);
+        let [m, l, n, count, nodes, messages, total, last] = words;
         Ok(Header { m, l, n, count, nodes, messages, total, last })
+    }
+
+    /// The number of messages, by a misreading no more than there are bytes for.
+    #[inline]
+    fn count_in(&self, length: usize) -> usize {
+        let whole = length.saturating_sub(total(self.n as usize, 0)) / MESSAGE;
+        whole.min(self.count as usize)
     }
 
     #[inline]
@@ -86,10 +98,11 @@ impl Header {
         let messages = HEADER as u64 + NODE as u64 * u64::from(self.n);
         let total = messages + MESSAGE as u64 * u64::from(self.count);
         let long = r.takes(Slip::MoreBytesAccepted) && length as u64 > total;
+        let short = r.takes(Slip::FewerBytesAccepted) && (messages..total).contains(&(length as u64));
         (self.nodes == HEADER as u32 || r.takes(Slip::NodeOffsetFree))
             && (u64::from(self.messages) == messages || r.takes(Slip::MessageOffsetFree))
             && (u64::from(self.total) == total || r.takes(Slip::TotalFree))
-            && (length as u64 == total || long)
+            && (length as u64 == total || long || short)
     }
 
     fn wrong_length<R: Reading>(&self, r: R, length: usize) -> Refusal {
@@ -97,7 +110,8 @@ impl Header {
         if short && r.takes(Slip::AnyShortIsSeven) {
             return Refusal::Short;
         }
-        Refusal::Lengths
+        let agrees = length == total(self.n as usize, self.count as usize);
+        r.pick(Slip::OffsetIsEight, if agrees { Refusal::Header } else { Refusal::Lengths }, Refusal::Lengths)
     }
 }
 
@@ -114,21 +128,32 @@ fn read_messages<R: Reading>(r: R, bytes: &[u8], count: usize) -> Result<Pool, R
 #[inline]
 fn read_node<R: Reading>(r: R, record: &[u8]) -> Option<Node> {
     let mut read = Reader(record);
-    let id = read.word();
-    let status = read.word();
-    let status = Status::from_number(r.pick(Slip::StatusHighIsReady, status.min(3), status))?;
-    let sides = Sides { left: read.long(), right: read.long() };
-    let [probing, failed, routing, lease, grant] = [(); 5].map(|()| read.long());
-    Some(Node { id, status, sides, probing, failed, routing, lease, grant })
+    let mut words = [read.word(), read.word()];
+    exchange(r, &NODE_WORDS, &mut words);
+    let [id, status] = words;
+    let status = r.pick(Slip::StatusHighIsReady, status.min(3), status);
+    let status = if status > 3 { r.pick(Slip::StatusHighIsDead, 0, status) } else { status };
+    let status = Status::from_number(status)?;
+    let mut sets = [(); 7].map(|()| read.long());
+    exchange(r, &NODE_SETS, &mut sets);
+    let [left, right, probing, failed, routing, lease, grant] = sets;
+    Some(Node { id, status, sides: Sides { left, right }, probing, failed, routing, lease, grant })
 }
 
 #[inline]
 fn read_message<R: Reading>(r: R, record: &[u8]) -> Option<Message> {
     let mut read = Reader(record);
-    let [kind, to, node_or_key, flag, owner, sixth] = [(); 6].map(|()| read.word());
-    let [routing, left, right, failed] = [(); 4].map(|()| read.long());
+    let mut words = [(); 6].map(|()| read.word());
+    let mut sets = [(); 4].map(|()| read.long());
+    exchange(r, &MESSAGE_WORDS, &mut words);
+    exchange(r, &MESSAGE_SETS, &mut sets);
+    let [kind, to, node_or_key, flag, owner, sixth] = words;
+    let [routing, left, right, failed] = sets;
     if sixth != 0 && !r.takes(Slip::SixthWordFree) {
         return None;
+    }
+    if kind == 0 && r.takes(Slip::BlankAccepted) {
+        return Some(Message::Blank);
     }
     let mut fields = Fields { kind, to, node_or_key, flag, owner, routing, left, right, failed };
     slip_fields(r, &mut fields);
@@ -182,42 +207,73 @@ pub fn write_as<R: Reading>(
     let buffer = buffer.get_mut(..total).ok_or(Refusal::NoRoom)?;
     let (header, records) = buffer.split_at_mut(HEADER);
     let (nodes, messages) = records.split_at_mut(NODE * table.n);
-    write_header(table, total, &mut Writer(header));
+    write_header(r, table, total, &mut Writer(header));
     for (node, record) in table.listed().iter().zip(nodes.chunks_exact_mut(NODE)) {
-        write_node(node, &mut Writer(record));
+        write_node(r, node, &mut Writer(record));
     }
     for (message, record) in pool[..table.count].iter().zip(messages.chunks_exact_mut(MESSAGE)) {
-        write_message(&message.fields(), &mut Writer(record));
+        write_message(r, &message.fields(), &mut Writer(record));
     }
     Ok(total)
 }
 
-fn write_header(table: &Table, total: usize, to: &mut Writer) {
-    to.word(table.m);
-    to.word(table.l);
-    to.word(table.n as u32);
-    to.word(table.count as u32);
-    to.word(HEADER as u32);
-    to.word((HEADER + NODE * table.n) as u32);
-    to.word(total as u32);
-    to.word(0);
+fn write_header<R: Reading>(r: R, table: &Table, total: usize, to: &mut Writer) {
+    let (n, count) = (table.n as u32, table.count as u32);
+    let messages = (HEADER + NODE * table.n) as u32;
+    let mut words = [table.m, table.l, n, count, HEADER as u32, messages, total as u32, 0];
+    exchange(r, &HEADER_WORDS, &mut words);
+    words.iter().for_each(|&word| to.word(word));
 }
 
-fn write_node(node: &Node, to: &mut Writer) {
-    to.word(node.id);
-    to.word(node.status as u32);
-    let Node { sides, probing, failed, routing, lease, grant, .. } = *node;
-    for set in [sides.left, sides.right, probing, failed, routing, lease, grant] {
-        to.long(set);
-    }
+fn write_node<R: Reading>(r: R, node: &Node, to: &mut Writer) {
+    let Node { id, status, sides, probing, failed, routing, lease, grant } = *node;
+    let mut words = [id, status as u32];
+    let mut sets = [sides.left, sides.right, probing, failed, routing, lease, grant];
+    exchange(r, &NODE_WORDS, &mut words);
+    exchange(r, &NODE_SETS, &mut sets);
+    words.iter().for_each(|&word| to.word(word));
+    sets.iter().for_each(|&set| to.long(set));
 }
 
-fn write_message(fields: &Fields, to: &mut Writer) {
-    for word in [fields.kind, fields.to, fields.node_or_key, fields.flag, fields.owner, 0] {
-        to.word(word);
-    }
-    for set in [fields.routing, fields.left, fields.right, fields.failed] {
-        to.long(set);
+fn write_message<R: Reading>(r: R, fields: &Fields, to: &mut Writer) {
+    let mut words = [fields.kind, fields.to, fields.node_or_key, fields.flag, fields.owner, 0];
+    let mut sets = [fields.routing, fields.left, fields.right, fields.failed];
+    exchange(r, &MESSAGE_WORDS, &mut words);
+    exchange(r, &MESSAGE_SETS, &mut sets);
+    words.iter().for_each(|&word| to.word(word));
+    sets.iter().for_each(|&set| to.long(set));
+}
+
+/// The first of two neighbouring fields that a misreading exchanges, in reading and in writing.
+type Exchanges<const N: usize> = [(Slip, usize); N];
+
+const HEADER_WORDS: Exchanges<3> =
+    [(Slip::HeaderLimitsExchanged, 0), (Slip::HeaderCountsExchanged, 2), (Slip::HeaderOffsetsExchanged, 4)];
+const NODE_WORDS: Exchanges<1> = [(Slip::NodeIdExchanged, 0)];
+const NODE_SETS: Exchanges<6> = [
+    (Slip::NodeSidesExchanged, 0),
+    (Slip::NodeRightExchanged, 1),
+    (Slip::NodeProbingExchanged, 2),
+    (Slip::NodeFailedExchanged, 3),
+    (Slip::NodeRoutingExchanged, 4),
+    (Slip::NodeLeaseExchanged, 5),
+];
+const MESSAGE_WORDS: Exchanges<5> = [
+    (Slip::MessageKindExchanged, 0),
+    (Slip::MessageToExchanged, 1),
+    (Slip::MessageNodeExchanged, 2),
+    (Slip::MessageFlagExchanged, 3),
+    (Slip::MessageOwnerExchanged, 4),
+];
+const MESSAGE_SETS: Exchanges<3> =
+    [(Slip::MessageRoutingExchanged, 0), (Slip::MessageSidesExchanged, 1), (Slip::MessageRightExchanged, 2)];
+
+#[inline(always)]
+fn exchange<R: Reading, T, const N: usize>(r: R, exchanges: &Exchanges<N>, fields: &mut [T]) {
+    for &(slip, first) in exchanges {
+        if r.takes(slip) {
+            fields.swap(first, first + 1);
+        }
     }
 }
 

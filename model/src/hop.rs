@@ -1,7 +1,8 @@
 //! The next hop for a key.
 
 use crate::marks::{bit, first_down, first_up, slots};
-use crate::reading::{Reading, Slip};
+use crate::reading::Reading;
+use crate::slip::Slip;
 use crate::slips;
 use crate::table::{Node, Status};
 use crate::view::View;
@@ -12,16 +13,21 @@ impl<R: Reading> View<'_, R> {
     pub fn next_hop(&self, i: usize, key: u32) -> Option<usize> {
         let node = &self.table.nodes[i];
         let leaves = node.sides.content(i);
-        let usable = self.usable(node);
         if self.leaf_branch(i, key) {
+            let usable = self.usable(node, Slip::LeafToDead, Slip::LeafToFailed);
+            let leaves = leaves | self.r.pick(Slip::LeafTakesRouting, node.routing, 0);
             if self.r.takes(Slip::LeafNotNearer) {
                 return self.nearest(leaves & usable & !bit(i), key);
+            }
+            if self.r.takes(Slip::LeafAnyNearer) {
+                return slots(self.nearer_than(leaves & usable, i, key)).next();
             }
             let hop = self.nearest_nearer(leaves & usable, i, key);
             if hop.is_some() || !self.r.takes(Slip::LeafFallsThrough) {
                 return hop;
             }
         }
+        let usable = self.usable(node, Slip::RoutingToDead, Slip::RoutingToFailed);
         let known = self.r.pick(Slip::RoutingWithoutLeaves, 0, leaves) | node.routing;
         if let Some(slipped) = slips::routing_hop(self, known & usable, i, key) {
             return slipped;
@@ -39,23 +45,28 @@ impl<R: Reading> View<'_, R> {
         if self.overlap(sides) && !self.r.takes(Slip::LeafTestWithoutOverlap) {
             return true;
         }
-        let leftmost = table.id(self.leftmost(i, sides));
-        let rightmost = table.id(self.rightmost(i, sides));
+        let mut leftmost = table.id(self.leftmost(i, sides));
+        let mut rightmost = table.id(self.rightmost(i, sides));
+        if self.r.takes(Slip::LeafTestExchanged) {
+            std::mem::swap(&mut leftmost, &mut rightmost);
+        }
         let inner = self.r.pick(Slip::LeafTestNamesKey, key, table.id(i));
-        ring.fall(leftmost, inner) <= ring.fall(leftmost, rightmost)
+        let (near, far) = (ring.fall(leftmost, inner), ring.fall(leftmost, rightmost));
+        near < far || near == far && !self.r.takes(Slip::LeafTestStrict)
     }
 
-    /// The nodes that may be hopped to: neither failed nor dead.
+    /// The nodes that may be hopped to: neither failed nor dead. Two slips are those of the branch.
     #[inline]
-    fn usable(&self, node: &Node) -> u64 {
+    fn usable(&self, node: &Node, to_dead: Slip, to_failed: Slip) -> u64 {
         let r = self.r;
         let live = self.table.marks(|other| match other.status {
-            Status::Dead => r.takes(Slip::HopToDead),
+            Status::Dead => r.takes(Slip::HopToDead) || r.takes(to_dead),
             Status::Wait => !(r.takes(Slip::HopNotToWait) || r.takes(Slip::HopOnlyToReady)),
             Status::Ok => !r.takes(Slip::HopOnlyToReady),
             Status::Ready => true,
         });
-        live & !r.pick(Slip::HopToFailed, 0, node.failed)
+        let failed = r.pick(Slip::HopToFailed, 0, r.pick(to_failed, 0, node.failed));
+        live & !(failed | r.pick(Slip::HopNotToProbed, node.probing, 0))
     }
 
     /// The nearest of `set`, if it is nearer than `i`.

@@ -2,10 +2,13 @@
 
 use crate::file::load_as;
 use crate::message::{Message, Pool, EMPTY_POOL};
-use crate::reading::{Reading, Right, Slip};
+use crate::reading::{Reading, Right};
+use crate::slip::Slip;
 use crate::table::{Status, Table};
 use crate::view::View;
 use std::io::Write;
+
+const HEADER: &str = "key from to hops\n";
 
 /// The bytes that the listing program prints for a table file.
 pub fn listing(bytes: &[u8]) -> Vec<u8> {
@@ -17,8 +20,9 @@ pub fn listing_as<R: Reading>(r: R, bytes: &[u8]) -> Vec<u8> {
     match load_as(r, bytes, &mut table, &mut pool) {
         Ok(()) => lines(&View::new(r, &table), &pool),
         Err(refusal) => {
-            let header = r.pick(Slip::RefusedAfterHeader, "key from to hops\n", "");
-            format!("{header}refused {}\n", refusal.number()).into_bytes()
+            let header = r.pick(Slip::RefusedAfterHeader, HEADER, "");
+            let line = format!("{header}refused {}\n", refusal.number());
+            r.pick(Slip::RefusedWithoutLine, HEADER.to_string(), line).into_bytes()
         }
     }
 }
@@ -30,20 +34,55 @@ struct Journey {
 }
 
 fn lines<R: Reading>(view: &View<R>, pool: &Pool) -> Vec<u8> {
+    let r = view.r;
     let mut out = Vec::with_capacity(16 * 1024);
-    out.extend_from_slice(b"key from to hops\n");
+    out.extend_from_slice(HEADER.as_bytes());
     let waiting = &pool[..view.table.count];
-    for (place, message) in waiting.iter().enumerate() {
-        let Message::Lookup { to, key } = *message else {
-            continue;
-        };
-        let from = usize::from(to);
-        let journey = follow(view, from, key, &waiting[..place]);
-        let name = |slot: usize| view.r.pick(Slip::ListNamesSlots, slot as u32, view.table.id(slot));
-        let to = journey.end.map_or("-".to_string(), |end| name(end).to_string());
-        writeln!(out, "{key} {} {to} {}", name(from), journey.hops).expect("a vector takes all");
+    let mut lookups = lookups(view, waiting);
+    slip_order(r, &mut lookups);
+    for &(place, from, key) in &lookups {
+        let Journey { end, hops } = follow(view, from, key, &waiting[..place]);
+        let name = |slot: usize| r.pick(Slip::ListNamesSlots, slot as u32, view.table.id(slot));
+        let (from, to) = (name(from).to_string(), end.map_or("-".to_string(), |end| name(end).to_string()));
+        let (from, to) = r.pick(Slip::ListNamesExchanged, (&to, &from), (&from, &to));
+        let hops = if end.is_none() && r.takes(Slip::ListStuckAtZero) { 0 } else { hops };
+        writeln!(out, "{key} {from} {to} {hops}").expect("a vector takes all");
+    }
+    if r.takes(Slip::ListWithoutHeader) && lookups.is_empty() {
+        out.clear();
     }
     out
+}
+
+/// The waiting lookups in pool order: place, slot and key.
+fn lookups<R: Reading>(view: &View<R>, waiting: &[Message]) -> Vec<(usize, usize, u32)> {
+    let lookup = |(place, message): (usize, &Message)| match *message {
+        Message::Lookup { to, key } => Some((place, usize::from(to), key)),
+        Message::JoinRequest { to, node, .. } if view.r.takes(Slip::ListJoins) => {
+            Some((place, usize::from(to), view.table.id(node.into())))
+        }
+        _ => None,
+    };
+    waiting.iter().enumerate().filter_map(lookup).collect()
+}
+
+/// The misreadings of the order.
+fn slip_order<R: Reading>(r: R, lookups: &mut Vec<(usize, usize, u32)>) {
+    if r.takes(Slip::ListFromLast) {
+        lookups.reverse();
+    }
+    if r.takes(Slip::ListByKey) {
+        lookups.sort_by_key(|&(_, _, key)| key);
+    }
+    if r.takes(Slip::ListOncePerKey) {
+        let mut seen = Vec::new();
+        lookups.retain(|&(_, _, key)| {
+            !seen.contains(&key) && {
+                seen.push(key);
+                true
+            }
+        });
+    }
 }
 
 /// Follows a lookup as the only message.

@@ -2,8 +2,9 @@
 
 use crate::file::{load_as, write_as, LARGEST};
 use crate::message::{Pool, EMPTY_POOL};
-use crate::reading::{Reading, Right, Slip};
+use crate::reading::{Reading, Right};
 use crate::refusal::{refuse_if, Refusal};
+use crate::slip::Slip;
 use crate::step::{step_as, Action};
 use crate::table::Table;
 
@@ -37,9 +38,14 @@ impl Rehearsal {
         let (mut table, mut pool) = (Table::BLANK, EMPTY_POOL);
         let verdict = match load_as(r, file, &mut table, &mut pool) {
             Ok(()) => Verdict::Accepted,
-            Err(_) => Verdict::Bad(0),
+            Err(_) => Verdict::Bad(r.pick(Slip::BadStartIsOne, 1, 0)),
         };
         Rehearsal { verdict, good: 0, table, pool }
+    }
+
+    /// How many steps were good.
+    pub fn good(&self) -> u32 {
+        self.good
     }
 
     pub fn verdict(&self) -> Verdict {
@@ -62,7 +68,8 @@ impl Rehearsal {
         if good {
             self.good += 1;
         } else if self.verdict == Verdict::Accepted {
-            self.verdict = Verdict::Bad(self.good + r.pick(Slip::BadStepFromZero, 0, 1));
+            let step = self.good + r.pick(Slip::BadStepFromZero, 0, 1);
+            self.verdict = Verdict::Bad(r.pick(Slip::BadStepInByte, step & 0xff, step));
         }
         Ok(())
     }
@@ -70,12 +77,13 @@ impl Rehearsal {
     fn is_over<R: Reading>(&self, r: R) -> bool {
         let ended = match self.verdict {
             Verdict::Accepted => false,
-            Verdict::Bad(0) => true,
+            Verdict::Bad(0) => !r.takes(Slip::BadStartGoesOn),
             Verdict::Bad(_) => !r.takes(Slip::BadStepGoesOn),
         };
         let few = r.pick(Slip::StepsTo999, 1, 0);
         let many = r.pick(Slip::StepsTo1001, 1, 0);
-        ended || self.good >= Rehearsal::STEPS - few + many
+        let all = self.good >= Rehearsal::STEPS - few + many;
+        ended || all && !r.takes(Slip::StepsUnlimited)
     }
 }
 
@@ -87,6 +95,7 @@ fn agrees<R: Reading>(r: R, table: &Table, pool: &Pool, stated: &[u8]) -> bool {
     };
     let file = &buffer[..length];
     stated == file
+        || r.takes(Slip::StatedFree)
         || r.takes(Slip::StatedLonger) && stated.starts_with(file)
         || r.takes(Slip::StatedShorter) && file.starts_with(stated)
 }

@@ -1,6 +1,7 @@
 //! Distances on the ring of N = 2^M.
 
-use crate::reading::{Reading, Right, Slip};
+use crate::reading::{Reading, Right};
+use crate::slip::Slip;
 
 #[derive(Clone, Copy)]
 pub struct Ring<R = Right> {
@@ -48,6 +49,9 @@ impl<R: Reading> Ring<R> {
     /// How far `to` is from `from` by rising.
     #[inline]
     fn rise(self, from: u32, to: u32) -> u64 {
+        if self.r.takes(Slip::FallStopsAt32) && self.mask == u32::MAX {
+            return u64::from(to.saturating_sub(from));
+        }
         u64::from(to.wrapping_sub(from) & self.mask)
     }
 

@@ -3,8 +3,10 @@
 use crate::index::Index;
 use crate::marks::{bit, first_down, first_up, slots};
 use crate::message::Message;
-use crate::reading::{Reading, Right, Slip};
+use crate::reading::{Reading, Right};
 use crate::refusal::Refusal;
+use crate::slip::Slip;
+use crate::slips;
 use crate::table::{Status, Table};
 use crate::valid::{check, lent};
 use crate::view::{Neighbours, View};
@@ -23,7 +25,10 @@ pub fn settled_as<R: Reading>(r: R, table: &Table, pool: &[Message]) -> Result<b
         _ => false,
     });
     let some = ready != 0 || r.takes(Slip::SettledWhenAllDead);
-    Ok(some && between == 0 && slots(ready).all(|slot| stands(&View::new(r, table), slot, ready)))
+    let view = View::new(r, table);
+    let calm = slots(ready).all(|slot| stands(&view, slot, ready))
+        || r.takes(Slip::SettledByOne) && slots(ready).any(|slot| stands(&view, slot, ready));
+    Ok(some && between == 0 && calm && !slips::unsettles(&view, ready))
 }
 
 /// The neighbours of a ready node are the next ready ids up and down, and it holds no ready node as failed.
@@ -36,7 +41,10 @@ fn stands<R: Reading>(view: &View<R>, slot: usize, ready: u64) -> bool {
         others => Neighbours(first_up(others, slot), first_down(others, slot)),
     };
     let have = view.neighbours(slot, node.sides);
-    let near = have.0 == next.0 && (have.1 == next.1 || r.takes(Slip::SettledLeftOnly));
+    let near = (have.0 == next.0 || r.takes(Slip::SettledRightOnly))
+        && (have.1 == next.1 || r.takes(Slip::SettledLeftOnly))
+        || r.takes(Slip::SettledAnyNeighbours)
+        || r.takes(Slip::SettledAloneAnyhow) && ready == bit(slot);
     let feared = r.pick(Slip::SettledFailedEmpty, !0, r.pick(Slip::SettledFailedFree, 0, ready));
     near && node.failed & feared == 0
 }

@@ -1,9 +1,10 @@
 //! Bodies of misreadings that are longer than a word.
 
-use crate::marks::{bit, keep_down, keep_up, slots};
-use crate::message::Message;
-use crate::reading::{Reading, Slip};
-use crate::table::Sides;
+use crate::marks::{below, bit, keep_down, keep_up, slots};
+use crate::message::{Fields, Message};
+use crate::reading::Reading;
+use crate::slip::Slip;
+use crate::table::{Node, Sides, Status};
 use crate::view::View;
 
 /// The member of `set` at least distance from the owner, the lowest slot of two.
@@ -22,13 +23,65 @@ pub(crate) fn signed_most<R: Reading>(
     slots(set).find(|&most| slots(set).all(|other| other == most || signed(id(most), id(other)) < 0))
 }
 
-/// Equal but for the sets and the flag.
-pub(crate) fn same_ends(one: &Message, other: &Message) -> bool {
-    let ends = |message: &Message| {
-        let fields = message.fields();
-        (fields.kind, fields.to, fields.node_or_key, fields.owner)
+/// The sides that a node's covers are reckoned with.
+#[inline]
+pub(crate) fn cover_sides<R: Reading>(view: &View<R>, i: usize) -> Sides {
+    let node = &view.table.nodes[i];
+    let mut skipped = view.r.pick(Slip::CoverSkipsFailed, node.failed, 0);
+    if view.r.takes(Slip::CoverSkipsDead) {
+        skipped = view.table.marks(|other| other.status == Status::Dead);
+    }
+    Sides { left: node.sides.left & !skipped, right: node.sides.right & !skipped }
+}
+
+/// The ids of a start, where they are sorted.
+pub(crate) fn sorted<R: Reading>(r: R, ids: &[u32]) -> Option<Vec<u32>> {
+    r.takes(Slip::StartIdsSorted).then(|| {
+        let mut ids = ids.to_vec();
+        ids.sort_unstable();
+        ids
+    })
+}
+
+/// Whether a table is held unsettled for a reason that 01 does not have.
+pub(crate) fn unsettles<R: Reading>(view: &View<R>, ready: u64) -> bool {
+    let (r, table) = (view.r, view.table);
+    let some =
+        |wanted: &dyn Fn(usize, &Node) -> bool| slots(ready).any(|slot| wanted(slot, &table.nodes[slot]));
+    let lacks = |slot: usize, node: &Node| view.neighbours(slot, node.sides).marks() & !node.lease != 0;
+    r.takes(Slip::SettledOnlyReady) && ready != below(table.n)
+        || r.takes(Slip::SettledEveryFailed) && table.listed().iter().any(|node| node.failed & ready != 0)
+        || r.takes(Slip::SettledWithoutMessages) && table.count != 0
+        || r.takes(Slip::SettledWithoutProbing) && some(&|_, node| node.probing != 0)
+        || r.takes(Slip::SettledWithLeases) && some(&lacks)
+        || r.takes(Slip::SettledWithComplete) && some(&|_, node| !node.sides.is_complete(table.l))
+        || r.takes(Slip::SettledReadyLeaves) && some(&|slot, node| node.sides.content(slot) & !ready != 0)
+}
+
+/// Whether a waiting message is held equal to one that is added, by the misreadings of equality.
+pub(crate) fn held_equal<R: Reading>(r: R, waiting: &[Message], message: &Message) -> Option<bool> {
+    let blind: fn(&mut Fields) = if r.takes(Slip::EqualWithoutSets) {
+        |fields| {
+            (fields.routing, fields.failed, fields.flag) = (0, 0, 0);
+            (fields.left, fields.right) = (0, 0);
+        }
+    } else if r.takes(Slip::EqualWithoutFlag) {
+        |fields| fields.flag = 0
+    } else if r.takes(Slip::EqualWithoutRouting) {
+        |fields| fields.routing = 0
+    } else if r.takes(Slip::EqualWithoutFailed) {
+        |fields| fields.failed = 0
+    } else if r.takes(Slip::EqualAnywhere) {
+        |fields| fields.to = 0
+    } else {
+        return None;
     };
-    ends(one) == ends(other)
+    let seen = |message: &Message| {
+        let mut fields = message.fields();
+        blind(&mut fields);
+        fields
+    };
+    Some(waiting.iter().any(|other| seen(other) == seen(message)))
 }
 
 /// The misreadings of adding to a leaf set.
@@ -42,6 +95,13 @@ pub(crate) fn add<R: Reading>(view: &View<R>, owner: usize, sides: Sides, set: u
     }
     if view.r.takes(Slip::AddOnlyToRoom) {
         return Some(add_only_to_room(view, owner, sides, set));
+    }
+    if view.r.takes(Slip::AddLeftFirst) {
+        return Some(add_left_first(view, owner, sides, set));
+    }
+    if view.r.takes(Slip::AddLeftOnly) {
+        let left = keep_up((sides.left | set) & !bit(owner), owner, view.table.l);
+        return Some(Sides { left, ..sides });
     }
     None
 }
@@ -75,6 +135,13 @@ fn add_only_to_room<R: Reading>(view: &View<R>, owner: usize, sides: Sides, set:
         left: sides.left | keep_up(left, owner, room(sides.left)),
         right: sides.right | keep_down(right, owner, room(sides.right)),
     }
+}
+
+fn add_left_first<R: Reading>(view: &View<R>, owner: usize, sides: Sides, set: u64) -> Sides {
+    let l = view.table.l;
+    let left = keep_up((sides.left | set) & !bit(owner), owner, l);
+    let right = (sides.right | set) & !(bit(owner) | left);
+    Sides { left, right: keep_down(right, owner, l) }
 }
 
 /// The misreadings of the routing branch: `Some` is their answer.

@@ -3,9 +3,10 @@
 use crate::change::{Change, Scene};
 use crate::index::Index;
 use crate::message::Message;
-use crate::reading::{Reading, Right, Slip};
+use crate::reading::{Reading, Right};
 use crate::refusal::{refuse_if, Refusal};
-use crate::table::Table;
+use crate::slip::Slip;
+use crate::table::{Status, Table};
 use crate::valid::{check, lent_mut};
 use crate::view::View;
 
@@ -36,7 +37,11 @@ pub fn step_as<R: Reading>(
     let mut index = Index::new();
     check(r, table, pool, &mut index)?;
     let mut change = Change::none();
-    Scene { view: View::new(r, table), pool, index: &index }.plan(action, &mut change)?;
+    let planned = Scene { view: View::new(r, table), pool, index: &index }.plan(action, &mut change);
+    let full = table.count == Table::MESSAGES && change.taken.is_none();
+    let early = full && planned.is_err_and(|why| why != Refusal::OutOfRange);
+    refuse_if(r.takes(Slip::FullPoolFirst) && early, Refusal::PoolFull)?;
+    planned?;
     refuse_if(!change.fits(r, table.count), Refusal::PoolFull)?;
     change.carry_out(r, table, pool);
     Ok(())
@@ -52,7 +57,7 @@ impl<R: Reading> Scene<'_, R> {
             }
             Action::Join { node, seed } => {
                 change.at(self, self.slot(node)?);
-                self.join(change, self.slot(seed)?)
+                self.join(change, self.partner(seed, change.node.status == Status::Dead)?)
             }
             Action::RequestLease { node } => {
                 change.at(self, self.slot(node)?);
@@ -60,11 +65,11 @@ impl<R: Reading> Scene<'_, R> {
             }
             Action::LeaseExpired { node, partner } => {
                 change.at(self, self.slot(node)?);
-                self.lease_expired(change, self.slot(partner)?)
+                self.lease_expired(change, self.partner(partner, change.node.status.is_member())?)
             }
             Action::GrantExpired { node, partner } => {
                 change.at(self, self.slot(node)?);
-                self.grant_expired(change, self.slot(partner)?)
+                self.grant_expired(change, self.partner(partner, change.node.status.is_member())?)
             }
             Action::Take { place } => self.take(change, self.place(place)?),
         }
@@ -72,12 +77,24 @@ impl<R: Reading> Scene<'_, R> {
 
     #[inline]
     fn slot(&self, slot: usize) -> Result<usize, Refusal> {
-        refuse_if(slot >= self.view.table.n, Refusal::OutOfRange)?;
+        let (r, n) = (self.view.r, self.view.table.n);
+        let slot = r.pick(Slip::SlotCut, slot & 0xff, r.pick(Slip::SlotWraps, slot % n, slot));
+        refuse_if(slot >= n, Refusal::OutOfRange)?;
         Ok(slot)
+    }
+
+    /// The slot of a seed or partner, for a node whose status allows the action or not.
+    #[inline]
+    fn partner(&self, slot: usize, allowed: bool) -> Result<usize, Refusal> {
+        let (r, out) = (self.view.r, slot >= self.view.table.n);
+        refuse_if(r.takes(Slip::TwoBeforeOne) && out && !allowed, Refusal::Status)?;
+        refuse_if(r.takes(Slip::PartnerOutIsFive) && out, Refusal::Partner)?;
+        self.slot(slot)
     }
 
     #[inline]
     fn key(&self, key: u64) -> Result<u32, Refusal> {
+        let key = self.view.r.pick(Slip::KeyCut, key & u64::from(u32::MAX), key);
         let out = key > u64::from(self.view.ring.top()) && !self.view.r.takes(Slip::KeyWraps);
         refuse_if(out, Refusal::OutOfRange)?;
         Ok(self.view.ring.wrap(key))
@@ -86,6 +103,7 @@ impl<R: Reading> Scene<'_, R> {
     #[inline]
     fn place(&self, place: usize) -> Result<usize, Refusal> {
         let place = place.wrapping_sub(self.view.r.pick(Slip::PlacesFromOne, 1, 0));
+        let place = self.view.r.pick(Slip::PlaceCut, place & u32::MAX as usize, place);
         refuse_if(place >= self.view.table.count, Refusal::OutOfRange)?;
         Ok(place)
     }

@@ -3,8 +3,9 @@
 use crate::index::Index;
 use crate::marks::{below, has};
 use crate::message::{Message, Pool};
-use crate::reading::{Reading, Right, Slip};
+use crate::reading::{Reading, Right};
 use crate::refusal::{refuse_if, Refusal};
+use crate::slip::Slip;
 use crate::table::{Node, Sides, Table};
 
 /// Whether the table is valid with this list of messages.
@@ -37,7 +38,8 @@ pub(crate) fn check<R: Reading>(r: R, table: &Table, pool: &Pool, index: &mut In
     for place in 0..table.count {
         refuse_if(!limits.message_obeys(&pool[place]), Refusal::Invalid)?;
         let alone = index.note(pool, place);
-        refuse_if(!alone && !r.takes(Slip::EqualAccepted), Refusal::Invalid)?;
+        let apart = r.takes(Slip::EqualNeighboursOnly) && pool[place] != pool[place.saturating_sub(1)];
+        refuse_if(!alone && !apart && !r.takes(Slip::EqualAccepted), Refusal::Invalid)?;
     }
     Ok(())
 }
@@ -68,7 +70,8 @@ impl<R: Reading> Limits<R> {
         let (listed, unlisted) = table.nodes.split_at(table.n);
         let marks = listed.iter().enumerate().all(|(slot, node)| self.node_obeys(slot, node));
         let apart = self.r.pick(Slip::IdsMayRepeat, 0, 1);
-        let rising = listed.windows(2).all(|pair| u64::from(pair[0].id) + apart <= u64::from(pair[1].id));
+        let rising = listed.windows(2).all(|pair| u64::from(pair[0].id) + apart <= u64::from(pair[1].id))
+            || self.r.takes(Slip::IdsAnyOrder);
         let top = listed.last().is_some_and(|node| u64::from(node.id) <= self.top);
         marks && rising && top && unlisted.iter().all(|node| *node == Node::BLANK)
     }
@@ -76,20 +79,22 @@ impl<R: Reading> Limits<R> {
     #[inline]
     fn node_obeys(&self, slot: usize, node: &Node) -> bool {
         let Node { sides, probing, failed, routing, lease, grant, .. } = *node;
-        let mut not_self = sides.left | sides.right | probing | failed;
-        if self.r.takes(Slip::SelfInProbing) {
-            not_self = sides.left | sides.right;
-        }
-        if self.r.takes(Slip::SelfInNoSet) {
-            not_self |= routing | lease | grant;
-        }
-        let all = sides.left | sides.right | probing | failed | routing | lease | grant;
+        let r = self.r;
+        let both = sides.left | sides.right;
+        let not_self = r.pick(Slip::SelfInSides, 0, both)
+            | r.pick(Slip::SelfInProbing, 0, probing)
+            | r.pick(Slip::SelfInFailed, 0, failed)
+            | r.pick(Slip::SelfInNoSet, routing | lease | grant, 0);
+        let all = r.pick(Slip::MarkPastNInSides, 0, both)
+            | r.pick(Slip::MarkPastNInFailed, 0, probing | failed)
+            | r.pick(Slip::MarkPastNInRouting, 0, routing)
+            | r.pick(Slip::MarkPastNInLease, 0, lease | grant);
         self.listed(all) && !has(not_self, slot) && self.sides_fit(sides)
     }
 
     #[inline]
     fn sides_fit(&self, sides: Sides) -> bool {
-        let most = self.l + self.r.pick(Slip::SidePastL, 1, 0);
+        let most = self.l + self.r.pick(Slip::SidePastL, 1, 0) - self.r.pick(Slip::SideAtL, 1, 0);
         if self.r.takes(Slip::SidesTogether) {
             return (sides.left | sides.right).count_ones() <= 2 * most;
         }
@@ -99,18 +104,18 @@ impl<R: Reading> Limits<R> {
     #[inline]
     fn message_obeys(&self, message: &Message) -> bool {
         match *message {
-            Message::Blank => false,
+            Message::Blank => self.r.takes(Slip::BlankAccepted),
             Message::Lookup { to, key } | Message::NoLegalRoute { to, key } => self.slot(to) && self.key(key),
             Message::JoinRequest { to, node, routing } => {
-                self.slots(to, node) && self.listed(routing) && self.sent(to, node)
+                self.slots(to, node) && self.carried(routing) && self.sent(to, node)
             }
             Message::JoinReply { to, owner, routing, sides } => {
-                self.slots(to, owner) && self.listed(routing) && self.leaves(owner, sides)
+                self.slots(to, owner) && self.carried(routing) && self.leaves(owner, sides)
             }
             Message::LsProbe { to, node, sides, failed }
             | Message::LsProbeReply { to, node, sides, failed } => {
                 self.slots(to, node)
-                    && self.listed(failed)
+                    && self.carried(failed)
                     && self.leaves(node, sides)
                     && self.sent(to, node)
                     && !(self.r.takes(Slip::SenderInFailed) && has(failed, node.into()))
@@ -129,7 +134,8 @@ impl<R: Reading> Limits<R> {
 
     #[inline]
     fn slots(&self, to: u8, other: u8) -> bool {
-        self.slot(to.max(other))
+        let past = self.r.takes(Slip::SenderPastN) && usize::from(other) == self.n && self.n < Table::NODES;
+        self.slot(to) && (self.slot(other) || past)
     }
 
     #[inline]
@@ -142,11 +148,16 @@ impl<R: Reading> Limits<R> {
         set & !self.listed == 0
     }
 
+    #[inline]
+    fn carried(&self, set: u64) -> bool {
+        self.listed(set) || self.r.takes(Slip::MarkPastNCarried)
+    }
+
     /// A carried leaf set obeys the node rules for its owner, which is listed.
     #[inline]
     fn leaves(&self, owner: u8, sides: Sides) -> bool {
         let both = sides.left | sides.right;
-        self.listed(both)
+        self.carried(both)
             && (!has(both, owner.into()) || self.r.takes(Slip::CarriedOwnerInSide))
             && (self.sides_fit(sides) || self.r.takes(Slip::CarriedSidesFree))
     }

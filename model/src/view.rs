@@ -1,8 +1,9 @@
 //! A table seen through a reading: its leaf sets, covers and searches.
 
 use crate::marks::{bit, first_down, first_up, keep_down, keep_up};
-use crate::reading::{Reading, Slip};
+use crate::reading::Reading;
 use crate::ring::Ring;
+use crate::slip::Slip;
 use crate::slips;
 use crate::table::{Sides, Table};
 
@@ -38,7 +39,10 @@ impl<'a, R: Reading> View<'a, R> {
 
     #[inline]
     pub fn neighbours(&self, owner: usize, sides: Sides) -> Neighbours {
-        Neighbours(self.left_neighbour(owner, sides), self.right_neighbour(owner, sides))
+        let both = sides.left | sides.right;
+        let sides = self.r.pick(Slip::NeighbourOfContent, Sides { left: both, right: both }, sides);
+        let (left, right) = (self.left_neighbour(owner, sides), self.right_neighbour(owner, sides));
+        self.r.pick(Slip::NeighboursExchanged, Neighbours(right, left), Neighbours(left, right))
     }
 
     /// The member of left with least Fall(member, owner), or the owner.
@@ -50,7 +54,7 @@ impl<'a, R: Reading> View<'a, R> {
         if self.r.takes(Slip::NeighbourByDistance) {
             return slips::closest(self, sides.left, owner);
         }
-        if self.r.takes(Slip::FallTurned) {
+        if self.r.takes(Slip::FallTurned) || self.r.takes(Slip::NeighbourFarthest) {
             return first_down(sides.left, owner);
         }
         first_up(sides.left, owner)
@@ -65,7 +69,7 @@ impl<'a, R: Reading> View<'a, R> {
         if self.r.takes(Slip::NeighbourByDistance) {
             return slips::closest(self, sides.right, owner);
         }
-        if self.r.takes(Slip::FallTurned) {
+        if self.r.takes(Slip::FallTurned) || self.r.takes(Slip::NeighbourFarthest) {
             return first_up(sides.right, owner);
         }
         first_down(sides.right, owner)
@@ -80,7 +84,7 @@ impl<'a, R: Reading> View<'a, R> {
         if self.r.takes(Slip::LeftmostSigned) {
             return slips::signed_most(self, sides.left, |x, y| self.ring.signed(y, x)).unwrap_or(owner);
         }
-        if self.r.takes(Slip::FallTurned) {
+        if self.r.takes(Slip::FallTurned) || self.r.takes(Slip::LeftmostNearest) {
             return first_up(sides.left, owner);
         }
         first_down(sides.left, owner)
@@ -95,7 +99,7 @@ impl<'a, R: Reading> View<'a, R> {
         if self.r.takes(Slip::LeftmostSigned) {
             return slips::signed_most(self, sides.right, |x, y| self.ring.signed(x, y)).unwrap_or(owner);
         }
-        if self.r.takes(Slip::FallTurned) {
+        if self.r.takes(Slip::FallTurned) || self.r.takes(Slip::LeftmostNearest) {
             return first_down(sides.right, owner);
         }
         first_up(sides.right, owner)
@@ -106,12 +110,13 @@ impl<'a, R: Reading> View<'a, R> {
     #[inline]
     pub fn add(&self, owner: usize, sides: Sides, set: u64) -> Sides {
         let own = self.r.pick(Slip::AddKeepsOwner, 0, bit(owner));
+        let sides = self.r.pick(Slip::AddReplaces, Sides::EMPTY, sides);
         let (left, right) = ((sides.left | set) & !own, (sides.right | set) & !own);
-        let l = self.table.l;
+        let l = self.table.l + self.r.pick(Slip::AddPastL, 1, 0);
         if let Some(slipped) = slips::add(self, owner, sides, set) {
             return slipped;
         }
-        if self.r.takes(Slip::FallTurned) {
+        if self.r.takes(Slip::FallTurned) || self.r.takes(Slip::AddFarthest) {
             return Sides { left: keep_down(left, owner, l), right: keep_up(right, owner, l) };
         }
         Sides { left: keep_up(left, owner, l), right: keep_down(right, owner, l) }
@@ -134,6 +139,12 @@ impl<'a, R: Reading> View<'a, R> {
         if self.r.takes(Slip::CompleteOrOverlap) && sides.overlap() {
             return true;
         }
+        if self.r.takes(Slip::CompleteNotEmpty) {
+            return sides.left != 0 && sides.right != 0;
+        }
+        if self.r.takes(Slip::CompleteTogether) {
+            return (sides.left | sides.right).count_ones() == 2 * l;
+        }
         sides.is_complete(l)
     }
 
@@ -142,6 +153,12 @@ impl<'a, R: Reading> View<'a, R> {
         if self.r.takes(Slip::EmptyOneSide) {
             return sides.left == 0 || sides.right == 0;
         }
+        if self.r.takes(Slip::EmptyLeft) {
+            return sides.left == 0;
+        }
+        if self.r.takes(Slip::EmptyRight) {
+            return sides.right == 0;
+        }
         sides.is_empty()
     }
 
@@ -149,16 +166,23 @@ impl<'a, R: Reading> View<'a, R> {
     #[inline]
     pub fn covers(&self, i: usize, key: u32) -> bool {
         let (ring, r) = (self.ring, self.r);
-        let sides = self.table.nodes[i].sides;
+        let sides = slips::cover_sides(self, i);
         if r.takes(Slip::LoneOneSide) && (sides.left == 0 || sides.right == 0) {
             return true;
+        }
+        if r.takes(Slip::LoneOwnId) && sides.is_empty() {
+            return key == self.table.id(i);
         }
         let Neighbours(left, right) = self.neighbours(i, sides);
         let (id, left, right) = (self.table.id(i), self.table.id(left), self.table.id(right));
         let up = ring.fall(left, id) + r.pick(Slip::CoverRoundsUp, 1, 0);
+        let down = ring.fall(id, right) + r.pick(Slip::CoverRightRoundsUp, 1, 0);
         let past = r.pick(Slip::BothCover, 0, 1);
-        let left_cover = ring.wrap(u64::from(id) + up / 2);
-        let right_cover = ring.wrap(u64::from(right) + ring.fall(id, right) / 2 + past);
+        let left_cover = ring.wrap(u64::from(id) + up / 2 + r.pick(Slip::CoverLeftPast, 1, 0));
+        let right_cover = ring.wrap(u64::from(right) + down / 2 + past);
+        if r.takes(Slip::CoverExchanged) {
+            return ring.fall(right_cover, key) <= ring.fall(right_cover, left_cover);
+        }
         let (reach, whole) = (ring.fall(left_cover, key), ring.fall(left_cover, right_cover));
         if r.takes(Slip::CoverStrict) {
             return reach < whole;

@@ -2,8 +2,9 @@
 
 use crate::index::Index;
 use crate::message::Message;
-use crate::reading::{Reading, Right, Slip};
+use crate::reading::{Reading, Right};
 use crate::refusal::{refuse_if, Refusal};
+use crate::slip::Slip;
 use crate::table::{Status, Table};
 use crate::valid::{check, lent};
 
@@ -40,7 +41,9 @@ fn is_for<R: Reading>(r: R, table: &Table, message: &Message, slot: u64) -> bool
     let fields = message.fields();
     let to = r.pick(Slip::NamedForDestination, fields.node_or_key, fields.to);
     let lookup = matches!(message, Message::Lookup { .. });
-    let dead = table.nodes.get(slot as usize).is_some_and(|node| node.status == Status::Dead);
-    let other = !lookup && r.takes(Slip::OnlyLookupsWait) || dead && r.takes(Slip::NoneForDead);
+    let is = |status: Status| table.nodes.get(slot as usize).is_some_and(|node| node.status == status);
+    let other = !lookup && r.takes(Slip::OnlyLookupsWait)
+        || is(Status::Dead) && r.takes(Slip::NoneForDead)
+        || !is(Status::Ready) && r.takes(Slip::NoneUnlessReady);
     u64::from(to) == slot && !other
 }

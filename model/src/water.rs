@@ -2,9 +2,10 @@
 
 use crate::marks::{bit, slots};
 use crate::message::Message;
-use crate::reading::{Reading, Right, Slip};
+use crate::reading::{Reading, Right};
 use crate::refusal::Refusal;
 use crate::settled::settled_as;
+use crate::slip::Slip;
 use crate::table::{Status, Table};
 use crate::view::{Neighbours, View};
 
@@ -26,8 +27,25 @@ impl Record {
         let keys = (1 << m) + r.pick(Slip::RecordKeyAtN, 1, 0);
         let months = r.pick(Slip::MonthZero, 0, 1)..=r.pick(Slip::MonthThirteen, 13, 12);
         let most = Record::MOST - r.pick(Slip::AmountTopRefused, 1, 0) + r.pick(Slip::AmountPastTop, 1, 0);
-        let amounts = [self.rain, self.evapotranspiration, self.runoff];
-        self.key < keys && months.contains(&self.month) && amounts.iter().all(|&amount| amount <= most)
+        let fits = |amount: u64, free: Slip| amount <= most || r.takes(free);
+        self.key < keys
+            && months.contains(&self.month)
+            && self.rain <= most
+            && fits(self.evapotranspiration, Slip::EvapotranspirationFree)
+            && fits(self.runoff, Slip::RunoffFree)
+    }
+
+    /// The record with its numbers cut, by two misreadings.
+    fn cut<R: Reading>(self, r: R, m: u32) -> Record {
+        let cut = |number: u64| r.pick(Slip::NumbersCut, number & u64::from(u32::MAX), number);
+        let key = r.pick(Slip::RecordKeyWraps, self.key & ((1 << m) - 1), self.key);
+        Record {
+            key: cut(key),
+            month: cut(self.month),
+            rain: cut(self.rain),
+            evapotranspiration: cut(self.evapotranspiration),
+            runoff: cut(self.runoff),
+        }
     }
 
     fn same_key_and_month<R: Reading>(&self, r: R, other: &Record) -> bool {
@@ -51,8 +69,10 @@ impl Held {
 
     pub fn change_as<R: Reading>(&self, r: R) -> i64 {
         let Record { rain, evapotranspiration, runoff, .. } = self.record;
-        let lost = r.pick(Slip::RunoffAdded, -(runoff as i64), runoff as i64);
-        rain as i64 - evapotranspiration as i64 - lost
+        let signed = |slip: Slip, amount: i64| r.pick(slip, -amount, amount);
+        let rain = signed(Slip::RainTakenAway, rain as i64);
+        let evapotranspiration = signed(Slip::EvapotranspirationAdded, evapotranspiration as i64);
+        rain - evapotranspiration - signed(Slip::RunoffAdded, runoff as i64)
     }
 }
 
@@ -83,6 +103,7 @@ impl Store {
         record: Record,
     ) -> Result<Held, Refusal> {
         let settled = settled_as(r, table, pool)?;
+        let record = record.cut(r, table.m);
         let earlier = self.held.iter().position(|held| held.record.same_key_and_month(r, &record));
         let fresh = earlier.is_none() || r.takes(Slip::NoRoomToReplace);
         let mut refusals = [
@@ -104,9 +125,15 @@ impl Store {
         }
         let view = View::new(r, table);
         let holder = holder(&view, record.key).ok_or(Refusal::Unsettled)?;
-        let held = Held { record, holder, copies: copies(&view, holder) };
+        let mut held = Held { record, holder, copies: copies(&view, holder) };
         match earlier {
-            Some(place) if !r.takes(Slip::RepeatAdded) => self.held[place] = held,
+            Some(place) if !r.takes(Slip::RepeatAdded) => {
+                let old = self.held[place];
+                if r.takes(Slip::RepeatKeepsHolder) {
+                    held = Held { record, ..old };
+                }
+                self.held[place] = r.pick(Slip::RepeatIgnored, old, held);
+            }
             _ => self.held.push(held),
         }
         Ok(held)
@@ -127,7 +154,14 @@ impl Store {
 
     pub fn sum_as<R: Reading>(&self, r: R) -> i64 {
         let copies = |held: &Held| r.pick(Slip::CopiesInSum, i64::from(held.copies.count_ones()), 0);
-        self.held.iter().map(|held| held.change_as(r) * (1 + copies(held))).sum()
+        let change = |held: &Held| r.pick(Slip::SumOfSizes, held.change_as(r).abs(), held.change_as(r));
+        self.held.iter().map(|held| change(held) * (1 + copies(held))).sum()
+    }
+
+    /// How many records are held.
+    pub fn count_as<R: Reading>(&self, r: R) -> usize {
+        let copies = |held: &Held| r.pick(Slip::CopiesCounted, held.copies.count_ones() as usize, 0);
+        self.held.iter().map(|held| 1 + copies(held)).sum()
     }
 }
 
@@ -142,7 +176,7 @@ fn copies<R: Reading>(view: &View<R>, holder: usize) -> u64 {
     let r = view.r;
     let sides = view.table.nodes[holder].sides;
     let Neighbours(left, right) = view.neighbours(holder, sides);
-    let both = bit(left) | r.pick(Slip::CopyLeftOnly, 0, bit(right));
+    let both = r.pick(Slip::CopyRightOnly, 0, bit(left)) | r.pick(Slip::CopyLeftOnly, 0, bit(right));
     let near = r.pick(Slip::CopiesAtAllLeaves, sides.content(holder), both);
     let others = r.pick(Slip::LoneCopiesItself, near, near & !bit(holder));
     r.pick(Slip::CopyAtHolder, near | bit(holder), others)

@@ -7,10 +7,11 @@
 use crate::file::{load_as, write_as, LARGEST};
 use crate::listing::listing_as;
 use crate::message::{Pool, EMPTY_POOL};
-use crate::reading::{Reading, Slip};
+use crate::reading::Reading;
 use crate::refusal::{refuse_if, Refusal};
 use crate::rehearsal::{Rehearsal, Verdict};
 use crate::settled::settled_as;
+use crate::slip::Slip;
 use crate::start::start_as;
 use crate::step::{step_as, Action};
 use crate::table::Table;
@@ -168,13 +169,23 @@ impl<R: Reading> Server<R> {
         let start = out.len();
         out.extend_from_slice(&0u32.to_le_bytes());
         let number = match Request::parse(request) {
-            None => MALFORMED,
+            None => {
+                self.hear_malformed(request);
+                MALFORMED
+            }
             Some(request) => match self.result(&request, out) {
                 Ok(()) => 0,
                 Err(refusal) => refusal.number(),
             },
         };
         out[start..start + 4].copy_from_slice(&number.to_le_bytes());
+    }
+
+    /// A malformed request leaves all as it is.
+    fn hear_malformed(&mut self, request: &[u8]) {
+        if self.r.takes(Slip::MalformedIsBad) && request.first() == Some(&6) {
+            self.rehearsal.next_as(self.r, Action::Take { place: usize::MAX }, &[]).ok();
+        }
     }
 
     fn result(&mut self, request: &Request, out: &mut Vec<u8>) -> Result<(), Refusal> {
@@ -207,6 +218,7 @@ impl<R: Reading> Server<R> {
                 self.rehearsal.next_as(r, *action, stated)?;
                 self.put_verdict(out);
             }
+            Request::Records if r.takes(Slip::HeldAfterBegin) => {}
             Request::Records => self.store = Store::default(),
             Request::Place { record, file } => {
                 load_as(r, file, &mut table, &mut pool)?;
@@ -214,7 +226,7 @@ impl<R: Reading> Server<R> {
                 put_held(r, &held, out);
             }
             Request::Sum => {
-                let count = self.store.held().len() as u32;
+                let count = self.store.count_as(r) as u32;
                 out.extend_from_slice(&count.to_le_bytes());
                 out.extend_from_slice(&self.store.sum_as(r).to_le_bytes());
             }

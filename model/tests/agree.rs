@@ -33,7 +33,7 @@ fn compare(seeds: std::ops::Range<u64>, each: usize) -> (BTreeMap<u32, u64>, u64
 
 #[test]
 fn every_reply_is_the_slow_one() {
-    let (seen, several) = compare(0..4, 6_000);
+    let (seen, several) = compare(0..4, 8_000);
     let all = [0, 1, 2, 3, 4, 5, 6, 7, 8, 9, 10, 12, 14, 15, 16, u32::MAX];
     assert!(all.iter().all(|number| seen.get(number).copied().unwrap_or(0) >= 20), "{seen:?}");
     assert!(several > 500, "{several} requests have several refusals");

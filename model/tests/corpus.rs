@@ -1,11 +1,12 @@
 //! The driver's stored corpus has every number that a step can answer, and no other, for every action and
-//! for the Take of every kind.
+//! for the Take of every kind. It tells every misreading apart, and its replies are the model's.
 
 mod common;
 
 use common::Bench;
-use model::wire::Request;
-use model::Action;
+use model::judge::Tally;
+use model::wire::{Request, Server};
+use model::{Action, Right, Slip};
 use std::collections::BTreeSet;
 
 /// An action, for a Take the kind of the message or 0 for a place out of range, and a number answered.
@@ -92,4 +93,48 @@ fn the_corpus_has_every_number_of_a_step() {
     assert!(lost.is_empty(), "the corpus has lost {lost:?}");
     let others: Vec<&Case> = had.difference(&can).collect();
     assert!(others.is_empty(), "the corpus has {others:?}, which cannot occur");
+}
+
+/// Definitions of the step that are easily tidied wrong, and 01's slips that look right.
+const NAMED: [Slip; 19] = [
+    Slip::SenderStaysFailed,
+    Slip::OldFailedLeftOut,
+    Slip::BroadcastAddsFailed,
+    Slip::LeaseWithoutFlag,
+    Slip::GrantIgnoresLease,
+    Slip::AnyExpiryDemotes,
+    Slip::ReplyFiveBeforeFour,
+    Slip::AnyoneIsGranted,
+    Slip::ReplyKeepsFailed,
+    Slip::ProbingKeepsFailed,
+    Slip::RequestWhenReady,
+    Slip::JoinFourBeforeThree,
+    Slip::ForwardKeepsRouting,
+    Slip::ReadyWhenChanged,
+    Slip::P2AtOnce,
+    Slip::FallTurned,
+    Slip::BothCover,
+    Slip::EqualKept,
+    Slip::HopPlainDistance,
+];
+
+#[test]
+fn the_corpus_tells_every_misreading_apart() {
+    let tally = Tally::of(stored("stdin").into_iter());
+    let wrong = tally.wrong(1);
+    assert!(wrong.is_empty(), "not told apart, or equivalent and told apart: {wrong:?}");
+    for slip in NAMED {
+        assert!(tally.count(slip) >= 2, "{slip:?} is told by {} requests", tally.count(slip));
+    }
+    println!("{}", tally.summary("the corpus"));
+}
+
+#[test]
+fn the_replies_are_the_models() {
+    let (mut model, mut reply) = (Server::new(Right), Vec::new());
+    for (nth, (request, wanted)) in stored("stdin").iter().zip(&stored("stdout")).enumerate() {
+        reply.clear();
+        model.answer(request, &mut reply);
+        assert!(reply == *wanted, "request {nth} is answered otherwise");
+    }
 }

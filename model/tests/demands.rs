@@ -48,7 +48,7 @@ fn keys(rng: &mut Rng, m: u32) -> Vec<i64> {
 fn a_routed_lookup_comes_nearer() {
     let mut rng = Rng::new(11);
     let mut routed = 0;
-    for bench in tables(11, 3_500) {
+    for bench in tables(11, 6_000) {
         let m = bench.table.m;
         for at in slots(&bench, READY).into_iter().take(4) {
             for key in keys(&mut rng, m) {
@@ -68,7 +68,7 @@ fn a_routed_lookup_comes_nearer() {
 fn a_settled_table_delivers_at_the_nearest_ready_node() {
     let mut rng = Rng::new(12);
     let mut seen = 0;
-    for bench in tables(12, 4_000).into_iter().filter(Bench::settled) {
+    for bench in tables(12, 10_000).into_iter().filter(Bench::settled) {
         seen += 1;
         let m = bench.table.m;
         let ready = slots(&bench, READY);

@@ -1,12 +1,17 @@
 //! Damaged table files: every header word, every rule of a record, short and long files.
 
+use super::breach::breach;
 use super::rng::Rng;
 use crate::file::{HEADER, MESSAGE, NODE};
 use crate::marks::bit;
 
-/// The file with one to three faults; some of them happen to leave a right file.
+/// The file with one rule broken, or with one to three faults; some of them happen to leave a right file.
 pub fn damaged(rng: &mut Rng, mut file: Vec<u8>) -> Vec<u8> {
     let sound = Sound::of(&file);
+    if rng.one_in(2) {
+        breach(rng, &mut file, &sound);
+        return file;
+    }
     for _ in 0..rng.pick(&[1, 1, 1, 1, 2, 3]) {
         match rng.below(12) {
             0 | 1 => header(rng, &mut file),
@@ -21,11 +26,11 @@ pub fn damaged(rng: &mut Rng, mut file: Vec<u8>) -> Vec<u8> {
 }
 
 /// The numbers of the file before it was damaged.
-struct Sound {
-    m: u32,
-    l: u32,
-    n: usize,
-    count: usize,
+pub(super) struct Sound {
+    pub m: u32,
+    pub l: u32,
+    pub n: usize,
+    pub count: usize,
 }
 
 impl Sound {
@@ -34,7 +39,7 @@ impl Sound {
         Sound { m: word(0), l: word(1), n: word(2) as usize, count: word(3) as usize }
     }
 
-    fn whole(&self) -> u64 {
+    pub fn whole(&self) -> u64 {
         1 << self.m
     }
 
@@ -45,11 +50,11 @@ impl Sound {
     }
 }
 
-fn word_at(file: &[u8], at: usize) -> u32 {
+pub(super) fn word_at(file: &[u8], at: usize) -> u32 {
     file.get(at..at + 4).map_or(0, |bytes| u32::from_le_bytes([bytes[0], bytes[1], bytes[2], bytes[3]]))
 }
 
-fn long_at(file: &[u8], at: usize) -> u64 {
+pub(super) fn long_at(file: &[u8], at: usize) -> u64 {
     u64::from(word_at(file, at)) | u64::from(word_at(file, at + 4)) << 32
 }
 
@@ -59,11 +64,11 @@ fn put(file: &mut [u8], at: usize, bytes: &[u8]) {
     }
 }
 
-fn put_word(file: &mut [u8], at: usize, word: u32) {
+pub(super) fn put_word(file: &mut [u8], at: usize, word: u32) {
     put(file, at, &word.to_le_bytes());
 }
 
-fn put_long(file: &mut [u8], at: usize, long: u64) {
+pub(super) fn put_long(file: &mut [u8], at: usize, long: u64) {
     put(file, at, &long.to_le_bytes());
 }
 
@@ -130,7 +135,7 @@ fn node(rng: &mut Rng, file: &mut [u8], sound: &Sound) {
 }
 
 /// A side with one member more than L, where there are so many nodes; else a full one.
-fn overfull(rng: &mut Rng, sound: &Sound, owner: usize) -> u64 {
+pub(super) fn overfull(rng: &mut Rng, sound: &Sound, owner: usize) -> u64 {
     let others = crate::marks::below(sound.n) & !bit(owner);
     let more = rng.pick(&[1, 1, 2, 61]);
     rng.members(others, sound.l as usize + more)

@@ -1,7 +1,10 @@
-//! Seeded requests: tables, walks, damaged files, rehearsals, water records, polls and malformed requests.
+//! Seeded requests: tables, walks, refusals, damaged files, rehearsals, water records, polls and malformed requests.
 
+mod breach;
+mod broken;
 mod case;
 mod damage;
+mod keen;
 mod messages;
 mod polls;
 mod prime;

@@ -22,16 +22,16 @@ impl Polls {
         Polls { rng, walk }
     }
 
-    /// Whether the next request is a poll: one of twelve.
+    /// Whether the next request is a poll: one of fourteen.
     pub fn due(&mut self) -> bool {
-        self.rng.one_in(12)
+        self.rng.one_in(14)
     }
 
     pub fn put(&mut self, out: &mut Vec<u8>) {
         let case = self.case();
         let rng = &mut self.rng;
         let slot = slot(rng, &case);
-        let file = if rng.one_in(6) { damaged(rng, case.file()) } else { case.file() };
+        let file = if rng.one_in(4) { damaged(rng, case.file()) } else { case.file() };
         let from = out.len();
         Request::Waiting { slot, file: &file }.put(out);
         match rng.below(200) {

@@ -216,13 +216,17 @@ fn crowd(rng: &mut Rng, case: &mut Case, action: Action) -> Action {
         added.iter().enumerate().filter(|(nth, _)| echoed(*nth)).for_each(|(_, m)| case.push(*m));
         added.retain(|m| case.place_of(m).is_none());
     }
+    if rng.one_in(2) {
+        let alike: Vec<Message> = added.iter().map(|m| altered(rng, &case.table, *m)).collect();
+        alike.into_iter().for_each(|m| case.push(m));
+    }
     let brink = Table::MESSAGES + usize::from(taken.is_some()) - added.len().min(Table::MESSAGES);
     let count = match rng.below(24) {
         0 => 255,
         1 => 256,
-        2..=5 => (brink + rng.below(3)).saturating_sub(1).min(Table::MESSAGES),
-        6 => rng.below(257),
-        7..=11 => rng.below(30),
+        2..=7 => (brink + rng.below(3)).saturating_sub(1).min(Table::MESSAGES),
+        8 => rng.below(257),
+        9..=12 => rng.below(30),
         _ => 0,
     };
     fill(rng, case, count);
@@ -234,6 +238,30 @@ fn crowd(rng: &mut Rng, case: &mut Case, action: Action) -> Action {
         Some(message) => Action::Take { place: case.place_of(&message).expect("it waits") },
         None => action,
     }
+}
+
+/// A message that differs in its flag, its routing set, its failed or its destination alone.
+fn altered(rng: &mut Rng, table: &Table, mut message: Message) -> Message {
+    let listed = below(table.n);
+    match &mut message {
+        Message::BroadcastLSet { grant, .. } if !rng.one_in(4) => *grant = !*grant,
+        Message::JoinRequest { routing, .. } | Message::JoinReply { routing, .. } if !rng.one_in(4) => {
+            *routing = rng.any() & listed;
+        }
+        Message::LsProbe { failed, .. } | Message::LsProbeReply { failed, .. } if !rng.one_in(4) => {
+            *failed = rng.subset(listed);
+        }
+        Message::Lookup { to, .. }
+        | Message::JoinRequest { to, .. }
+        | Message::JoinReply { to, .. }
+        | Message::LsProbe { to, .. }
+        | Message::LsProbeReply { to, .. }
+        | Message::NoLegalRoute { to, .. }
+        | Message::LeaseRequest { to, .. }
+        | Message::BroadcastLSet { to, .. } => *to = rng.below(table.n) as u8,
+        Message::Blank => {}
+    }
+    message
 }
 
 /// The messages that the step adds, if it is done.

@@ -13,7 +13,7 @@ use crate::water::{Record, Store};
 use crate::wire::{Request, LONGEST};
 
 /// Of so many runs one fills the store and goes beyond.
-const FULL: usize = 100;
+const FULL: usize = 200;
 
 /// A source of runs of records, each mostly on one table. It draws from numbers of its own, so the other
 /// requests do not depend on it.
@@ -68,7 +68,7 @@ impl Records {
     fn begin(&mut self, out: &mut Vec<u8>) {
         self.begun += 1;
         self.full = self.begun % FULL == 3;
-        self.left = if self.full { 40 } else { 4 + self.rng.below(16) };
+        self.left = if self.full { 120 } else { 4 + self.rng.below(16) };
         self.case = calm(&mut self.rng);
         while self.full && !(self.case.table.m >= 8 && is_settled(&self.case)) {
             self.case = calm(&mut self.rng);
@@ -89,11 +89,11 @@ impl Records {
             _ => self.record(),
         };
         let rng = &mut self.rng;
-        let file = match rng.below(12) {
+        let file = match rng.below(if self.full { 7 } else { 12 }) {
             0 => damaged(rng, self.case.file()),
             1 | 2 => unsettled(rng, &self.case).file(),
-            3 => tables::settled(rng).file(),
-            4 => tables::table(rng).file(),
+            3 | 4 => tables::settled(rng).file(),
+            5 => tables::table(rng).file(),
             _ => self.case.file(),
         };
         self.place(record, &file, out);
@@ -201,7 +201,7 @@ fn stray(rng: &mut Rng, m: u32, record: &mut Record) {
     const WIDE: u64 = 1 << 32;
     let (whole, key, month) = (1 << m, record.key, record.month);
     let keys = [0, whole - 1, whole, whole + key, WIDE, WIDE + key, u64::MAX];
-    let months = [0, 0, 1, 12, 13, 13, WIDE - 1, WIDE, WIDE + month, u64::MAX];
+    let months = [0, 0, 0, 1, 12, 13, 13, WIDE - 1, WIDE, WIDE + month, u64::MAX];
     let amounts = [0, Record::MOST, Record::MOST + 1, WIDE - 1, WIDE, WIDE + 1, u64::MAX];
     match rng.below(5) {
         0 => record.key = rng.pick(&keys),

@@ -12,8 +12,8 @@ use crate::step::{step, Action};
 use crate::table::Table;
 use crate::wire::{Request, LONGEST};
 
-/// Of so many rehearsals one goes to the last step but one or beyond.
-const LONG: usize = 250;
+/// Of so many rehearsals one goes to the last step but one or beyond, and one to a bad step above 255.
+const LONG: usize = 1_000;
 
 /// A source of rehearsals. It draws from numbers of its own, so the other requests do not depend on it.
 pub struct Rehearsals {
@@ -36,12 +36,12 @@ impl Rehearsals {
         Rehearsals { rng, begun: 0, long: false, checker: Rehearsal::begin(&[]), case, good: 0, more: 2 }
     }
 
-    /// Whether the next request is one of a rehearsal: one of eight, in a long one nine of ten.
+    /// Whether the next request is one of a rehearsal: one of ten, in a long one nine of ten.
     pub fn due(&mut self) -> bool {
         if self.long {
             !self.rng.one_in(10)
         } else {
-            self.rng.one_in(8)
+            self.rng.one_in(10)
         }
     }
 
@@ -55,7 +55,12 @@ impl Rehearsals {
             self.begin(out);
         } else {
             self.more -= 1;
-            if self.rng.one_in(if self.is_open() { 8 } else { 2 }) {
+            let right = match (self.is_open(), self.is_whole()) {
+                (true, true) => true,
+                (true, false) => self.rng.one_in(8),
+                (false, _) => self.rng.one_in(2),
+            };
+            if right {
                 self.put_right(out);
             } else {
                 self.put_wrong(out);
@@ -67,9 +72,14 @@ impl Rehearsals {
         self.checker.verdict() == Verdict::Accepted
     }
 
+    /// Whether it has all its steps.
+    fn is_whole(&self) -> bool {
+        self.checker.good() == Rehearsal::STEPS
+    }
+
     fn begin(&mut self, out: &mut Vec<u8>) {
         self.begun += 1;
-        self.long = self.begun % LONG == 4;
+        self.long = matches!(self.begun % LONG, 4 | 9);
         self.more = self.rng.below(4);
         let mut file = if self.long { self.long_start() } else { self.short_start() };
         if !self.long && self.rng.one_in(8) {
@@ -87,7 +97,8 @@ impl Rehearsals {
         self.case.file()
     }
 
-    /// A node alone, and as many good steps as there may be; in every other long one a step or two fewer.
+    /// A node alone, and as many good steps as there may be, in some long ones a step or two fewer, in others a few
+    /// more than 255.
     fn long_start(&mut self) -> Vec<u8> {
         let (mut table, mut pool) = (Table::BLANK, EMPTY_POOL);
         let id = self.rng.below(4) as u32;
@@ -95,8 +106,10 @@ impl Rehearsals {
         self.case = Case { table, pool };
         let whole = (self.begun / LONG).is_multiple_of(2);
         let fewer = if whole { 0 } else { 1 + self.rng.below(2) };
-        self.good = Rehearsal::STEPS as usize - fewer;
-        self.more = 3;
+        let middle = 255 + self.rng.below(64);
+        let all = self.begun % LONG == 4;
+        self.good = if all { Rehearsal::STEPS as usize - fewer } else { middle };
+        self.more = if all { 30 } else { 1 };
         self.case.file()
     }
 
@@ -131,7 +144,8 @@ impl Rehearsals {
 
     fn hand_over(&mut self, action: Action, stated: &[u8], after: Case, out: &mut Vec<u8>) {
         Request::Next { action, stated }.put(out);
-        if self.checker.next(action, stated).is_ok() && self.is_open() {
+        // Steps beyond the last go on too, as if they counted.
+        if self.checker.next(action, stated).is_err() || self.is_open() {
             self.case = after;
         }
     }

@@ -1,7 +1,9 @@
 //! The mix of requests.
 
+use super::broken::broken;
 use super::case::Case;
 use super::damage::damaged;
+use super::keen::keen;
 use super::messages::{fill, key};
 use super::polls::Polls;
 use super::prime::primed;
@@ -47,23 +49,31 @@ impl Requests {
         }
         let rng = &mut self.rng;
         match rng.below(100) {
-            0..=44 => {
+            0..=17 => {
                 let (case, action) = primed(rng);
                 Request::Step { action, file: &case.file() }.put(out);
             }
-            45..=64 => {
+            18..=38 => {
+                let (case, action) = broken(rng);
+                Request::Step { action, file: &case.file() }.put(out);
+            }
+            39..=54 => {
+                let (case, action) = keen(rng);
+                Request::Step { action, file: &case.file() }.put(out);
+            }
+            55..=59 => {
                 let walk = rng.below(self.walks.len());
                 let (case, action) = self.walks[walk].advance(rng);
                 Request::Step { action, file: &case.file() }.put(out);
             }
-            65..=76 => self.put_damaged(out),
-            77..=82 => start(rng).put(out),
-            83..=87 => Request::Settled { file: &self.calm().file() }.put(out),
-            88..=95 => {
+            60..=74 => self.put_damaged(out),
+            75..=84 => start(rng).put(out),
+            85..=91 => Request::Settled { file: &self.calm().file() }.put(out),
+            92..=96 => {
                 let case = self.with_lookups();
                 Request::List { file: &case.file() }.put(out);
             }
-            96 | 97 => Request::Load { file: &self.any().file() }.put(out),
+            97 => Request::Load { file: &self.any().file() }.put(out),
             _ => self.put_malformed(out),
         }
     }
@@ -126,7 +136,7 @@ impl Requests {
     fn put_damaged(&mut self, out: &mut Vec<u8>) {
         let mut case = self.any();
         let rng = &mut self.rng;
-        let count = rng.pick(&[0, 1, 8, 12]);
+        let count = rng.pick(&[0, 4, 8, 12]);
         fill(rng, &mut case, count);
         let file = damaged(rng, case.file());
         match rng.below(8) {
@@ -179,5 +189,15 @@ impl Requests {
                 out[from..].iter_mut().take(1).for_each(|kind| *kind = KINDS[usize::from(*kind % 7)]);
             }
         }
+    }
+}
+
+impl Iterator for Requests {
+    type Item = Vec<u8>;
+
+    fn next(&mut self) -> Option<Vec<u8>> {
+        let mut request = Vec::new();
+        self.put(&mut request);
+        Some(request)
     }
 }

@@ -99,6 +99,17 @@ pub fn table(rng: &mut Rng) -> Case {
     Case::new(table)
 }
 
+/// A valid table without messages, mostly of few nodes, with more nodes than L.
+pub fn small(rng: &mut Rng) -> Case {
+    loop {
+        let case = table(rng);
+        let n = case.table.n;
+        if n > case.table.l as usize && (n <= 10 || rng.one_in(8)) {
+            return case;
+        }
+    }
+}
+
 fn status(rng: &mut Rng, style: usize) -> Status {
     use Status::{Dead, Ok, Ready, Wait};
     match style {
@@ -146,7 +157,8 @@ pub fn settled(rng: &mut Rng) -> Case {
         let node = &mut table.nodes[slot];
         node.sides = sides;
         node.probing = rng.few(others);
-        node.failed = rng.subset(others & !ready);
+        let feared = if ready & bit(slot) == 0 && rng.one_in(4) { others } else { others & !ready };
+        node.failed = rng.subset(feared);
         node.routing = rng.subset(listed);
         node.lease = rng.subset(listed);
         node.grant = rng.subset(listed);
@@ -189,16 +201,21 @@ fn unsettle(rng: &mut Rng, table: &mut Table, ready: u64) {
     let slot = rng.member(ready);
     let dead = listed & !ready;
     let other = if dead != 0 && rng.one_in(2) { rng.member(dead) } else { rng.below(table.n) };
-    match rng.below(7) {
+    match rng.below(9) {
         0 => table.nodes[other].status = rng.pick(&[Status::Wait, Status::Ok]),
         1 => table.nodes[other].status = Status::Dead,
-        2 => table.nodes[slot].failed |= ready & bit(other) & !bit(slot),
+        2 => table.nodes[slot].failed |= bit(rng.member(ready)) & !bit(slot),
         3 => table.nodes[slot].sides = sides(rng, table, slot, listed),
         4 => {
             let sides = table.nodes[slot].sides;
             table.nodes[slot].sides = View::new(Right, table).add(slot, sides, bit(other));
         }
         5 => table.nodes[slot].sides.right = rng.subset(table.nodes[slot].sides.right),
+        6 => table.nodes[slot].sides.left = rng.subset(table.nodes[slot].sides.left),
+        7 => {
+            let alone = |slot| if slot == other { Status::Ready } else { Status::Dead };
+            (0..table.n).for_each(|slot| table.nodes[slot].status = alone(slot));
+        }
         _ => table.nodes[..table.n].iter_mut().for_each(|node| node.status = Status::Dead),
     }
 }

@@ -3,9 +3,10 @@
 use crate::change::{Change, Scene};
 use crate::marks::{bit, has};
 use crate::message::Message;
-use crate::reading::{Reading, Slip};
+use crate::reading::Reading;
 use crate::refusal::{refuse_if, Refusal};
-use crate::table::Status;
+use crate::slip::Slip;
+use crate::table::{Node, Status};
 
 impl<R: Reading> Scene<'_, R> {
     /// Delivers where i covers the key, else routes.
@@ -13,24 +14,38 @@ impl<R: Reading> Scene<'_, R> {
     pub(super) fn take_lookup(&self, change: &mut Change, key: u32) -> Result<(), Refusal> {
         let i = change.slot;
         self.needs_ready(change)?;
-        if self.view.covers(i, key) {
+        if self.covers(i, key) {
             return Ok(());
         }
         let Some(hop) = self.view.next_hop(i, key) else {
-            return self.no_route(change, key);
+            return self.no_route(change, i, key);
         };
         change.send(self, Message::Lookup { to: hop as u8, key });
         Ok(())
     }
 
     fn needs_ready(&self, change: &Change) -> Result<(), Refusal> {
-        let ok = self.view.r.takes(Slip::OkRoutes) && change.node.status == Status::Ok;
-        refuse_if(change.node.status != Status::Ready && !ok, Refusal::Status)
+        let r = self.view.r;
+        let routes = match change.node.status {
+            Status::Ready => true,
+            Status::Ok => r.takes(Slip::OkRoutes) || r.takes(Slip::LiveRoutes),
+            Status::Wait => r.takes(Slip::LiveRoutes),
+            Status::Dead => false,
+        };
+        refuse_if(!routes, Refusal::Status)
     }
 
-    fn no_route(&self, change: &mut Change, key: u32) -> Result<(), Refusal> {
+    /// Whether i keeps what is for `key`.
+    #[inline]
+    fn covers(&self, i: usize, key: u32) -> bool {
+        let routes = self.view.r.takes(Slip::HopBeforeCover) && self.view.next_hop(i, key).is_some();
+        self.view.covers(i, key) && !routes
+    }
+
+    fn no_route(&self, change: &mut Change, to: usize, key: u32) -> Result<(), Refusal> {
+        refuse_if(self.view.r.takes(Slip::NoRouteIsFive), Refusal::Partner)?;
         if !self.view.r.takes(Slip::NoRouteDropped) {
-            change.send(self, Message::NoLegalRoute { to: change.slot as u8, key });
+            change.send(self, Message::NoLegalRoute { to: to as u8, key });
         }
         Ok(())
     }
@@ -39,23 +54,44 @@ impl<R: Reading> Scene<'_, R> {
     pub(super) fn take_join_request(&self, change: &mut Change, j: usize, told: u64) -> Result<(), Refusal> {
         let (view, r, i) = (&self.view, self.view.r, change.slot);
         let node = change.node;
-        let known = node.sides.content(i) & !r.pick(Slip::JoinContentWithoutI, bit(i), 0);
-        let member = has(known, j) && !r.takes(Slip::JoinOfMember);
+        let member = self.is_known(&node, i, j);
         refuse_if(r.takes(Slip::JoinFiveBeforeTwo) && member, Refusal::Partner)?;
         self.needs_ready(change)?;
         refuse_if(member, Refusal::Partner)?;
-        let key = view.table.id(j);
-        if view.covers(i, key) {
+        let key = r.pick(Slip::JoinCoversSlot, j as u32, view.table.id(j));
+        let joined = view.add(i, node.sides, bit(j));
+        change.node.sides = r.pick(Slip::JoinAddsSender, joined, node.sides);
+        change.node.routing |= r.pick(Slip::JoinRoutesSender, bit(j), 0);
+        if self.covers(i, key) {
+            let told = r.pick(Slip::ReplyRoutingEmpty, 0, told);
             let routing = told | r.pick(Slip::ReplyCarriesRouting, node.routing, 0);
-            change.send(self, Message::JoinReply { to: j as u8, owner: i as u8, routing, sides: node.sides });
+            let routing = r.pick(Slip::ReplyOwnRouting, node.routing, routing);
+            let sides = r.pick(Slip::ReplyWithSender, joined, node.sides);
+            change.send(self, Message::JoinReply { to: j as u8, owner: i as u8, routing, sides });
             return Ok(());
         }
+        let key = view.table.id(j);
         let Some(hop) = view.next_hop(i, key) else {
-            return self.no_route(change, r.pick(Slip::NoRouteNamesSlot, j as u32, key));
+            let to = r.pick(Slip::NoRouteToSender, j, i);
+            return self.no_route(change, to, r.pick(Slip::NoRouteNamesSlot, j as u32, key));
         };
-        let routing = told | r.pick(Slip::ForwardKeepsRouting, 0, node.routing);
+        let gained = r.pick(Slip::ForwardKeepsRouting, 0, node.routing);
+        let routing = r.pick(Slip::ForwardOwnRouting, 0, told) | gained;
+        let routing = routing | r.pick(Slip::ForwardGainsItself, bit(i), 0);
         change.send(self, Message::JoinRequest { to: hop as u8, node: j as u8, routing });
         Ok(())
+    }
+
+    /// Whether a join request of j is refused: j is in i's content.
+    #[inline]
+    fn is_known(&self, node: &Node, i: usize, j: usize) -> bool {
+        let r = self.view.r;
+        if r.takes(Slip::JoinOnlyFromWait) && self.view.table.nodes[j].status != Status::Wait {
+            return true;
+        }
+        let known = node.sides.content(i) & !r.pick(Slip::JoinContentWithoutI, bit(i), 0);
+        let known = known | r.pick(Slip::JoinFiveForRouting, node.routing, 0);
+        has(known, j) && !r.takes(Slip::JoinOfMember)
     }
 
     /// A NoLegalRoute never leaves.

@@ -1,7 +1,8 @@
 //! Requests and replies with their length words.
 
 use model::wire::LONGEST;
-use std::io::{self, Read, Write};
+use std::fs::File;
+use std::io::{self, BufReader, Read, Write};
 
 pub fn write_frame(to: &mut impl Write, body: &[u8]) -> io::Result<()> {
     let length = u32::try_from(body.len()).map_err(io::Error::other)?;
@@ -30,4 +31,14 @@ pub fn read_frame(from: &mut impl Read, body: &mut Vec<u8>) -> io::Result<bool> 
         return Err(io::ErrorKind::UnexpectedEof.into());
     }
     Ok(true)
+}
+
+/// The bodies of a stored file.
+pub fn read_frames(path: &str) -> io::Result<Vec<Vec<u8>>> {
+    let mut from = BufReader::new(File::open(path)?);
+    let (mut bodies, mut body) = (Vec::new(), Vec::new());
+    while read_frame(&mut from, &mut body)? {
+        bodies.push(body.clone());
+    }
+    Ok(bodies)
 }

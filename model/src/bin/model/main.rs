@@ -1,7 +1,9 @@
 //! The model as a program: a driver, a source of requests, a comparer and a judge of misreadings.
 
 mod compare;
+mod corpus;
 mod frame;
+mod names;
 mod readings;
 mod serve;
 mod show;
@@ -14,6 +16,9 @@ const USAGE: &str = "usage:
   model requests SEED COUNT [FROM]        writes requests to standard output, from the given one on
   model compare SEED COUNT -- CMD ARGS..  compares the driver CMD with the model
   model readings [SEED COUNT]             shows that requests tell each misreading apart
+  model told SEED COUNT LEAST             counts the misreadings told apart, each by so many requests
+  model told FILE                         the same of stored requests
+  model corpus SEED COUNT STDIN STDOUT    chooses requests for the driver's corpus
 ";
 
 fn main() -> ExitCode {
@@ -43,6 +48,11 @@ fn run(args: &[&str]) -> io::Result<bool> {
         }
         ["readings"] => readings::readings(1, 40_000),
         ["readings", seed, count] => readings::readings(number(seed)?, number(count)?),
+        ["told", path] => readings::told_by_file(path),
+        ["told", seed, count, least] => readings::told_by_seed(number(seed)?, number(count)?, number(least)?),
+        ["corpus", seed, count, requests, replies] => {
+            corpus::corpus(number(seed)?, number(count)?, requests, replies)
+        }
         _ => Err(io::Error::other(USAGE)),
     }
 }

@@ -1,46 +1,36 @@
-//! Whether the requests tell each misreading from the right reading.
+//! Whether requests tell each misreading from the right reading.
 
+use crate::frame::read_frames;
+use crate::names::name;
 use model::gen::Requests;
-use model::wire::{Request, Server};
-use model::{Action, Right, Slip, Slipped};
+use model::judge::{Judge, Tally};
+use model::Slip;
 use std::io;
 
 /// What is known of one misreading.
+#[derive(Clone, Default)]
 struct Record {
-    slip: Slip,
-    server: Server<Slipped>,
     told: u64,
     first: Option<(u64, String)>,
 }
 
 /// Runs every misreading on `count` requests; true if each is told apart or known as equivalent.
 pub fn readings(seed: u64, count: u64) -> io::Result<bool> {
-    let record =
-        |&slip: &Slip| Record { slip, server: Server::new(Slipped(Some(slip))), told: 0, first: None };
-    let mut records: Vec<Record> = Slip::ALL.iter().map(record).collect();
-    let (mut requests, mut model) = (Requests::new(seed), Server::new(Right));
-    let (mut request, mut right, mut slipped) = (Vec::new(), Vec::new(), Vec::new());
-    for nth in 0..count {
-        request.clear();
-        requests.put(&mut request);
-        right.clear();
-        model.answer(&request, &mut right);
-        for record in &mut records {
-            slipped.clear();
-            record.server.answer(&request, &mut slipped);
-            if slipped != right {
-                record.told += 1;
-                record.first.get_or_insert_with(|| (nth, name(&request)));
-            }
+    let (mut judge, mut records) = (Judge::default(), vec![Record::default(); Slip::ALL.len()]);
+    for (nth, request) in (0..count).zip(Requests::new(seed)) {
+        for slip in judge.hear(&request) {
+            let record = &mut records[slip as usize];
+            record.told += 1;
+            record.first.get_or_insert_with(|| (nth, name(&request)));
         }
     }
     println!("{} misreadings, {count} requests of seed {seed}", records.len());
-    Ok(records.iter().map(report).filter(|good| !good).count() == 0)
+    let reports = Slip::ALL.iter().zip(&records).map(|(&slip, record)| report(slip, record));
+    Ok(reports.filter(|good| !good).count() == 0)
 }
 
 /// Prints one line; true if the misreading is told apart, or equivalent and not told apart.
-fn report(record: &Record) -> bool {
-    let Record { slip, told, first, .. } = record;
+fn report(slip: Slip, Record { told, first }: &Record) -> bool {
     let name = format!("{slip:?}");
     let (verdict, good) = match (first, slip.equivalent()) {
         (Some((nth, by)), None) => (format!("told {told} times, first by request {nth} ({by})"), true),
@@ -52,32 +42,26 @@ fn report(record: &Record) -> bool {
     good
 }
 
-fn name(request: &[u8]) -> String {
-    match Request::parse(request) {
-        None => "malformed".to_string(),
-        Some(Request::Load { .. }) => "load".to_string(),
-        Some(Request::Start { .. }) => "start".to_string(),
-        Some(Request::Settled { .. }) => "settled".to_string(),
-        Some(Request::List { .. }) => "list".to_string(),
-        Some(Request::Begin { .. }) => "begin".to_string(),
-        Some(Request::Next { .. }) => "next".to_string(),
-        Some(Request::Records) => "records".to_string(),
-        Some(Request::Place { .. }) => "place".to_string(),
-        Some(Request::Sum) => "sum".to_string(),
-        Some(Request::Waiting { .. }) => "waiting".to_string(),
-        Some(Request::Step { action, file }) => format!("step {}", action_name(action, file)),
-    }
+/// Counts the misreadings that `count` requests tell apart; true if each is told by `least` or more.
+pub fn told_by_seed(seed: u64, count: u64, least: u64) -> io::Result<bool> {
+    let requests = Requests::new(seed).zip(0..count).map(|(request, _)| request);
+    let rare = Slip::ALL.iter().filter(|slip| slip.rare().is_some()).count();
+    let by = format!("{count} requests of seed {seed}, each by {least} or more but for {rare} rare ones");
+    Ok(told(&Tally::of(requests), &by, least))
 }
 
-fn action_name(action: Action, file: &[u8]) -> String {
-    let name = format!("{action:?}");
-    let name = name.split(' ').next().unwrap_or_default().to_string();
-    let Action::Take { place } = action else {
-        return name;
-    };
-    let (mut table, mut pool) = (model::Table::BLANK, model::EMPTY_POOL);
-    match model::load(file, &mut table, &mut pool) {
-        Ok(()) if place < table.count => format!("{name} of kind {}", pool[place].fields().kind),
-        _ => name,
+/// The same of stored requests, each by one or more.
+pub fn told_by_file(path: &str) -> io::Result<bool> {
+    let requests = read_frames(path)?;
+    let by = format!("the {} requests of {path}", requests.len());
+    Ok(told(&Tally::of(requests.into_iter()), &by, 1))
+}
+
+fn told(tally: &Tally, by: &str, least: u64) -> bool {
+    println!("{}", tally.summary(by));
+    let wrong = tally.wrong(least);
+    for slip in &wrong {
+        println!("{slip:?} is told by {} requests: {}", tally.count(*slip), slip.about());
     }
+    wrong.is_empty()
 }
