@@ -28,8 +28,8 @@ PLAN has a line for each action: `join NODE SEED`, `lookup KEY at NODE`, `lease 
   --expiries        every LeaseExpired and GrantExpired too
   --states N, --depth N, --memory MB, --time S
                     where to stop (4096 MB, 3600 s)
-  --remember        asks each different step once, not again in every state (docs/PLANS.md)
-  --audit K         with --remember: in one state of K every step is asked again on the whole state (1000; 0: in none)
+  --every           asks for every step on the whole state; else each different step is asked once and remembered (docs/PLANS.md)
+  --audit K         of what is remembered: in one state of K every step is asked again on the whole state (1000; 0: in none)
   --core            tells states apart without routing sets and grants; ends where these would be looked at
   --evidence DIR    what is found as table files and actions, DIR/QUESTION/..
   --by-driver       asks the driver, also where the library is linked
@@ -103,8 +103,8 @@ fn explore(
     println!("from: M={} L={}, {}", table.frame.m, table.frame.l, statuses(&table.nodes));
     let name = engine.name();
     let records = Records::new(table.frame, options.key());
-    let mover = Mover::new(engine, &plan, options.remember);
-    let audit = if options.remember { options.audit } else { 0 };
+    let mover = Mover::new(engine, &plan, !options.every);
+    let audit = if options.every { 0 } else { options.audit };
     let mut search = Search::new(records, mover, start, options.questions.clone(), options.bounds, audit);
     let begun = Instant::now();
     let end = search.run(Duration::from_secs(2), &mut |now| {
@@ -170,7 +170,7 @@ fn core_is_enough(search: &Search, plan: &Plan) -> Result<(), Trouble> {
 
 fn figures(search: &Search, name: &str, seconds: f64) {
     let (states, asked, done) = (search.store.len(), search.mover.asked, search.done);
-    let (rate, depth) = (states as f64 / seconds, search.levels.len() - 1);
+    let (rate, depth) = (states as f64 / seconds, search.depth());
     let (nodes, messages) = search.records.counts();
     eprintln!("{states} states, depth {depth}, {done} steps done, {asked} asked {name}, {nodes} nodes and {messages} messages as records");
     eprintln!("{seconds:.2} s, {rate:.0} states a second, {} MB", search.bytes() >> 20);

@@ -31,7 +31,7 @@ pub fn tell(
     for (question, found) in options.questions.iter().zip(&found) {
         report.question(question, found)?;
     }
-    let (states, depth) = (report.search.store.len(), report.search.levels.len() - 1);
+    let (states, depth) = (report.search.store.len(), report.search.depth());
     let most = report.search.most;
     match end {
         End::Searched => println!("all searched: {states} states, depth {depth}, at most {most} messages"),

@@ -72,8 +72,10 @@ pub struct Search<'a> {
     /// One state in so many has its remembered moves asked again; 0 for none.
     audit: u32,
     joiners: u64,
-    /// States of each depth.
+    /// States of each depth that is gone on from.
     pub levels: Vec<usize>,
+    /// The first state behind them.
+    level_end: usize,
     /// Steps that were done.
     pub done: u64,
     /// The most messages that waited.
@@ -124,6 +126,7 @@ impl<'a> Search<'a> {
             audit,
             joiners,
             levels: vec![1],
+            level_end: 1,
             done: 0,
             most: now.messages.len(),
             edges: whole.then(Edges::default),
@@ -141,12 +144,11 @@ impl<'a> Search<'a> {
     pub fn run(&mut self, every: Duration, tell: &mut dyn FnMut(Progress)) -> Result<End, Trouble> {
         let begun = Instant::now();
         let (mut told, mut told_states) = (begun, 0);
-        let mut level_end = 1;
         let mut at = 0;
         while at < self.store.len() {
-            if at == level_end {
-                level_end = self.store.len();
-                self.levels.push(level_end - at);
+            if at == self.level_end {
+                self.level_end = self.store.len();
+                self.levels.push(self.level_end - at);
             }
             if let Some(end) = self.stop(begun, at) {
                 return Ok(end);
@@ -156,7 +158,7 @@ impl<'a> Search<'a> {
             if at % LOOK == 0 && told.elapsed() >= every {
                 let states = self.store.len();
                 let rate = (states - told_states) as f64 / told.elapsed().as_secs_f64();
-                tell(Progress { states, waiting: states - at, depth: self.levels.len() - 1, rate });
+                tell(Progress { states, waiting: states - at, depth: self.depth(), rate });
                 (told, told_states) = (Instant::now(), states);
             }
         }
@@ -183,6 +185,11 @@ impl<'a> Search<'a> {
             return Some(End::Stopped("time"));
         }
         (at % LOOK == 0 && self.bytes() >= self.bounds.memory).then_some(End::Stopped("memory"))
+    }
+
+    /// How many actions lead to the deepest state.
+    pub fn depth(&self) -> usize {
+        self.levels.len() - usize::from(self.store.len() == self.level_end)
     }
 
     /// The bytes that are held.
