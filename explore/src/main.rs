@@ -9,8 +9,8 @@ use explore::moves::Mover;
 use explore::options::Options;
 use explore::plan::Plan;
 use explore::question::QUESTIONS;
-use explore::rows::{Row, IDS, L, M};
-use explore::search::{Progress, Search};
+use explore::rows::{Row, ROWS};
+use explore::search::{End, Progress, Search};
 use explore::state::Records;
 use explore::trouble::Trouble;
 use std::process::ExitCode;
@@ -19,6 +19,7 @@ use std::time::{Duration, Instant};
 const USAGE: &str = "usage:
   explore TABLE PLAN [options]   every order of taking messages, of lease requests and of the plan's actions, from a table file
   explore 001 ROW [options]      the same for a row of document 001's table 4.1, with its nodes, plan and property
+  explore 001 all [options]      the whole table beside 001's, with times
 PLAN has a line for each action: `join NODE SEED`, `lookup KEY at NODE`, `lease expired NODE PARTNER`, `grant expired NODE PARTNER`; nodes by id, and
 `any` for a second node is each other one. Each may be done at any time, as often as the step lets it.
   --ask NAME,..     the questions: one-holder, flanked, nearest, stuck, full, ready, or a row's name (one-holder,flanked,nearest)
@@ -29,7 +30,7 @@ PLAN has a line for each action: `join NODE SEED`, `lookup KEY at NODE`, `lease 
   --states N, --depth N, --memory MB, --time S
                     where to stop (4096 MB, 3600 s)
   --every           asks for every step on the whole state; else each different step is asked once and remembered (docs/PLANS.md)
-  --audit K         of what is remembered: in one state of K every step is asked again on the whole state (1000; 0: in none)
+  --audit K         in one state of K every step is asked again on the whole state, those too that the statuses forbid (1000; 0: in none)
   --core            tells states apart without routing sets and grants; ends where these would be looked at
   --evidence DIR    what is found as table files and actions, DIR/QUESTION/..
   --by-driver       asks the driver, also where the library is linked
@@ -60,14 +61,27 @@ fn run(args: &[&str]) -> Result<u8, Trouble> {
             print!("{USAGE}");
             Ok(0)
         }
+        [driver, "001", "all", ref words @ ..] => {
+            println!("{}", Row::HEAD);
+            for row in &ROWS {
+                let mut options = Options::parse(words).map_err(failed)?;
+                options.questions.push(row.question());
+                let mut engine = engine(driver, &options)?;
+                let start = row.start(engine.as_mut())?;
+                searched(engine.as_mut(), &start, row.plan, &options, &mut |search, end, seconds| {
+                    println!("{}", row.line(search, end, seconds.cpu));
+                    Ok(0)
+                })?;
+            }
+            Ok(0)
+        }
         [driver, "001", name, ref words @ ..] => {
             let mut options = Options::parse(words).map_err(failed)?;
             let row = Row::named(name).ok_or_else(|| failed(format!("{name}: table 4.1 has no such row")))?;
             options.questions.push(row.question());
             let mut engine = engine(driver, &options)?;
-            let mut out = room();
-            let answer = engine.start([M, L, row.ready], &IDS, &mut out)?;
-            explore(driver, engine.as_mut(), &out[..answer.count], row.plan, &options)
+            let start = row.start(engine.as_mut())?;
+            explore(driver, engine.as_mut(), &start, row.plan, &options)
         }
         [driver, table, plan, ref words @ ..] => {
             let mut options = Options::parse(words).map_err(failed)?;
@@ -97,29 +111,57 @@ fn explore(
     text: &str,
     options: &Options,
 ) -> Result<u8, Trouble> {
-    loads(engine, start)?;
-    let table = file::read(start);
-    let plan = plan(text, &table.frame, options)?;
-    println!("from: M={} L={}, {}", table.frame.m, table.frame.l, statuses(&table.nodes));
     let name = engine.name();
-    let records = Records::new(table.frame, options.key());
+    searched(engine, start, text, options, &mut |search, end, seconds| {
+        if !options.quiet {
+            figures(search, name, seconds);
+        }
+        let table = file::read(start);
+        println!("from: M={} L={}, {}", table.frame.m, table.frame.l, statuses(&table.nodes));
+        report::tell(driver, search, start, end, options)
+    })
+}
+
+/// What a search took: by the clock, and of the processor.
+struct Seconds {
+    clock: f64,
+    cpu: f64,
+}
+
+/// Searches, and hands the search over with its end.
+fn searched(
+    engine: &mut dyn Engine,
+    start: &[u8],
+    text: &str,
+    options: &Options,
+    then: &mut dyn FnMut(&mut Search, End, Seconds) -> Result<u8, Trouble>,
+) -> Result<u8, Trouble> {
+    loads(engine, start)?;
+    let frame = file::read(start).frame;
+    let plan = plan(text, &frame, options)?;
+    let records = Records::new(frame, options.key());
     let mover = Mover::new(engine, &plan, !options.every);
-    let audit = if options.every { 0 } else { options.audit };
-    let mut search = Search::new(records, mover, start, options.questions.clone(), options.bounds, audit);
-    let begun = Instant::now();
+    let questions = options.questions.clone();
+    let mut search = Search::new(records, mover, start, questions, options.bounds, options.audit);
+    let (begun, before) = (Instant::now(), cpu());
     let end = search.run(Duration::from_secs(2), &mut |now| {
         if !options.quiet {
             let Progress { states, waiting, depth, rate } = now;
             eprintln!("{states} states, {waiting} to go on from, depth {depth}, {rate:.0} a second");
         }
     })?;
+    let clock = begun.elapsed().as_secs_f64();
+    let cpu = cpu().zip(before).map_or(clock, |(after, before)| after - before);
     if options.core {
         core_is_enough(&search, &plan)?;
     }
-    if !options.quiet {
-        figures(&search, name, begun.elapsed().as_secs_f64());
-    }
-    report::tell(driver, &mut search, start, end, options)
+    then(&mut search, end, Seconds { clock, cpu })
+}
+
+/// The seconds that this process had of the processor, as Linux tells them.
+fn cpu() -> Option<f64> {
+    let told = std::fs::read_to_string("/proc/self/schedstat").ok()?;
+    Some(told.split_whitespace().next()?.parse::<f64>().ok()? / 1e9)
 }
 
 /// Ends where the proved code refuses the table.
@@ -168,10 +210,12 @@ fn core_is_enough(search: &Search, plan: &Plan) -> Result<(), Trouble> {
     }
 }
 
-fn figures(search: &Search, name: &str, seconds: f64) {
+fn figures(search: &Search, name: &str, seconds: Seconds) {
     let (states, asked, done) = (search.store.len(), search.mover.asked, search.done);
-    let (rate, depth) = (states as f64 / seconds, search.depth());
+    let (rate, depth) = (states as f64 / seconds.cpu, search.depth());
     let (nodes, messages) = search.records.counts();
-    eprintln!("{states} states, depth {depth}, {done} steps done, {asked} asked {name}, {nodes} nodes and {messages} messages as records");
-    eprintln!("{seconds:.2} s, {rate:.0} states a second, {} MB", search.bytes() >> 20);
+    let Seconds { clock, cpu } = seconds;
+    eprintln!("{states} states, depth {depth}, {done} steps done, {asked} asked {name}");
+    eprintln!("{nodes} nodes and {messages} messages as records, {} MB", search.bytes() >> 20);
+    eprintln!("{clock:.2} s, {cpu:.2} s of the processor, {rate:.0} states a second of it");
 }

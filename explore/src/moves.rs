@@ -68,12 +68,21 @@ impl<'a> Mover<'a> {
         self.dead = state.nodes.iter().enumerate().map(dead).fold(0, |marks, mark| marks | mark);
     }
 
-    /// The moves of this state that may be tried.
+    /// The moves of this state that may be tried, but for those that the statuses forbid.
     pub fn moves(&self, records: &Records, state: &State, moves: &mut Vec<Move>) {
         moves.clear();
         moves.extend((0..state.messages.len()).map(Move::Take));
-        let allowed = |&at: &usize| self.plan.allows(self.plan.actions[at], records, state);
-        moves.extend((0..self.plan.actions.len()).filter(allowed).map(Move::Do));
+        let actions = self.plan.actions.iter().enumerate();
+        let actions = actions.filter(|(_, &action)| !Plan::forbids(action, records, state));
+        let allowed = actions.filter(|(_, &action)| self.plan.allows(action, records, state));
+        moves.extend(allowed.map(|(at, _)| Move::Do(at)));
+    }
+
+    /// The actions that the statuses forbid.
+    pub fn forbidden(&self, records: &Records, state: &State) -> Vec<Move> {
+        let actions = self.plan.actions.iter().enumerate();
+        let actions = actions.filter(|(_, &action)| Plan::forbids(action, records, state));
+        actions.map(|(at, _)| Move::Do(at)).collect()
     }
 
     /// Makes a move: 01's number, and where it is 0 the state after it.

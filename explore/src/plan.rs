@@ -2,7 +2,7 @@
 
 use crate::action::{self, GRANT_EXPIRED, JOIN, LEASE_EXPIRED, REQUEST_LEASE};
 use crate::engine::Words;
-use crate::file::{Frame, DEAD, OK, WAIT};
+use crate::file::{Frame, DEAD, OK, READY, WAIT};
 use crate::state::{Records, State};
 
 /// When a Join of the plan may be done.
@@ -57,6 +57,17 @@ impl Plan {
 
     fn joins(&self) -> impl Iterator<Item = usize> + '_ {
         self.actions.iter().filter(|action| action[0] == JOIN).map(|action| action[1] as usize)
+    }
+
+    /// Whether the statuses forbid this action: 01's refusal 2, as far as it can be told by looking. Audited states ask for these too.
+    pub fn forbids([number, x, y]: Words, records: &Records, state: &State) -> bool {
+        let status = |slot: u64| records.place(state.nodes[slot as usize]).status;
+        match number {
+            JOIN => status(x) != DEAD || status(y) != READY,
+            REQUEST_LEASE => status(x) != OK,
+            LEASE_EXPIRED | GRANT_EXPIRED => status(x) < OK,
+            _ => false,
+        }
     }
 
     /// Whether the limits let this action be tried.

@@ -1,6 +1,9 @@
 //! 001's table 4.1 and the plans of its module MCMSPastry: M = 8, L = 1, ids 17, 18, 65 and 95.
 
+use crate::engine::{room, Engine};
 use crate::question::{Question, PROPERTIES};
+use crate::search::{End, Search};
+use crate::trouble::Trouble;
 
 /// A row: 001's figures, the nodes that start ready, and the plan.
 pub struct Row {
@@ -50,6 +53,34 @@ pub const ROWS: [Row; 8] = [
 ];
 
 impl Row {
+    /// The head of the table of `line`.
+    pub const HEAD: &'static str =
+        "| row | 001: time | depth | states | ended | here: s | depth | states | ended | states a second |
+|---|---|---|---|---|---|---|---|---|---|";
+
+    /// Ours beside 001's. Depths count states, as TLC does.
+    pub fn line(&self, search: &Search, end: End, seconds: f64) -> String {
+        let states = search.store.len();
+        let theirs = if self.ended { "counterexample" } else { "no" };
+        let ours = match end {
+            End::Answered => "counterexample",
+            End::Searched => "all searched, none",
+            End::Stopped(bound) => bound,
+        };
+        let Row { name, time, depth, states: many, .. } = self;
+        // Below some thousand states the clock tells nothing.
+        let rate = if states < 1000 { "-".to_string() } else { format!("{:.0}", states as f64 / seconds) };
+        let deep = search.depth() + 1;
+        format!("| {name} | {time} | {depth} | {many} | {theirs} | {seconds:.2} | {deep} | {states} | {ours} | {rate} |")
+    }
+
+    /// The table file of the row's start.
+    pub fn start(&self, engine: &mut dyn Engine) -> Result<Vec<u8>, Trouble> {
+        let mut out = room();
+        let answer = engine.start([M, L, self.ready], &IDS, &mut out)?;
+        Ok(out[..answer.count].to_vec())
+    }
+
     pub fn named(name: &str) -> Option<&'static Row> {
         ROWS.iter().find(|row| row.name == name)
     }

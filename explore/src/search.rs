@@ -69,7 +69,7 @@ pub struct Search<'a> {
     pub questions: Vec<&'a Question>,
     pub found: Vec<Found>,
     bounds: Bounds,
-    /// One state in so many has its remembered moves asked again; 0 for none.
+    /// In one state of so many every move is asked again, and those that the statuses forbid too; 0 for none.
     audit: u32,
     joiners: u64,
     /// States of each depth that is gone on from.
@@ -204,6 +204,9 @@ impl<'a> Search<'a> {
         self.mover.stand(&self.records, &self.now);
         self.mover.moves(&self.records, &self.now, &mut self.moves);
         let audit = self.audit > 0 && number % self.audit == 0;
+        if audit {
+            self.ask_forbidden()?;
+        }
         let (mut leads, mut full) = (false, false);
         let moves = std::mem::take(&mut self.moves);
         for &step in &moves {
@@ -248,6 +251,18 @@ impl<'a> Search<'a> {
         Err(Trouble::Failed(
             "a step that was remembered is answered otherwise on the whole state".to_string(),
         ))
+    }
+
+    /// Asks for the actions that the statuses forbid: each must be refused.
+    fn ask_forbidden(&mut self) -> Result<(), Trouble> {
+        for step in self.mover.forbidden(&self.records, &self.now) {
+            if self.mover.ask(&mut self.records, &self.now, step, &mut self.again)? != 2 {
+                return Err(Trouble::Failed(
+                    "an action that the statuses forbid is not refused with 2".to_string(),
+                ));
+            }
+        }
+        Ok(())
     }
 
     /// Puts the questions of one state to the state that was met last.
