@@ -1,0 +1,221 @@
+//! `explore`: searches every order of a join plan. The first argument is the driver's path, which bin/explore gives.
+
+mod report;
+
+use explore::action::{GRANT_EXPIRED, TAKE};
+use explore::engine::{nearest, room, Driver, Engine};
+use explore::file::{self, Frame, Node, STATUSES};
+use explore::moves::Mover;
+use explore::options::Options;
+use explore::plan::Plan;
+use explore::question::QUESTIONS;
+use explore::rows::{Row, ROWS};
+use explore::search::{End, Progress, Search};
+use explore::state::Records;
+use explore::trouble::Trouble;
+use std::process::ExitCode;
+use std::time::{Duration, Instant};
+
+const USAGE: &str = "usage:
+  explore TABLE PLAN [options]   every order of taking messages, of lease requests and of the plan's actions, from a table file
+  explore 001 ROW [options]      the same for a row of document 001's table 4.1, with its nodes, plan and property
+  explore 001 all [options]      the whole table beside 001's, with times
+PLAN has a line for each action: `join NODE SEED`, `lookup KEY at NODE`, `lease expired NODE PARTNER`, `grant expired NODE PARTNER`; nodes by id, and
+`any` for a second node is each other one. Each may be done at any time, as often as the step lets it.
+  --ask NAME,..     the questions: one-holder, flanked, nearest, stuck, full, ready, or a row's name (one-holder,flanked,nearest)
+  --joining K       a Join only while fewer than K nodes are wait or ok
+  --waiting K       a Join only while fewer than K nodes are wait
+  --in-order        a Join only after those before it in the plan
+  --expiries        every LeaseExpired and GrantExpired too
+  --states N, --depth N, --memory MB, --time S
+                    where to stop (4096 MB, 3600 s)
+  --every           asks for every step on the whole state; else each different step is asked once and remembered (docs/PLANS.md)
+  --audit K         in one state of K every step is asked again on the whole state, those too that the statuses forbid (1000; 0: in none)
+  --core            tells states apart without routing sets and grants; ends where these would be looked at
+  --evidence DIR    what is found as table files and actions, DIR/QUESTION/..
+  --by-driver       asks the driver, also where the library is linked
+  --quiet           nothing on standard error
+Status: 0 all searched and nothing found, 1 found, 3 stopped before the end and nothing found, 2 else.
+The search is not proved. Every step is made by the proved code.
+";
+
+fn main() -> ExitCode {
+    let args: Vec<String> = std::env::args().skip(1).collect();
+    let args: Vec<&str> = args.iter().map(String::as_str).collect();
+    match run(&args) {
+        Ok(status) => ExitCode::from(status),
+        Err(trouble) => {
+            eprintln!("{trouble}");
+            ExitCode::from(2)
+        }
+    }
+}
+
+fn failed(what: String) -> Trouble {
+    Trouble::Failed(what)
+}
+
+fn run(args: &[&str]) -> Result<u8, Trouble> {
+    match *args {
+        [_, "help"] | [_] => {
+            print!("{USAGE}");
+            Ok(0)
+        }
+        [driver, "001", "all", ref words @ ..] => {
+            println!("{}", Row::HEAD);
+            for row in &ROWS {
+                let mut options = Options::parse(words).map_err(failed)?;
+                options.questions.push(row.question());
+                let mut engine = engine(driver, &options)?;
+                let start = row.start(engine.as_mut())?;
+                searched(engine.as_mut(), &start, row.plan, &options, &mut |search, end, seconds| {
+                    println!("{}", row.line(search, end, seconds.cpu));
+                    Ok(0)
+                })?;
+            }
+            Ok(0)
+        }
+        [driver, "001", name, ref words @ ..] => {
+            let mut options = Options::parse(words).map_err(failed)?;
+            let row = Row::named(name).ok_or_else(|| failed(format!("{name}: table 4.1 has no such row")))?;
+            options.questions.push(row.question());
+            let mut engine = engine(driver, &options)?;
+            let start = row.start(engine.as_mut())?;
+            explore(driver, engine.as_mut(), &start, row.plan, &options)
+        }
+        [driver, table, plan, ref words @ ..] => {
+            let mut options = Options::parse(words).map_err(failed)?;
+            if options.questions.is_empty() {
+                options.questions = QUESTIONS[..3].iter().collect();
+            }
+            let read = |name: &str| std::fs::read(name).map_err(|error| Trouble::io(name, &error));
+            let plan = String::from_utf8(read(plan)?).map_err(|_| failed(format!("{plan}: no text")))?;
+            explore(driver, engine(driver, &options)?.as_mut(), &read(table)?, &plan, &options)
+        }
+        _ => Err(failed(format!("not a command\n{}", USAGE.trim_end()))),
+    }
+}
+
+fn engine(driver: &str, options: &Options) -> Result<Box<dyn Engine>, Trouble> {
+    if options.by_driver {
+        return Ok(Box::new(Driver::run(driver)?));
+    }
+    nearest(driver)
+}
+
+/// Searches, and tells what was found: the exit status.
+fn explore(
+    driver: &str,
+    engine: &mut dyn Engine,
+    start: &[u8],
+    text: &str,
+    options: &Options,
+) -> Result<u8, Trouble> {
+    let name = engine.name();
+    searched(engine, start, text, options, &mut |search, end, seconds| {
+        if !options.quiet {
+            figures(search, name, seconds);
+        }
+        let table = file::read(start);
+        println!("from: M={} L={}, {}", table.frame.m, table.frame.l, statuses(&table.nodes));
+        report::tell(driver, search, start, end, options)
+    })
+}
+
+/// What a search took: by the clock, and of the processor.
+struct Seconds {
+    clock: f64,
+    cpu: f64,
+}
+
+/// Searches, and hands the search over with its end.
+fn searched(
+    engine: &mut dyn Engine,
+    start: &[u8],
+    text: &str,
+    options: &Options,
+    then: &mut dyn FnMut(&mut Search, End, Seconds) -> Result<u8, Trouble>,
+) -> Result<u8, Trouble> {
+    loads(engine, start)?;
+    let frame = file::read(start).frame;
+    let plan = plan(text, &frame, options)?;
+    let records = Records::new(frame, options.key());
+    let mover = Mover::new(engine, &plan, !options.every);
+    let questions = options.questions.clone();
+    let mut search = Search::new(records, mover, start, questions, options.bounds, options.audit);
+    let (begun, before) = (Instant::now(), cpu());
+    let end = search.run(Duration::from_secs(2), &mut |now| {
+        if !options.quiet {
+            let Progress { states, waiting, depth, rate } = now;
+            eprintln!("{states} states, {waiting} to go on from, depth {depth}, {rate:.0} a second");
+        }
+    })?;
+    let clock = begun.elapsed().as_secs_f64();
+    let cpu = cpu().zip(before).map_or(clock, |(after, before)| after - before);
+    if options.core {
+        core_is_enough(&search, &plan)?;
+    }
+    then(&mut search, end, Seconds { clock, cpu })
+}
+
+/// The seconds that this process had of the processor, as Linux tells them.
+fn cpu() -> Option<f64> {
+    let told = std::fs::read_to_string("/proc/self/schedstat").ok()?;
+    Some(told.split_whitespace().next()?.parse::<f64>().ok()? / 1e9)
+}
+
+/// Ends where the proved code refuses the table.
+fn loads(engine: &mut dyn Engine, start: &[u8]) -> Result<(), Trouble> {
+    // A Take of a place that no pool has: 1 where the table loads, else the number of its load.
+    match engine.step(start, [TAKE, u64::MAX, 0], &mut room())?.number {
+        1 => Ok(()),
+        number => Err(Trouble::Refused(number)),
+    }
+}
+
+fn plan(text: &str, frame: &Frame, options: &Options) -> Result<Plan, Trouble> {
+    let n = frame.ids.len();
+    let plan = Plan::parse(text, frame).map_err(|what| failed(format!("the plan, {what}")))?;
+    let mut plan = plan.with_requests(n);
+    if options.expiries {
+        plan = plan.with_expiries(n);
+    }
+    plan.limits = options.limits;
+    Ok(plan)
+}
+
+/// The ids of each status.
+fn statuses(nodes: &[Node]) -> String {
+    let of = |status: usize| {
+        let ids: Vec<String> = nodes
+            .iter()
+            .filter(|node| node.status() == status as u32)
+            .map(|node| node.id().to_string())
+            .collect();
+        (!ids.is_empty()).then(|| format!("{} {}", STATUSES[status], ids.join(" ")))
+    };
+    (0..4).rev().filter_map(of).collect::<Vec<String>>().join("; ")
+}
+
+/// Ends where what --core leaves out would be looked at.
+fn core_is_enough(search: &Search, plan: &Plan) -> Result<(), Trouble> {
+    if plan.actions.iter().any(|action| action[0] == GRANT_EXPIRED) {
+        return Err(failed("--core leaves grants out, and GrantExpired looks at them".to_string()));
+    }
+    match search.records.far() {
+        Some(id) => Err(failed(format!(
+            "--core leaves routing sets out, and the next hop of {id} may look at its own"
+        ))),
+        None => Ok(()),
+    }
+}
+
+fn figures(search: &Search, name: &str, seconds: Seconds) {
+    let (states, asked, done) = (search.store.len(), search.mover.asked, search.done);
+    let (rate, depth) = (states as f64 / seconds.cpu, search.depth());
+    let (nodes, messages) = search.records.counts();
+    let Seconds { clock, cpu } = seconds;
+    eprintln!("{states} states, depth {depth}, {done} steps done, {asked} asked {name}");
+    eprintln!("{nodes} nodes and {messages} messages as records, {} MB", search.bytes() >> 20);
+    eprintln!("{clock:.2} s, {cpu:.2} s of the processor, {rate:.0} states a second of it");
+}
