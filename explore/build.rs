@@ -3,9 +3,9 @@
 fn main() {
     println!("cargo:rerun-if-env-changed=TARPUDHRIV_LIB");
     if let Ok(folder) = std::env::var("TARPUDHRIV_LIB") {
-        println!("cargo:rerun-if-changed={folder}/libabi.a");
+        println!("cargo:rerun-if-changed={folder}/libface_c.a");
         println!("cargo:rustc-link-search=native={folder}");
-        println!("cargo:rustc-link-lib=static=abi");
+        println!("cargo:rustc-link-lib=static=face_c");
         println!("cargo:rustc-cfg=linked");
     }
 }
