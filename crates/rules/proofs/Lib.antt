@@ -4,3 +4,4 @@ pub mod Steps
 pub mod Leaf
 pub mod Hops
 pub mod Cases
+pub mod Complete
