@@ -4,7 +4,7 @@ ghost use Prim.Native.Nat.{ℕ, _^_, _<_, _≤_};
 ghost use Rattle.rules.specs.InnerAsks.{Listed};
 ghost use Rattle.rules.specs.Closest.{closest};
 ghost use Rattle.rules.specs.InnerSteps.{stepsOf, otherThan};
-ghost use Rattle.rules.specs.Leaf.{contentOf, seenFrom, leafWith, leafWithOne, overlaps, isComplete, isEmpty, coversOf};
+ghost use Rattle.rules.specs.Leaf.{contentOf, seenFrom, leafWith, leafWithOne, overlaps, isComplete, isFull, isEmpty, coversOf};
 use marks::Found;
 use rules::Ring;
 use rules::Sides;
@@ -94,10 +94,17 @@ pub fn overlap(s: Sides) -> bool
 }
 
 // Do both sides hold exactly l?
+fn full(g: Ring, s: Sides) -> bool
+    ensures { λ r. ⌜ r ≡ isFull g s ⌝ }
+{
+    (marks::count(s.left) == g.l) & (marks::count(s.right) == g.l)
+}
+
+// Are both sides full, or do they share a member?
 pub fn complete(g: Ring, s: Sides) -> bool
     ensures { λ r. ⌜ r ≡ isComplete g s ⌝ }
 {
-    (marks::count(s.left) == g.l) & (marks::count(s.right) == g.l)
+    full(g, s) | overlap(s)
 }
 
 // Do both sides hold none?

@@ -322,23 +322,6 @@ unfolding isEmpty
 empty-of s l r e =
     and-both (eq-eqb (s .left) 0 (empty (s .left) l (λ t h. e t h .0))) (eq-eqb (s .right) 0 (empty (s .right) r (λ t h. e t h .1)))
 
-pub complete-sizes : (g : Ring) (s : Sides) → isComplete g s ≡ true → (sizeOf (s .left) ≡ g .l) × (sizeOf (s .right) ≡ g .l)
-unfolding isComplete
-complete-sizes g s e = (
-  eqb-true _ _ (and-left (eqb (sizeOf (s .left)) (g .l)) (eqb (sizeOf (s .right)) (g .l)) e),
-  eqb-true _ _ (and-right (eqb (sizeOf (s .left)) (g .l)) (eqb (sizeOf (s .right)) (g .l)) e),
-)
-
-pub complete-of : (g : Ring) (s : Sides) → sizeOf (s .left) ≡ g .l → sizeOf (s .right) ≡ g .l → isComplete g s ≡ true
-unfolding isComplete
-complete-of g s p q = and-both (eq-eqb _ _ p) (eq-eqb _ _ q)
-
-pub complete-filled : (g : Ring) (s : Sides) → 1 ≤ g .l → isComplete g s ≡ true → isEmpty s ≡ false
-complete-filled g s one e = bool-false (isEmpty s) (λ z. go (rw (empty-sides s z) at (complete-sizes g s e)))
-  where
-    go : (sizeOf 0 ≡ g .l) × (sizeOf 0 ≡ g .l) → ⊥
-    go p = omega (arith, p .0, size-zero)
-
 -- ---- the neighbours after adding
 
 module _ {g : Ring} {ids : List ℕ} (v : Listed g ids) (one : 1 ≤ g .l) (i : ℕ) (hi : i < g .n) where

@@ -58,10 +58,11 @@ pub record LeafSets : Type 0 where
   pub one-itself : addsOne 2 4 16 0 ≡ sides 4 16
   -- overlap: the sides share a member
   pub overlap : (overlaps (sides 6 36) ≡ true) × (overlaps (sides 6 48) ≡ false) × (overlaps noSides ≡ false)
-  -- complete: both sides hold exactly L
+  -- complete (T-02): both sides full, or the sides overlap
   pub complete : (isComplete (six 2) (sides 6 48) ≡ true) × (isComplete (six 1) (sides 2 32) ≡ true)
   pub incomplete : (isComplete (six 2) (sides 6 16) ≡ false) × (isComplete (six 2) (sides 2 48) ≡ false)
       × (isComplete (six 2) (sides 2 16) ≡ false) × (isComplete (six 1) noSides ≡ false)
+  pub complete-by-overlap : (isComplete (six 2) (sides 2 2) ≡ true) × (isComplete (six 4) (sides 6 36) ≡ true) × (isComplete (six 2) (sides 6 4) ≡ true)
   -- empty: both hold none
   pub empty : (isEmpty noSides ≡ true) × (isEmpty (sides 2 0) ≡ false) × (isEmpty (sides 0 2) ≡ false)
   -- by its neighbours, 40 and 200, and not by its ends, 80 and 160: 10 covers 234 to 255 and 0 to 25
@@ -97,6 +98,7 @@ leaf-sets =
       overlap = (refl, refl, refl);
       complete = (refl, refl);
       incomplete = (refl, refl, refl, refl);
+      complete-by-overlap = (refl, refl, refl);
       empty = (refl, refl, refl);
       by-neighbours = (refl, refl, refl, refl);
       right-none = (refl, refl, refl, refl);

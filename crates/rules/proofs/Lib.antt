@@ -14,3 +14,4 @@ pub mod HopCases
 pub mod MailCases
 pub mod FitsCases
 pub mod NumberCases
+pub mod Complete

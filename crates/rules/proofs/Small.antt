@@ -16,7 +16,7 @@ use Rattle.rules.specs.Numbers.{refusalNumber}
 use Rattle.rules.specs.Nodes.{noNode}
 use Rattle.rules.specs.Pick.{best}
 use Rattle.rules.specs.Closest.{closest}
-use Rattle.rules.specs.Leaf.{contentOf, seenFrom, leafWith, leafWithOne, overlaps, isComplete, isEmpty, coversOf}
+use Rattle.rules.specs.Leaf.{contentOf, seenFrom, leafWith, leafWithOne, overlaps, isFull, isComplete, isEmpty, coversOf}
 use Rattle.rules.specs.Hop.{leafCandidates, routeCandidates, byLeaf, leafHop, routeHop, nextHop}
 use Rattle.rules.specs.Mail.{alike, allDifferent, firstFrom, firstEqual, added, removedAt, sentTo}
 use Rattle.rules.specs.Fits.{numbersFit, idFits, sideFits, leafFits, othersFit, nodeFits, isBlank, slotFits}
@@ -31,7 +31,7 @@ use Rattle.rules.specs.Take.{planTake}
 -- to unfold this is to unfold all that the rules compute with
 unfoldable pub opened : Unit {0}
 unfolding fallOf signedOf absDistOf risesTo nearer leftCoverOf rightCoverOf coversKey has gather tally allTo single union meet without
-    addOf removeOf sizeOf listed best closest contentOf seenFrom leafWith leafWithOne overlaps isComplete isEmpty coversOf leafCandidates
+    addOf removeOf sizeOf listed best closest contentOf seenFrom leafWith leafWithOne overlaps isFull isComplete isEmpty coversOf leafCandidates
     routeCandidates byLeaf leafHop routeHop nextHop alike allDifferent firstFrom firstEqual added removedAt sentTo numbersFit idFits
     sideFits leafFits othersFit nodeFits isBlank slotFits wordFits flagFits carriedFits ownerFits routingFits failedFits fieldsFit
     messageFits mailed waits joinWaits planLookup planJoin leasePlan planRequestLease isNeighbour planLeaseExpired planGrantExpired

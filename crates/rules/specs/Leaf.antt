@@ -69,9 +69,13 @@ leafWithOne g ids i s j = cond (has (contentOf s i) j) s (leafWith g ids i s (si
 unfoldable pub overlaps : Sides → Bool
 overlaps s = not (eqb (meet (s .left) (s .right)) 0)
 
--- complete: both sides hold exactly L
+-- both sides full: they hold exactly L
+unfoldable pub isFull : Ring → Sides → Bool
+isFull g s = eqb (sizeOf (s .left)) (g .l) && eqb (sizeOf (s .right)) (g .l)
+
+-- complete (amended by T-02): both sides full, or the sides overlap
 unfoldable pub isComplete : Ring → Sides → Bool
-isComplete g s = eqb (sizeOf (s .left)) (g .l) && eqb (sizeOf (s .right)) (g .l)
+isComplete g s = isFull g s || overlaps s
 
 -- empty: both hold none
 unfoldable pub isEmpty : Sides → Bool

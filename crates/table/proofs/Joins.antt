@@ -1,7 +1,9 @@
--- Good things can happen: the join of 17 at 18, and of 65 and 95 after it, computed by the checker from the definition of the step. Assumes nothing.
+-- Good things can happen: the join of 17 at 18, and of 65 and 95 after it, computed by the checker from the definition of the step. Then joins into small
+-- estates (T-02), where L is 4 and no side can be full: into three, into two, and into one. Assumes nothing.
 use mathlib.Core.Path.{_≡_, refl}
 use mathlib.Core.Bool.{Bool, true}
 use mathlib.Core.List.{List, [], _∷_}
+use Prim.Native.Nat.{ℕ}
 use lib.Dec.{eqb}
 use Rattle.ring.specs.Distance.{fallOf, wrapped, signedOf, absDistOf, risesTo, nearer, leftCoverOf, rightCoverOf, coversKey}
 use Rattle.marks.specs.Marks.{has, gather, tally, firstTo, allTo, single, union, meet, without, addOf, removeOf, sizeOf, lowestOf, listed}
@@ -15,7 +17,7 @@ use Rattle.rules.specs.declared.Pool.{Pool}
 use Rattle.rules.specs.Pool.{laid}
 use Rattle.rules.specs.Pick.{best}
 use Rattle.rules.specs.Closest.{closest}
-use Rattle.rules.specs.Leaf.{contentOf, seenFrom, leafWith, leafWithOne, overlaps, isComplete, isEmpty, coversOf}
+use Rattle.rules.specs.Leaf.{contentOf, seenFrom, leafWith, leafWithOne, overlaps, isFull, isComplete, isEmpty, coversOf}
 use Rattle.rules.specs.Hop.{leafCandidates, routeCandidates, byLeaf, leafHop, routeHop, nextHop}
 use Rattle.rules.specs.Mail.{alike, allDifferent, firstFrom, firstEqual, added, removedAt, sentTo}
 use Rattle.rules.specs.Fits.{numbersFit, idFits, sideFits, leafFits, othersFit, nodeFits, isBlank, slotFits}
@@ -64,18 +66,40 @@ all =
 abbrev ends : Stepped → List Status × Bool × Bool
 ends s = (statuses (s .table), eqb (s .pool .count) 0, isSettled (s .table))
 
--- the first join, and all three
+-- ---- small estates, L = 4: the join, its request, the reply, a probe to each and a reply from each (ok), the lease asked for, granted and taken (ready)
+
+-- the status of the node that joins, whether nothing waits, whether the table is settled
+abbrev endsAt : ℕ → Stepped → Status × Bool × Bool
+endsAt i s = (nodeAt (s .table) i .status, eqb (s .pool .count) 0, isSettled (s .table))
+
+-- 95 joins 17, 18 and 65 at 65
+abbrev threeAndOne : List Action
+threeAndOne =
+    Join 3 2 ∷ Take 0 ∷ Take 0 ∷ Take 0 ∷ Take 0 ∷ Take 0 ∷ Take 0 ∷ Take 0 ∷ Take 0 ∷ RequestLease 3 ∷ Take 0 ∷ Take 0 ∷ Take 0 ∷ Take 0 ∷ []
+
+-- 65 joins 17 and 18 at 18
+abbrev twoAndOne : List Action
+twoAndOne = Join 2 1 ∷ Take 0 ∷ Take 0 ∷ Take 0 ∷ Take 0 ∷ Take 0 ∷ Take 0 ∷ RequestLease 2 ∷ Take 0 ∷ Take 0 ∷ Take 0 ∷ Take 0 ∷ []
+
+-- 18 joins 17
+abbrev oneAndOne : List Action
+oneAndOne = Join 1 0 ∷ Take 0 ∷ Take 0 ∷ Take 0 ∷ Take 0 ∷ RequestLease 1 ∷ Take 0 ∷ Take 0 ∷ []
+
+-- the first join, and all three; then the small estates
 pub record Joined : Type 0 where
   pub one : ends (run joins begun (laid [])) ≡ (Ready ∷ Ready ∷ Dead ∷ Dead ∷ [], true, true)
   pub three : ends (run all begun (laid [])) ≡ (Ready ∷ Ready ∷ Ready ∷ Ready ∷ [], true, true)
+  pub three-and-one : endsAt 3 (run threeAndOne (startOf 8 4 (17 ∷ 18 ∷ 65 ∷ 95 ∷ []) 7 .table) (laid [])) ≡ (Ready, true, true)
+  pub two-and-one : endsAt 2 (run twoAndOne (startOf 8 4 (17 ∷ 18 ∷ 65 ∷ []) 3 .table) (laid [])) ≡ (Ready, true, true)
+  pub one-and-one : endsAt 1 (run oneAndOne (startOf 8 4 (17 ∷ 18 ∷ []) 1 .table) (laid [])) ≡ (Ready, true, true)
 
 pub joined : Joined
 unfolding fallOf signedOf absDistOf risesTo nearer leftCoverOf rightCoverOf coversKey has gather tally firstTo allTo single union meet
-    without addOf removeOf sizeOf lowestOf listed best closest contentOf seenFrom leafWith leafWithOne overlaps isComplete isEmpty
+    without addOf removeOf sizeOf lowestOf listed best closest contentOf seenFrom leafWith leafWithOne overlaps isFull isComplete isEmpty
     coversOf leafCandidates routeCandidates byLeaf leafHop routeHop nextHop alike allDifferent firstFrom firstEqual added removedAt
     sentTo numbersFit idFits sideFits leafFits othersFit nodeFits isBlank slotFits wordFits flagFits carriedFits ownerFits routingFits
     failedFits fieldsFit messageFits mailed waits joinWaits planJoin leasePlan planRequestLease isNeighbour planTakeLookup
     planTakeJoinRequest planTakeJoinReply probes2 probesOf probePlanOf planTakeProbe statusAfterReply replyPlanOf planTakeProbeReply
     planTakeLeaseRequest broadcastPlan planTakeBroadcast planTake slotIds slotsTo startNode startNodes startFits idsRise listFits
     startOf nodesFit messagesFit poolFits validOf carriedOut settle readySet deadSet settledAt isSettled isSound stepOf
-joined = record { one = refl; three = refl }
+joined = record { one = refl; three = refl; three-and-one = refl; two-and-one = refl; one-and-one = refl }

@@ -4,15 +4,15 @@ use Rattle.rules.specs.Leaf.{isComplete}
 use Rattle.leaf.proofs.complete.Statement.{statement}
 use Rattle.leaf.proofs.complete.Tie as tie
 
-count-requires : tie.Need-count-requires
-count-requires c κs = search needs
+full-requires : tie.Need-full-requires
+full-requires c κs = search needs
 
-count-requires-2 : tie.Need-count-requires-2
-count-requires-2 c κs = search needs
+overlap-requires : tie.Need-overlap-requires
+overlap-requires c κs = search needs
 
 returns : tie.Need-returns
 unfolding isComplete
-returns c = rw (c .before .count2 .ensures, c .before .before .before .count .ensures)
+returns c = rw (c .overlap .ensures, c .before .full .ensures)
 
 pub complete-spec : {M : Type 1} → statement M
-complete-spec = tie.close (tie.spec count-requires count-requires-2 returns)
+complete-spec = tie.close (tie.spec full-requires overlap-requires returns)
