@@ -1,7 +1,7 @@
 -- What lies in the places past the count is not looked at: of two lists of 256 places that agree on the first count of them, each function says the same, and
 -- what is done leaves the same 256 places. And what is done leaves blank places past the count that it tells. The idea: the definitions look at a pool through
 -- its count and its waiting messages alone. What a refusal leaves, and lists without 256 places, are in Kept. Assumes nothing.
-use mathlib.Core.Path.{_≡_, refl, sym, _∙_, ap}
+use mathlib.Core.Path.{_≡_, refl, sym, _∙_, ap, subst}
 use mathlib.Core.Bool.{Bool, true, false, cond, _&&_, not}
 use mathlib.Core.List.{List}
 use Prim.Native.Nat.{ℕ, _<_}
@@ -10,6 +10,9 @@ use lib.Dec.{eqb, leb, ltb}
 use lib.ListN.{length, getD, take}
 use lib.Seq.{getD-take}
 use borrow.Author.Tests.{eq-eqb, ltb-true}
+use Rattle.marks.specs.declared.Found.{Found}
+use Rattle.marks.specs.declared.Found.the-variants.{At, Nothing}
+use Rattle.marks.proofs.Bools.{bool-same}
 use Rattle.marks.proofs.Laws.{all-same}
 use Rattle.rules.specs.declared.Action.{Action}
 use Rattle.rules.specs.declared.Action.the-variants.{Lookup, Join, RequestLease, LeaseExpired, GrantExpired, Take}
@@ -28,7 +31,7 @@ use Rattle.table_type.specs.declared.Stepped.{Stepped}
 use Rattle.table_type.specs.declared.Table.{Table}
 use Rattle.table.specs.Settle.{refusedOf, doneOf, carriedOut, settle}
 use Rattle.table_type.specs.Start.{startOf}
-use Rattle.table.specs.Step.{inRange, actOf, isSound, stepOf}
+use Rattle.table.specs.Step.{Asked, asked, remaining, plannedOf, actOf, isSound, stepOf}
 use Rattle.table_type.specs.Table.{ringOf}
 use Rattle.table.specs.Valid.{messagesFit, poolFits, validOf}
 use Rattle.file.specs.declared.Wrote.{Wrote}
@@ -55,16 +58,26 @@ cond-alike : (b : Bool) {g h g′ h′ : Stepped} → (b ≡ true → Alike g h)
 cond-alike true k k′ = k refl
 cond-alike false k k′ = k′
 
--- the count n, and the same messages wait
+-- the count n, and the same messages wait: an action in range asks the same
 module _ (t : Table) (n : ℕ) (xs ys : List Message) (same : take n xs ≡ take n ys) where
   place-same : (s : ℕ) → s < n → messageAt (poolOf n xs) s ≡ messageAt (poolOf n ys) s
   place-same s h = sym (getD-take n xs s blank h) ∙ ap (λ (zs : List Message). getD zs s blank) same ∙ getD-take n ys s blank h
 
+  asked-same : (a : Action) → asked t (poolOf n xs) a .range ≡ true → asked t (poolOf n xs) a ≡ asked t (poolOf n ys) a
+  asked-same (Lookup i k) e = rw same
+  asked-same (Join i seed) e = rw same
+  asked-same (RequestLease i) e = refl
+  asked-same (LeaseExpired i j) e = refl
+  asked-same (GrantExpired i j) e = refl
+  asked-same (Take place) e = rw (place-same place (ltb-true place n e))
+
+-- and every function says the same
+module _ (t : Table) (n : ℕ) (xs ys : List Message) (same : take n xs ≡ take n ys) where
   valid-same : validOf t (poolOf n xs) ≡ validOf t (poolOf n ys)
   unfolding validOf poolFits messagesFit
   valid-same =
       let each = all-same n (λ s. messageFits (ringOf t) (getD xs s blank)) (λ s. messageFits (ringOf t) (getD ys s blank))
-      (λ s h. ap (messageFits (ringOf t)) (place-same s h)) in
+      (λ s h. ap (messageFits (ringOf t)) (place-same t n xs ys same s h)) in
       rw (each, same)
 
   sound-same : (len : ℕ) → isSound t (poolOf n xs) len ≡ isSound t (poolOf n ys) len
@@ -79,28 +92,28 @@ module _ (t : Table) (n : ℕ) (xs ys : List Message) (same : take n xs ≡ take
   settle-alike ws i (No why) = refused-alike why
   settle-alike ws i (Go x) = cond-alike (leb (length (mailed x ws)) 256) (λ e. same-alike _) (refused-alike no.Full)
 
-  act-alike : (a : Action) → inRange t (poolOf n xs) a ≡ true → Alike (actOf t (poolOf n xs) a) (actOf t (poolOf n ys) a)
-  act-alike (Lookup i k) e = rw same (settle-alike (take n ys) i _)
-  act-alike (Join i seed) e = rw same (settle-alike (take n ys) i _)
-  act-alike (RequestLease i) e = rw same (settle-alike (take n ys) i _)
-  act-alike (LeaseExpired i j) e = rw same (settle-alike (take n ys) i _)
-  act-alike (GrantExpired i j) e = rw same (settle-alike (take n ys) i _)
-  act-alike (Take place) e = rw (same, place-same place (ltb-true place n e)) (settle-alike _ _ _)
+  remaining-same : (gone : Found) → remaining (poolOf n xs) gone ≡ remaining (poolOf n ys) gone
+  remaining-same (At place) = rw same
+  remaining-same Nothing = same
 
-  range-same : (a : Action) → inRange t (poolOf n xs) a ≡ inRange t (poolOf n ys) a
-  range-same (Lookup i k) = refl
-  range-same (Join i seed) = refl
-  range-same (RequestLease i) = refl
-  range-same (LeaseExpired i j) = refl
-  range-same (GrantExpired i j) = refl
-  range-same (Take place) = refl
+  act-alike : (a : Action) → asked t (poolOf n xs) a .range ≡ true
+      → Alike (actOf t (poolOf n xs) (asked t (poolOf n xs) a)) (actOf t (poolOf n ys) (asked t (poolOf n ys) a))
+  act-alike a e =
+      let x = asked t (poolOf n xs) a in
+      subst (λ (y : Asked). Alike (actOf t (poolOf n xs) x) (actOf t (poolOf n ys) y)) (asked-same t n xs ys same a e)
+      (rw (remaining-same (x .gone)) (settle-alike (remaining (poolOf n ys) (x .gone)) (x .slot) (plannedOf x)))
+
+  range-same : (a : Action) → asked t (poolOf n xs) a .range ≡ asked t (poolOf n ys) a .range
+  range-same a =
+      bool-same _ _ (λ e. ap (λ (x : Asked). x .range) (sym (asked-same t n xs ys same a e)) ∙ e)
+      (λ e. ap (λ (x : Asked). x .range) (sym (asked-same t n ys xs (sym same) a e)) ∙ e)
 
   step-alike : (len : ℕ) (a : Action) → Alike (stepOf t (poolOf n xs) len a) (stepOf t (poolOf n ys) len a)
   unfolding stepOf
   step-alike len a =
       rw (sound-same len, range-same a)
       (cond-alike (isSound t (poolOf n ys) len)
-      (λ s. cond-alike (inRange t (poolOf n ys) a) (λ e. act-alike a (range-same a ∙ e)) (refused-alike no.OutOfRange))
+      (λ s. cond-alike (asked t (poolOf n ys) a .range) (λ e. act-alike a (range-same a ∙ e)) (refused-alike no.OutOfRange))
       (refused-alike no.Invalid))
 
   start-alike : (len m l : ℕ) (ids : List ℕ) (a : ℕ) → Alike (startStep t (poolOf n xs) len m l ids a) (startStep t (poolOf n ys) len m l ids a)

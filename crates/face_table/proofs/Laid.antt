@@ -23,7 +23,8 @@ use Rattle.table_type.specs.declared.Stepped.{Stepped}
 use Rattle.table.specs.Settle.{refusedOf}
 use Rattle.table_type.specs.Start.{startOf}
 use Rattle.table.specs.Step.{stepOf}
-use Rattle.table.proofs.By.{remainingOf, step-done}
+use Rattle.table.specs.Step.{asked, remaining}
+use Rattle.table.proofs.By.{step-done}
 use Rattle.file.specs.Bytes.{decodeAll}
 use Rattle.file.proofs.Exactly.{load-makes}
 use Rattle.file.specs.Format.{messageWidths, messagesAt, messageFrom}
@@ -46,7 +47,7 @@ file-neat bs = laid-again (map messageFrom (decodeAll messageWidths 56 (fileCoun
 
 module _ (t : Table) (p : Pool) (len : ℕ) where
   pub step-neat : (a : Action) → Neat (stepOf t p len a)
-  step-neat a e = let d = step-done t p len a e in rw (d .2) (laid-again (mailed (d .0) (remainingOf p a)))
+  step-neat a e = let d = step-done t p len a e in rw (d .2) (laid-again (mailed (d .0) (remaining p (asked t p a .gone))))
 
   pub load-neat : (bs : List ℕ) → Neat (loadOf bs t p len)
   load-neat bs e = rw (load-makes bs t p len (ap answerNumber e)) (file-neat bs)

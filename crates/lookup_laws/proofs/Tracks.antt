@@ -42,8 +42,8 @@ use Rattle.table.specs.Settled.{readySet, deadSet}
 use Rattle.table.specs.Valid.{validOf}
 use Rattle.table.proofs.Obeys.{obeys}
 use Rattle.table.proofs.Sound.{Sound, sound}
-use Rattle.table.proofs.By.{go-same, never-go, remainingOf, plannedOf, DoneWith, leavesOf, step-refused, step-done}
-use Rattle.table.specs.Step.{takenOf}
+use Rattle.table.proofs.By.{go-same, never-go, DoneWith, leavesOf, step-refused, step-done}
+use Rattle.table.specs.Step.{takenOf, asked, remaining, plannedOf}
 use Rattle.lookup_laws.specs.Fates.{others, coversAt, hopAt, Took, Tracked}
 use Rattle.lookup_laws.specs.Journey.{stepped, LookupAt, stays, landing, fateTaken, fateDone}
 use Rattle.lookup_laws.specs.Journey.{fateBy, fateOf}
@@ -102,7 +102,7 @@ module _ (t : Table) (p : Pool) (q k d : ℕ) (v : Sound t p) (l : LookupAt p q 
   pub key-in : k < 2 ^ t .m
   key-in = obeys (ringOf t) (placed (lookup k) d) fits .key-in refl
 
-  pub plan-is : plannedOf t p (Take q) ≡ planAt t d k
+  pub plan-is : plannedOf (asked t p (Take q)) ≡ planAt t d k
   unfolding planTake
   plan-is = ap (takenOf t) (l .is)
 
@@ -177,8 +177,8 @@ module _ (t : Table) (p : Pool) (q k d : ℕ) (v : Sound t p) (l : LookupAt p q 
 -- ---- every step
 
 module _ (t : Table) (p : Pool) (q k d : ℕ) (v : Sound t p) (l : LookupAt p q k d) where
-  waits-on : (a : Action) (x : Plan) (r : ℕ) → stepped t p a ≡ leavesOf t p a x → Stands (remainingOf p a) r (placed (lookup k) d)
-      → LookupAt (stepped t p a .pool) r k d
+  waits-on : (a : Action) (x : Plan) (r : ℕ) → stepped t p a ≡ leavesOf t p a x
+      → Stands (remaining p (asked t p a .gone)) r (placed (lookup k) d) → LookupAt (stepped t p a .pool) r k d
   waits-on a x r e s = rw e (stands-laid (stands-mailed x s))
 
   -- it is taken itself
@@ -199,13 +199,9 @@ module _ (t : Table) (p : Pool) (q k d : ℕ) (v : Sound t p) (l : LookupAt p q 
       (stands-still place (omega (arith, count-is v, ltb-true place (p .count) (w .in-range))) (omega (arith, ltb-false place q b))
       (stands-waiting v l))
 
-  done-tracked : (a : Action) (x : Plan) → DoneWith t p 256 a x → stepped t p a ≡ leavesOf t p a x → Tracked t p q k d a (fateDone t p q a)
-  done-tracked (Lookup i j) x w e = waits-on (Lookup i j) x q e (stands-waiting v l)
-  done-tracked (Join i j) x w e = waits-on (Join i j) x q e (stands-waiting v l)
-  done-tracked (RequestLease i) x w e = waits-on (RequestLease i) x q e (stands-waiting v l)
-  done-tracked (LeaseExpired i j) x w e = waits-on (LeaseExpired i j) x q e (stands-waiting v l)
-  done-tracked (GrantExpired i j) x w e = waits-on (GrantExpired i j) x q e (stands-waiting v l)
-  done-tracked (Take place) x w e = go (eqb place q) refl
+  take-tracked : (place : ℕ) (x : Plan) → DoneWith t p 256 (Take place) x → stepped t p (Take place) ≡ leavesOf t p (Take place) x
+      → Tracked t p q k d (Take place) (fateDone t p q (At place))
+  take-tracked place x w e = go (eqb place q) refl
     where
       go : (b : Bool) → eqb place q ≡ b
           → Tracked t p q k d (Take place) (cond b (fateTaken t p q (messageAt p q)) (stays (cond (ltb place q) (pred q) q)))
@@ -213,6 +209,15 @@ module _ (t : Table) (p : Pool) (q k d : ℕ) (v : Sound t p) (l : LookupAt p q 
           subst (λ (n : ℕ). DoneWith t p 256 (Take n) x → stepped t p (Take n) ≡ leavesOf t p (Take n) x
           → Tracked t p q k d (Take n) (fateTaken t p q (messageAt p q))) (sym (eqb-true place q b)) (take-this x) w e
       go false b = take-other place x (eqb-false place q b) w e (ltb place q) refl
+
+  done-tracked : (a : Action) (x : Plan) → DoneWith t p 256 a x → stepped t p a ≡ leavesOf t p a x
+      → Tracked t p q k d a (fateDone t p q (asked t p a .gone))
+  done-tracked (Take place) x w e = take-tracked place x w e
+  done-tracked (Lookup i j) x w e = waits-on (Lookup i j) x q e (stands-waiting v l)
+  done-tracked (Join i j) x w e = waits-on (Join i j) x q e (stands-waiting v l)
+  done-tracked (RequestLease i) x w e = waits-on (RequestLease i) x q e (stands-waiting v l)
+  done-tracked (LeaseExpired i j) x w e = waits-on (LeaseExpired i j) x q e (stands-waiting v l)
+  done-tracked (GrantExpired i j) x w e = waits-on (GrantExpired i j) x q e (stands-waiting v l)
 
   by-answer : (a : Action) (r : Answer) → stepped t p a .answer ≡ r → Tracked t p q k d a (fateBy r t p q a)
   by-answer a Done e = let done = step-done t p 256 a e in done-tracked a (done .0) (done .1) (done .2)

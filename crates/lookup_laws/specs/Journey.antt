@@ -13,7 +13,7 @@ use Rattle.rules.specs.declared.Hop.the-variants.{To, NoRoute}
 use Rattle.rules.specs.declared.Message.{Message}
 use Rattle.rules.specs.declared.Pool.{Pool}
 use Rattle.rules.specs.declared.Action.{Action}
-use Rattle.rules.specs.declared.Action.the-variants.{Lookup, Join, RequestLease, LeaseExpired, GrantExpired, Take}
+use Rattle.rules.specs.declared.Action.the-variants.{Take}
 use Rattle.rules.specs.declared.Answer.{Answer}
 use Rattle.rules.specs.declared.Answer.the-variants.{Done, Refused}
 use Rattle.rules.specs.Letters.{lookup}
@@ -26,7 +26,7 @@ use Rattle.table_type.specs.declared.Table.{Table}
 use Rattle.table_type.specs.declared.Stepped.{Stepped}
 use Rattle.table_type.specs.Table.{nodeAt, idsOf, ringOf}
 use Rattle.table.specs.Settled.{deadSet}
-use Rattle.table.specs.Step.{stepOf}
+use Rattle.table.specs.Step.{asked, stepOf}
 
 -- the step, on a list of 256 places
 abbrev pub stepped : Table → Pool → Action → Stepped
@@ -66,17 +66,13 @@ fateTaken t p q m =
     (onward (nextHop (ringOf t) (idsOf t) (deadSet t) (m .dest) (nodeAt t (m .dest)) (m .word)) (removedAt (waiting p) q) (m .word))
 
 -- a done step: removing closes the gap, and additions go to the end
-abbrev pub fateDone : Table → Pool → ℕ → Action → Fate
-fateDone t p q (Lookup i k) = stays q
-fateDone t p q (Join i seed) = stays q
-fateDone t p q (RequestLease i) = stays q
-fateDone t p q (LeaseExpired i j) = stays q
-fateDone t p q (GrantExpired i j) = stays q
-fateDone t p q (Take place) = cond (eqb place q) (fateTaken t p q (messageAt p q)) (stays (cond (ltb place q) (pred q) q))
+abbrev pub fateDone : Table → Pool → ℕ → Found → Fate
+fateDone t p q (At place) = cond (eqb place q) (fateTaken t p q (messageAt p q)) (stays (cond (ltb place q) (pred q) q))
+fateDone t p q Nothing = stays q
 
 -- a refused step changes nothing
 abbrev pub fateBy : Answer → Table → Pool → ℕ → Action → Fate
-fateBy Done t p q a = fateDone t p q a
+fateBy Done t p q a = fateDone t p q (asked t p a .gone)
 fateBy (Refused why) t p q a = stays q
 
 unfoldable pub fateOf : Table → Pool → ℕ → Action → Fate

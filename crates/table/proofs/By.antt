@@ -1,15 +1,16 @@
--- What a step comes to, in one place. Every action plans something for the node of one slot, with some messages left (slotOf, plannedOf,
--- remainingOf), and a step is refused and changes nothing (RefusedFor), or is done with a plan (DoneWith). `by-step` is the one eliminator: what
--- holds of every refusal and of every plan carried out holds of every step. Assumes nothing.
+-- What a step comes to, in one place. Every action asks something of the node of a slot, or takes the message of a place (Form); and a step
+-- is refused and changes nothing (RefusedFor), or is done with a plan (DoneWith). `by-step` is the one eliminator: what holds of every
+-- refusal and of every plan carried out holds of every step. Assumes nothing.
 use mathlib.Core.Path.{_≡_, refl}
 use mathlib.Core.Bool.{Bool, true, false, cond}
 use mathlib.Core.List.{List}
 use Prim.Native.Nat.{ℕ, _<_, _≤_}
 use native.Mathlib.Omega.{arith}
-use lib.Dec.{eqb, leb}
+use lib.Dec.{eqb, ltb, leb}
 use lib.ListN.{length}
 use borrow.Author.Tests.{eqb-true, ltb-true, leb-true, leb-false}
-use Rattle.marks.proofs.Bools.{and-left}
+use Rattle.marks.specs.declared.Found.the-variants.{At}
+use Rattle.marks.proofs.Bools.{and-left, and-right}
 use Rattle.rules.specs.declared.Message.{Message}
 use Rattle.rules.specs.declared.Pool.{Pool}
 use Rattle.rules.specs.declared.Action.{Action}
@@ -20,59 +21,51 @@ use Rattle.rules.specs.declared.Answer.the-variants.{Done, Refused}
 use Rattle.rules.specs.declared.Plan.{Plan}
 use Rattle.rules.specs.declared.Planned.{Planned}
 use Rattle.rules.specs.declared.Planned.the-variants.{No, Go}
-use Rattle.rules.specs.Actions.{waits, joinWaits, planLookup, planJoin, planRequestLease, planLeaseExpired, planGrantExpired}
-use Rattle.rules.specs.Letters.{lookup}
-use Rattle.rules.specs.Mail.{removedAt}
-use Rattle.rules.specs.Nodes.{placed}
 use Rattle.rules.specs.Plans.{mailed}
-use Rattle.rules.specs.Pool.{waiting, messageAt, laid}
-use Rattle.rules.specs.Take.{planTake}
+use Rattle.rules.specs.Pool.{messageAt, laid}
 use Rattle.table_type.specs.declared.Table.{Table}
 use Rattle.table_type.specs.declared.Stepped.{Stepped}
-use Rattle.table_type.specs.Table.{nodeAt, withNode, idsOf, ringOf}
+use Rattle.table_type.specs.Table.{withNode, ringOf}
 use Rattle.table.specs.Settle.{refusedOf, doneOf, carriedOut, settle}
-use Rattle.table.specs.Settled.{deadSet}
-use Rattle.table.specs.Step.{inRange, actOf, isSound, stepOf}
+use Rattle.table.specs.Step.{Asked, isSlot, isKey, requests, takes, takenOf, asked, remaining, plannedOf, actOf, isSound, stepOf}
 use Rattle.table.specs.Valid.{validOf}
 use Rattle.table.proofs.Obeys.{obeys}
 use Rattle.table.proofs.Sound.{Sound, sound, is-valid}
-use Rattle.table.specs.Step.{takenOf}
 
--- ---- what an action plans
+-- ---- what an action asks
 
--- the slot whose node it writes
-abbrev pub slotOf : Pool → Action → ℕ
-slotOf p (Lookup i k) = i
-slotOf p (Join i seed) = i
-slotOf p (RequestLease i) = i
-slotOf p (LeaseExpired i j) = i
-slotOf p (GrantExpired i j) = i
-slotOf p (Take place) = messageAt p place .dest
+-- something of the node of a slot, or of the destination of the message at a place
+pub data Form (t : Table) (p : Pool) : Asked → Type 0 where
+  by-slot : {i : ℕ} (more : Bool) {there : Bool} {plan : Bool → Planned} → Form t p (requests t i more there plan)
+  by-place : {place : ℕ} (plan : Message → Planned) → Form t p (takes p place plan)
 
--- the messages that wait when additions begin
-abbrev pub remainingOf : Pool → Action → List Message
-remainingOf p (Lookup i k) = waiting p
-remainingOf p (Join i seed) = waiting p
-remainingOf p (RequestLease i) = waiting p
-remainingOf p (LeaseExpired i j) = waiting p
-remainingOf p (GrantExpired i j) = waiting p
-remainingOf p (Take place) = removedAt (waiting p) place
+pub form : (t : Table) (p : Pool) (a : Action) → Form t p (asked t p a)
+form t p (Lookup i k) = by-slot (isKey t k)
+form t p (Join i seed) = by-slot (isSlot t seed)
+form t p (RequestLease i) = by-slot true
+form t p (LeaseExpired i j) = by-slot (isSlot t j)
+form t p (GrantExpired i j) = by-slot (isSlot t j)
+form t p (Take place) = by-place (takenOf t)
 
-abbrev pub plannedOf : Table → Pool → Action → Planned
-plannedOf t p (Lookup i k) = planLookup (waits (waiting p) (placed (lookup k) i)) i k (nodeAt t i)
-plannedOf t p (Join i seed) = planJoin (joinWaits (waiting p) i) i (nodeAt t i) seed (nodeAt t seed)
-plannedOf t p (RequestLease i) = planRequestLease (ringOf t) (idsOf t) i (nodeAt t i)
-plannedOf t p (LeaseExpired i j) = planLeaseExpired (ringOf t) (idsOf t) i (nodeAt t i) j
-plannedOf t p (GrantExpired i j) = planGrantExpired i (nodeAt t i) j (nodeAt t j)
-plannedOf t p (Take place) = takenOf t (messageAt p place)
+-- a message that goes waits, and the node of its destination acts
+module _ (t : Table) (p : Pool) (place : ℕ) where
+  form-goes : {x : Asked} → Form t p x → x .gone ≡ At place → (x .range ≡ ltb place (p .count)) × (x .slot ≡ messageAt p place .dest)
+  form-goes (by-slot more) e = absurd (let z : _≡_ {A = ℕ} 0 1 = cc in omega arith)
+  form-goes (by-place {place = q} plan) e = let d : q ≡ place = cc in rw d (refl, refl)
 
-pub act-is : (t : Table) (p : Pool) (a : Action) → actOf t p a ≡ settle t p (remainingOf p a) (slotOf p a) (plannedOf t p a)
-act-is t p (Lookup i k) = refl
-act-is t p (Join i seed) = refl
-act-is t p (RequestLease i) = refl
-act-is t p (LeaseExpired i j) = refl
-act-is t p (GrantExpired i j) = refl
-act-is t p (Take place) = refl
+  pub goes : (a : Action) → asked t p a .gone ≡ At place
+      → (asked t p a .range ≡ ltb place (p .count)) × (asked t p a .slot ≡ messageAt p place .dest)
+  goes a e = form-goes (form t p a) e
+
+module _ {t : Table} {p : Pool} (s : Sound t p) where
+  -- in range, it is for a slot below n
+  form-slot : {x : Asked} → Form t p x → x .range ≡ true → x .slot < t .n
+  form-slot (by-slot {i = i} more) e = ltb-true i (t .n) (and-right more _ e)
+  form-slot (by-place {place = place} plan) e =
+      obeys (ringOf t) (messageAt p place) (s .message place (ltb-true place (p .count) e)) .dest-in
+
+  pub slot-in-range : (a : Action) → asked t p a .range ≡ true → asked t p a .slot < t .n
+  slot-in-range a e = form-slot (form t p a) e
 
 -- ---- what is planned
 
@@ -103,32 +96,23 @@ by-settle C t p ys i (Go x) refused full done = go (leb (length (mailed x ys)) 2
 -- why it is refused
 pub data RefusedFor (t : Table) (p : Pool) (len : ℕ) (a : Action) : Refusal → Type 0 where
   invalid : isSound t p len ≡ false → RefusedFor t p len a no.Invalid
-  out-of-range : Sound t p → inRange t p a ≡ false → RefusedFor t p len a no.OutOfRange
-  forbidden : {why : Refusal} → Sound t p → inRange t p a ≡ true → plannedOf t p a ≡ No why → RefusedFor t p len a why
-  full : (x : Plan) → Sound t p → inRange t p a ≡ true → plannedOf t p a ≡ Go x → 256 < length (mailed x (remainingOf p a))
-      → RefusedFor t p len a no.Full
+  out-of-range : Sound t p → asked t p a .range ≡ false → RefusedFor t p len a no.OutOfRange
+  forbidden : {why : Refusal} → Sound t p → asked t p a .range ≡ true → plannedOf (asked t p a) ≡ No why → RefusedFor t p len a why
+  full : (x : Plan) → Sound t p → asked t p a .range ≡ true → plannedOf (asked t p a) ≡ Go x
+      → 256 < length (mailed x (remaining p (asked t p a .gone))) → RefusedFor t p len a no.Full
 
 -- by which plan it is done
 pub record DoneWith (t : Table) (p : Pool) (len : ℕ) (a : Action) (x : Plan) : Type 0 where
   pub places : len ≡ 256
   pub sound : Sound t p
-  pub in-range : inRange t p a ≡ true
-  pub slot-in : slotOf p a < t .n
-  pub plan : plannedOf t p a ≡ Go x
-  pub room : length (mailed x (remainingOf p a)) ≤ 256
+  pub in-range : asked t p a .range ≡ true
+  pub slot-in : asked t p a .slot < t .n
+  pub plan : plannedOf (asked t p a) ≡ Go x
+  pub room : length (mailed x (remaining p (asked t p a .gone))) ≤ 256
 
 -- what the plan leaves
 abbrev pub leavesOf : Table → Pool → Action → Plan → Stepped
-leavesOf t p a x = doneOf (withNode t (slotOf p a) (x .node)) (laid (mailed x (remainingOf p a)))
-
--- an action in range is for a slot below n
-pub slot-in-range : {t : Table} {p : Pool} → Sound t p → (a : Action) → inRange t p a ≡ true → slotOf p a < t .n
-slot-in-range {t} s (Lookup i k) e = ltb-true i (t .n) (and-left _ _ e)
-slot-in-range {t} s (Join i seed) e = ltb-true i (t .n) (and-left _ _ e)
-slot-in-range {t} s (RequestLease i) e = ltb-true i (t .n) e
-slot-in-range {t} s (LeaseExpired i j) e = ltb-true i (t .n) (and-left _ _ e)
-slot-in-range {t} s (GrantExpired i j) e = ltb-true i (t .n) (and-left _ _ e)
-slot-in-range {t} {p} s (Take place) e = obeys (ringOf t) (messageAt p place) (s .message place (ltb-true place (p .count) e)) .dest-in
+leavesOf t p a x = doneOf (withNode t (asked t p a .slot) (x .node)) (laid (mailed x (remaining p (asked t p a .gone))))
 
 sound-parts : (t : Table) (p : Pool) (len : ℕ) → isSound t p len ≡ true → (len ≡ 256) × Sound t p
 unfolding isSound
@@ -142,10 +126,11 @@ pub by-step : (C : Stepped → Type 0) (t : Table) (p : Pool) (len : ℕ) (a : A
 unfolding stepOf
 by-step C t p len a refused done = valid (isSound t p len) refl
   where
-    ranged : (len ≡ 256) × Sound t p → (b : Bool) → inRange t p a ≡ b → C (cond b (actOf t p a) (refusedOf t p no.OutOfRange))
+    ranged : (len ≡ 256) × Sound t p → (b : Bool) → asked t p a .range ≡ b
+        → C (cond b (actOf t p (asked t p a)) (refusedOf t p no.OutOfRange))
     ranged s true e =
-        rw (act-is t p a)
-        (by-settle C t p (remainingOf p a) (slotOf p a) (plannedOf t p a) (λ why q. refused why (forbidden (s .1) e q))
+        by-settle C t p (remaining p (asked t p a .gone)) (asked t p a .slot) (plannedOf (asked t p a))
+        (λ why q. refused why (forbidden (s .1) e q))
         (λ x q l. refused no.Full (full x (s .1) e q l))
         (λ x q l. done x (record {
           places = s .0;
@@ -154,12 +139,12 @@ by-step C t p len a refused done = valid (isSound t p len) refl
           slot-in = slot-in-range (s .1) a e;
           plan = q;
           room = l;
-        })))
+        }))
     ranged s false e = refused no.OutOfRange (out-of-range (s .1) e)
 
     valid : (b : Bool) → isSound t p len ≡ b
-        → C (cond b (cond (inRange t p a) (actOf t p a) (refusedOf t p no.OutOfRange)) (refusedOf t p no.Invalid))
-    valid true e = ranged (sound-parts t p len e) (inRange t p a) refl
+        → C (cond b (cond (asked t p a .range) (actOf t p (asked t p a)) (refusedOf t p no.OutOfRange)) (refusedOf t p no.Invalid))
+    valid true e = ranged (sound-parts t p len e) (asked t p a .range) refl
     valid false e = refused no.Invalid (invalid e)
 
 -- ---- the same, told by the answer

@@ -10,7 +10,7 @@ use native.Mathlib.Omega.{arith}
 use lib.Dec.{eqb, leb}
 use lib.ListN.{getD, length, length-take, List·getD-eq-default}
 use borrow.Author.Tests.{eqb-true, eqb-false, leb-true, ltb-true, not-true}
-use Rattle.marks.proofs.Bools.{clash, and-left, and-right, or-cases, lt-or-le}
+use Rattle.marks.proofs.Bools.{clash, and-left, and-right, or-right, or-cases, lt-or-le}
 use Rattle.rules.specs.declared.Node.{Node}
 use Rattle.rules.specs.declared.Message.{Message}
 use Rattle.rules.specs.declared.Pool.{Pool}
@@ -29,13 +29,12 @@ use Rattle.rules.specs.Take.{broadcastPlan, planTake}
 use Rattle.table_type.specs.declared.Table.{Table}
 use Rattle.table.specs.Settled.{deadSet}
 use Rattle.table.specs.Settle.{refusedOf, settle}
-use Rattle.table.specs.Step.{inRange, isSound, stepOf}
+use Rattle.table.specs.Step.{takenOf, asked, remaining, plannedOf, isSound, stepOf}
 use Rattle.table_type.specs.Table.{nodeAt, idsOf, ringOf}
 use Rattle.pool.proofs.Laws.{waiting-short, removed-length, mailed-quiet, mailed-send, added-length}
 use Rattle.table.proofs.Obeys.{obeys}
 use Rattle.table.proofs.Sound.{Sound}
-use Rattle.table.proofs.By.{remainingOf, plannedOf, RefusedFor, invalid, out-of-range, forbidden, full, by-step}
-use Rattle.table.specs.Step.{takenOf}
+use Rattle.table.proofs.By.{RefusedFor, invalid, out-of-range, forbidden, full, by-step}
 use Rattle.table.proofs.Comes.{Comes, no-comes, go-comes, by-lookup, by-join, by-request-lease, by-lease-expired, by-grant-expired}
 use Rattle.table.proofs.Comes.{by-take-lookup, by-take-join-request, by-take-join-reply, by-take-probe, by-take-probe-reply}
 use Rattle.table.proofs.Comes.{by-take-lease-request, by-take-broadcast, by-take}
@@ -86,12 +85,12 @@ taken-waits {t} {p} s place h = go (lt-or-le place (length (p .places)))
     go (inl l) = omega (arith, length-take (p .count) (p .places))
     go (inr l) = absurd (omega (arith, kind, ap (λ (m : Message). m .kind) (List·getD-eq-default (p .places) blank l)))
 
--- a refusal is named, and a plan has room or its action names 6
+-- a refusal is named, by a number up to 6; and a plan has room, or its action names 6
 abbrev Named : Pool → Action → Refusal → Type 0
-Named p a why = oneOf (refusalNumber why) (answersOf p a) ≡ true
+Named p a why = (oneOf (refusalNumber why) (numbersOf p a) && leb (refusalNumber why) 6) ≡ true
 
-abbrev Roomy : Pool → Action → Plan → Type 0
-Roomy p a x = 256 < length (mailed x (remainingOf p a)) → Named p a no.Full
+abbrev Roomy : Table → Pool → Action → Plan → Type 0
+Roomy t p a x = 256 < length (mailed x (remaining p (asked t p a .gone))) → Named p a no.Full
 
 module _ {t : Table} {p : Pool} (s : Sound t p) where
   quiet-room : (v : Node) → 256 < length (mailed (quietPlan v) (waiting p)) → ⊥
@@ -116,7 +115,7 @@ module _ {t : Table} {p : Pool} (s : Sound t p) where
     take-send : (v : Node) (m : Message) (d : ℕ) → 256 < length (mailed (sendPlan v m d) rest) → ⊥
     take-send v m d l = omega (arith, rw (mailed-send v m d rest) at l, added-length rest (placed m d) .1, rest-room)
 
-    taken-named : Comes (Named p (Take place)) (Roomy p (Take place)) (takenOf t (messageAt p place))
+    taken-named : Comes (Named p (Take place)) (Roomy t p (Take place)) (takenOf t (messageAt p place))
     taken-named =
         let m = messageAt p place in
         let o = obeys (ringOf t) m (s .message place h) in
@@ -137,7 +136,7 @@ module _ {t : Table} {p : Pool} (s : Sound t p) where
         (λ e. by-take-lease-request g ids i v (m .word) (rw e) (rw e) (λ near l. absurd (take-send _ _ _ l)))
         (λ e. by-take-broadcast g ids i v m (rw e) (rw e) (rw e) (λ l. absurd (take-broadcast m l)))
 
-  planned-named : (a : Action) → inRange t p a ≡ true → Comes (Named p a) (Roomy p a) (plannedOf t p a)
+  planned-named : (a : Action) → asked t p a .range ≡ true → Comes (Named p a) (Roomy t p a) (plannedOf (asked t p a))
   planned-named (Lookup i k) e = by-lookup _ i k (nodeAt t i) refl (λ _. refl)
   planned-named (Join i seed) e = by-join _ i (nodeAt t i) seed (nodeAt t seed) refl refl refl (λ _. refl)
   planned-named (RequestLease i) e = by-request-lease (ringOf t) (idsOf t) i (nodeAt t i) refl refl (λ _. refl)
@@ -145,15 +144,32 @@ module _ {t : Table} {p : Pool} (s : Sound t p) where
   planned-named (GrantExpired i j) e = by-grant-expired i (nodeAt t i) j (nodeAt t j) refl refl (λ l. absurd (quiet-room _ l))
   planned-named (Take place) e = taken-named place (ltb-true place (p .count) e)
 
+-- besides 10 for what is not valid and 1 for what is out of range, a step is refused with a number that its action names
+pub data Refuses (t : Table) (p : Pool) (len : ℕ) (a : Action) (why : Refusal) : Type 0 where
+  ten : isSound t p len ≡ false → refusalNumber why ≡ 10 → Refuses t p len a why
+  one : refusalNumber why ≡ 1 → Refuses t p len a why
+  named : Named p a why → Refuses t p len a why
+
+pub refuses : (t : Table) (p : Pool) (len : ℕ) (a : Action) (why : Refusal) → RefusedFor t p len a why → Refuses t p len a why
+refuses t p len a why (invalid e) = ten e refl
+refuses t p len a why (out-of-range s e) = one refl
+refuses t p len a why (forbidden s e q) = named (no-comes (planned-named s a e) why q)
+refuses t p len a why (full x s e q l) = named (go-comes (planned-named s a e) x q l)
+
+pub named-low : (p : Pool) (a : Action) (why : Refusal) → Named p a why → refusalNumber why ≤ 6
+named-low p a why e = leb-true (refusalNumber why) 6 (and-right (oneOf (refusalNumber why) (numbersOf p a)) _ e)
+
 pub step-numbers : (t : Table) (p : Pool) (len : ℕ) (a : Action) → oneOf (answerNumber (stepOf t p len a .answer)) (answersOf p a) ≡ true
 step-numbers t p len a =
-    by-step (λ s. oneOf (answerNumber (s .answer)) (answersOf p a) ≡ true) t p len a refused (λ x d. refl)
+    by-step (λ s. oneOf (answerNumber (s .answer)) (answersOf p a) ≡ true) t p len a (λ why r. refused why (refuses t p len a why r))
+    (λ x d. refl)
   where
-    refused : (why : Refusal) → RefusedFor t p len a why → Named p a why
-    refused why (invalid e) = refl
-    refused why (out-of-range s e) = refl
-    refused why (forbidden s e q) = no-comes (planned-named s a e) why q
-    refused why (full x s e q l) = go-comes (planned-named s a e) x q l
+    refused : (why : Refusal) → Refuses t p len a why → oneOf (refusalNumber why) (answersOf p a) ≡ true
+    refused why (ten s e) = rw e
+    refused why (one e) = rw e
+    refused why (named e) =
+        let x = refusalNumber why in
+        or-right (eqb x 0) (or-right (eqb x 1) (or-right (eqb x 10) (and-left (oneOf x (numbersOf p a)) _ e)))
 
 -- ---- what the table lacks
 
@@ -173,9 +189,6 @@ row-of-all f [] k all = refl
 row-of-all f (r ∷ rows) zero all = and-left (allOf f r) (allOf (allOf f) rows) all
 row-of-all f (r ∷ rows) (suc k) all = row-of-all f rows k (and-right (allOf f r) (allOf (allOf f) rows) all)
 
-abbrev low : ℕ → Bool
-low x = leb x 6 || eqb x 10
-
 abbrev other : ℕ → ℕ → Bool
 other y x = not (eqb x y)
 
@@ -183,17 +196,13 @@ module _ (t : Table) (p : Pool) (len : ℕ) where
   -- no step answers 7, 8, 9 or 11
   pub step-number-low : (a : Action) → (answerNumber (stepOf t p len a .answer) ≤ 6) ⊎ (answerNumber (stepOf t p len a .answer) ≡ 10)
   step-number-low a =
-      let x = answerNumber (stepOf t p len a .answer) in
-      ⊎-elim (λ e. inl (leb-true x 6 e)) (λ e. inr (eqb-true x 10 e))
-      (or-cases (leb x 6) (eqb x 10) (one-of-all low x (answersOf p a) (step-numbers t p len a) (all a)))
+      by-step (λ s. (answerNumber (s .answer) ≤ 6) ⊎ (answerNumber (s .answer) ≡ 10)) t p len a
+      (λ why r. refused why (refuses t p len a why r)) (λ x d. inl (omega arith))
     where
-      all : (a : Action) → allOf low (answersOf p a) ≡ true
-      all (Lookup i k) = refl
-      all (Join i seed) = refl
-      all (RequestLease i) = refl
-      all (LeaseExpired i j) = refl
-      all (GrantExpired i j) = refl
-      all (Take place) = row-of-all low takeNumbers (messageAt p place .kind) refl
+      refused : (why : Refusal) → Refuses t p len a why → (refusalNumber why ≤ 6) ⊎ (refusalNumber why ≡ 10)
+      refused why (ten s e) = inr e
+      refused why (one e) = inl (omega arith)
+      refused why (named e) = inl (named-low p a why e)
 
   module _ (place : ℕ) where
     not-answered : (y : ℕ) → allOf (other y) (answersOf p (Take place)) ≡ true
@@ -214,7 +223,7 @@ module _ (t : Table) (p : Pool) (len : ℕ) where
         (one-of-all (λ k. allOf (other 6) (getD takeNumbers k [])) (messageAt p place .kind) (1 ∷ 2 ∷ 6 ∷ 7 ∷ 8 ∷ []) h refl)
 
     -- 6. 5 always: the Take of a NoLegalRoute is never done
-    pub take-kind-6 : isSound t p len ≡ true → inRange t p (Take place) ≡ true → messageAt p place .kind ≡ 6
+    pub take-kind-6 : isSound t p len ≡ true → asked t p (Take place) .range ≡ true → messageAt p place .kind ≡ 6
         → stepOf t p len (Take place) ≡ refusedOf t p no.Partner
     unfolding stepOf settle planTake
     take-kind-6 s r k =

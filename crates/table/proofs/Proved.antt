@@ -6,11 +6,12 @@ use mathlib.Core.Bool.{true}
 use mathlib.Core.List.{List}
 use Prim.Native.Nat.{ℕ, _^_, _<_, _≤_}
 use native.Mathlib.Omega.{arith}
-use lib.Dec.{ltb}
 use lib.ListN.{length}
 use lib.Seq.{set-out, getD-set-same, getD-set-other, map-set-same}
 use borrow.Author.Tests.{ltb-true}
-use Rattle.marks.proofs.Bools.{and-right, lt-or-le, eq-or-ne}
+use Rattle.marks.proofs.Bools.{and-left, lt-or-le, eq-or-ne}
+use Rattle.marks.specs.declared.Found.{Found}
+use Rattle.marks.specs.declared.Found.the-variants.{At, Nothing}
 use Rattle.rules.specs.declared.Node.{Node}
 use Rattle.rules.specs.declared.Message.{Message}
 use Rattle.rules.specs.declared.Pool.{Pool}
@@ -26,7 +27,7 @@ use Rattle.rules.specs.Plans.{mailed}
 use Rattle.rules.specs.Pool.{messageAt, waiting}
 use Rattle.table_type.specs.declared.Table.{Table}
 use Rattle.table.specs.Settled.{deadSet}
-use Rattle.table.specs.Step.{inRange}
+use Rattle.table.specs.Step.{asked, remaining, plannedOf}
 use Rattle.table_type.specs.Table.{nodeAt, withNode, idOf, idsOf, ringOf}
 use Rattle.pool.proofs.Laws.{All, all-at, all-index, all-removed, all-mailed, waiting-at, waiting-short, laid-at, waiting-laid}
 use Rattle.pool.proofs.Laws.{Apart, apart-different, apart-removed, apart-mailed}
@@ -34,7 +35,7 @@ use Rattle.table.proofs.Nodes.{NodeRules, node-rules}
 use Rattle.table.proofs.Obeys.{obeys}
 use Rattle.table.proofs.Sound.{Sound, sound-valid}
 use Rattle.table.specs.Claims.{KeepsValid, SameRing, KeepsRing, RefusalKeeps}
-use Rattle.table.proofs.By.{slotOf, remainingOf, plannedOf, DoneWith, leavesOf, slot-in-range, by-step, step-refused, step-done}
+use Rattle.table.proofs.By.{DoneWith, leavesOf, slot-in-range, by-step, step-refused, step-done}
 use Rattle.table.proofs.Comes.{go-comes}
 use Rattle.table.proofs.Plans.{Fits, FinePlan, FinePlanned, fine-fits}
 use Rattle.table.proofs.Plans.{fine-lookup, fine-join, fine-request-lease, fine-lease-expired, fine-grant-expired}
@@ -46,13 +47,14 @@ module _ {t : Table} {p : Pool} (s : Sound t p) where
   listed-rules : (i : ℕ) → i < t .n → NodeRules (ringOf t) i (nodeAt t i)
   listed-rules i h = node-rules (ringOf t) i (nodeAt t i) (s .node i h)
 
-  planned-fine : (a : Action) → inRange t p a ≡ true → FinePlanned (ringOf t) (slotOf p a) (nodeAt t (slotOf p a)) (plannedOf t p a)
+  pub planned-fine : (a : Action) → asked t p a .range ≡ true
+      → FinePlanned (ringOf t) (asked t p a .slot) (nodeAt t (asked t p a .slot)) (plannedOf (asked t p a))
   planned-fine (Lookup i k) e =
       let h = slot-in-range s (Lookup i k) e in
-      fine-lookup h (listed-rules i h) (waits (waiting p) (placed (lookup k) i)) k (ltb-true k (2 ^ t .m) (and-right (ltb i (t .n)) _ e))
+      fine-lookup h (listed-rules i h) (waits (waiting p) (placed (lookup k) i)) k (ltb-true k (2 ^ t .m) (and-left _ _ e))
   planned-fine (Join i seed) e =
       let h = slot-in-range s (Join i seed) e in
-      fine-join h (listed-rules i h) (joinWaits (waiting p) i) seed (nodeAt t seed) (ltb-true seed (t .n) (and-right (ltb i (t .n)) _ e))
+      fine-join h (listed-rules i h) (joinWaits (waiting p) i) seed (nodeAt t seed) (ltb-true seed (t .n) (and-left _ _ e))
   planned-fine (RequestLease i) e =
       let h = slot-in-range s (RequestLease i) e in
       fine-request-lease h (listed-rules i h) (idsOf t)
@@ -67,7 +69,7 @@ module _ {t : Table} {p : Pool} (s : Sound t p) where
       fine-take (s .listed) (o .dest-in) (listed-rules (messageAt p place .dest) (o .dest-in)) (deadSet t) o
 
 pub done-fine : {t : Table} {p : Pool} {len : ℕ} {a : Action} {x : Plan} → DoneWith t p len a x
-    → FinePlan (ringOf t) (slotOf p a) (nodeAt t (slotOf p a)) x
+    → FinePlan (ringOf t) (asked t p a .slot) (nodeAt t (asked t p a .slot)) x
 done-fine {a = a} {x = x} d = go-comes (planned-fine (d .sound) a (d .in-range)) x (d .plan)
 
 -- ---- one node written
@@ -86,14 +88,10 @@ written-ids t i v e = map-set-same idOf (t .nodes) i v noNode e
 
 -- ---- the messages that wait when additions begin
 
-by-left : (C : List Message → Type 0) (p : Pool) (a : Action) → C (waiting p) → ((place : ℕ) → C (removedAt (waiting p) place))
-    → C (remainingOf p a)
-by-left C p (Lookup i k) all less = all
-by-left C p (Join i seed) all less = all
-by-left C p (RequestLease i) all less = all
-by-left C p (LeaseExpired i j) all less = all
-by-left C p (GrantExpired i j) all less = all
-by-left C p (Take place) all less = less place
+by-left : (C : List Message → Type 0) (p : Pool) (gone : Found) → C (waiting p) → ((place : ℕ) → C (removedAt (waiting p) place))
+    → C (remaining p gone)
+by-left C p (At place) all less = less place
+by-left C p Nothing all less = all
 
 module _ {t : Table} {p : Pool} (s : Sound t p) (a : Action) where
   pub waiting-fit : All (Fits (ringOf t)) (waiting p)
@@ -101,13 +99,13 @@ module _ {t : Table} {p : Pool} (s : Sound t p) (a : Action) where
       all-index (waiting p)
       (λ q l. let k : q < p .count = omega (arith, waiting-short p) in rw (waiting-at p q k) (s .message q k))
 
-  left-fit : All (Fits (ringOf t)) (remainingOf p a)
-  left-fit = by-left (All (Fits (ringOf t))) p a waiting-fit (λ place. all-removed place waiting-fit)
+  left-fit : All (Fits (ringOf t)) (remaining p (asked t p a .gone))
+  left-fit = by-left (All (Fits (ringOf t))) p (asked t p a .gone) waiting-fit (λ place. all-removed place waiting-fit)
 
-  left-apart : Apart (remainingOf p a)
+  left-apart : Apart (remaining p (asked t p a .gone))
   left-apart =
       let apart : Apart (waiting p) = apart-different (waiting p) .1 (s .different) in
-      by-left Apart p a apart (λ place. apart-removed place apart)
+      by-left Apart p (asked t p a .gone) apart (λ place. apart-removed place apart)
 
 -- ---- a done step
 
@@ -116,8 +114,8 @@ module _ {t : Table} {p : Pool} {len : ℕ} {a : Action} {x : Plan} (d : DoneWit
   done-sound =
       let s = d .sound in
       let fine = done-fine d in
-      let i = slotOf p a in
-      let zs = mailed x (remainingOf p a) in
+      let i = asked t p a .slot in
+      let zs = mailed x (remaining p (asked t p a .gone)) in
       let fit : All (Fits (ringOf t)) zs = all-mailed (fine .mail) (left-fit s a) in
       let apart : Apart zs = apart-mailed x (left-apart s a) in
       record {
@@ -131,7 +129,7 @@ module _ {t : Table} {p : Pool} {len : ℕ} {a : Action} {x : Plan} (d : DoneWit
       }
 
   pub done-ring : SameRing t (leavesOf t p a x .table)
-  done-ring = record { m = refl; l = refl; n = refl; ids = written-ids t (slotOf p a) (x .node) (done-fine d .same-id) }
+  done-ring = record { m = refl; l = refl; n = refl; ids = written-ids t (asked t p a .slot) (x .node) (done-fine d .same-id) }
 
 -- ---- what Keeps states
 

@@ -1,61 +1,103 @@
--- The step: one definition of what each action answers and leaves, for every table, pool, list length and action. Assumes nothing.
+-- The step: what each action asks, and from it what every step answers and leaves, for every table, pool, list length and action.
+-- Definitions only. Assumes nothing.
 use mathlib.Core.Bool.{Bool, true, false, cond, _&&_}
 use mathlib.Core.List.{List}
 use Prim.Native.Nat.{ℕ, _^_}
 use lib.Dec.{eqb, ltb}
-use Rattle.rules.specs.declared.Message.{Message}
-use Rattle.table_type.specs.declared.Table.{Table}
-use Rattle.rules.specs.declared.Pool.{Pool}
-use Rattle.rules.specs.declared.Refusal.the-variants as no
-use Rattle.table_type.specs.declared.Stepped.{Stepped}
-use Rattle.rules.specs.Limits.{messagesHigh}
-use Rattle.table_type.specs.Table.{nodeAt, idsOf, ringOf}
-use Rattle.rules.specs.Nodes.{placed}
-use Rattle.rules.specs.Pool.{waiting, messageAt}
-use Rattle.rules.specs.Mail.{removedAt}
-use Rattle.table.specs.Valid.{validOf}
+use Rattle.marks.specs.declared.Found.{Found}
+use Rattle.marks.specs.declared.Found.the-variants.{At, Nothing}
 use Rattle.rules.specs.declared.Action.{Action}
 use Rattle.rules.specs.declared.Action.the-variants.{Lookup, Join, RequestLease, LeaseExpired, GrantExpired, Take}
-use Rattle.rules.specs.Letters.{lookup}
-use Rattle.table.specs.Settle.{refusedOf, settle}
-use Rattle.rules.specs.Actions.{waits, joinWaits, planLookup, planJoin, planRequestLease, planLeaseExpired, planGrantExpired}
-use Rattle.rules.specs.Take.{planTake}
-use Rattle.table.specs.Settled.{deadSet}
-use Rattle.rules.specs.declared.Action.the-variants.{Take}
+use Rattle.rules.specs.declared.Message.{Message}
 use Rattle.rules.specs.declared.Planned.{Planned}
+use Rattle.rules.specs.declared.Pool.{Pool}
+use Rattle.rules.specs.declared.Refusal.the-variants as no
+use Rattle.rules.specs.Actions.{waits, joinWaits, planLookup, planJoin, planRequestLease, planLeaseExpired, planGrantExpired}
+use Rattle.rules.specs.Letters.{lookup}
+use Rattle.rules.specs.Limits.{messagesHigh}
+use Rattle.rules.specs.Mail.{removedAt}
+use Rattle.rules.specs.Nodes.{placed}
+use Rattle.rules.specs.Pool.{waiting, messageAt}
+use Rattle.rules.specs.Take.{planTake}
+use Rattle.table_type.specs.declared.Stepped.{Stepped}
+use Rattle.table_type.specs.declared.Table.{Table}
+use Rattle.table_type.specs.Table.{nodeAt, idsOf, ringOf}
+use Rattle.table.specs.Settle.{refusedOf, settle}
+use Rattle.table.specs.Settled.{deadSet}
+use Rattle.table.specs.Valid.{validOf}
 
--- 1: slot, place or key out of range
-abbrev pub inRange : Table → Pool → Action → Bool
-inRange t p (Lookup i k) = ltb i (t .n) && ltb k (2 ^ t .m)
-inRange t p (Join i seed) = ltb i (t .n) && ltb seed (t .n)
-inRange t p (RequestLease i) = ltb i (t .n)
-inRange t p (LeaseExpired i j) = ltb i (t .n) && ltb j (t .n)
-inRange t p (GrantExpired i j) = ltb i (t .n) && ltb j (t .n)
-inRange t p (Take place) = ltb place (p .count)
+-- what an action asks: its slots, place and key are in range; the place whose message goes, if one does; the slot whose node acts; the
+-- same request already waits; and what is planned, told whether it does
+pub record Asked : Type 0 where
+  pub range : Bool
+  pub gone : Found
+  pub slot : ℕ
+  pub repeated : Bool
+  pub plan : Bool → Planned
 
--- Take(place): handles that message m at its destination i; when done, m is removed first, then additions follow
-abbrev pub takeOf : Table → Pool → ℕ → Message → Stepped
-takeOf t p place m =
-    settle t p (removedAt (waiting p) place) (m .dest)
-    (planTake (m .kind) (ringOf t) (idsOf t) (deadSet t) (m .dest) (nodeAt t (m .dest)) m)
+-- ---- the three ways to ask
 
-abbrev pub actOf : Table → Pool → Action → Stepped
-actOf t p (Lookup i k) = settle t p (waiting p) i (planLookup (waits (waiting p) (placed (lookup k) i)) i k (nodeAt t i))
-actOf t p (Join i seed) = settle t p (waiting p) i (planJoin (joinWaits (waiting p) i) i (nodeAt t i) seed (nodeAt t seed))
-actOf t p (RequestLease i) = settle t p (waiting p) i (planRequestLease (ringOf t) (idsOf t) i (nodeAt t i))
-actOf t p (LeaseExpired i j) = settle t p (waiting p) i (planLeaseExpired (ringOf t) (idsOf t) i (nodeAt t i) j)
-actOf t p (GrantExpired i j) = settle t p (waiting p) i (planGrantExpired i (nodeAt t i) j (nodeAt t j))
-actOf t p (Take place) = takeOf t p place (messageAt p place)
+abbrev pub isSlot : Table → ℕ → Bool
+isSlot t i = ltb i (t .n)
+
+abbrev pub isKey : Table → ℕ → Bool
+isKey t k = ltb k (2 ^ t .m)
+
+-- of the node of slot i, where 3 is asked; `more` says whether the other numbers are in range
+abbrev pub requests : Table → ℕ → Bool → Bool → (Bool → Planned) → Asked
+requests t i more there plan = record { range = more && isSlot t i; gone = Nothing; slot = i; repeated = there; plan = plan }
+
+-- of the node of slot i, where it is not
+abbrev pub acts : Table → ℕ → Bool → Planned → Asked
+acts t i more what = requests t i more false (λ there. what)
+
+-- of the destination of the message that waits at a place
+abbrev pub takes : Pool → ℕ → (Message → Planned) → Asked
+takes p place plan =
+    record {
+      range = ltb place (p .count);
+      gone = At place;
+      slot = messageAt p place .dest;
+      repeated = false;
+      plan = λ there. plan (messageAt p place);
+    }
+
+-- what Take plans for message m, at its destination i
+abbrev pub takenOf : Table → Message → Planned
+takenOf t m = planTake (m .kind) (ringOf t) (idsOf t) (deadSet t) (m .dest) (nodeAt t (m .dest)) m
+
+-- ---- what each action asks
+
+abbrev pub asked : Table → Pool → Action → Asked
+asked t p (Lookup i k) =
+    requests t i (isKey t k) (waits (waiting p) (placed (lookup k) i)) (λ there. planLookup there i k (nodeAt t i))
+asked t p (Join i seed) =
+    requests t i (isSlot t seed) (joinWaits (waiting p) i) (λ there. planJoin there i (nodeAt t i) seed (nodeAt t seed))
+asked t p (RequestLease i) = acts t i true (planRequestLease (ringOf t) (idsOf t) i (nodeAt t i))
+asked t p (LeaseExpired i j) = acts t i (isSlot t j) (planLeaseExpired (ringOf t) (idsOf t) i (nodeAt t i) j)
+asked t p (GrantExpired i j) = acts t i (isSlot t j) (planGrantExpired i (nodeAt t i) j (nodeAt t j))
+asked t p (Take place) = takes p place (takenOf t)
+
+-- ---- the step
+
+-- when done, m is removed first, then additions follow
+abbrev pub remaining : Pool → Found → List Message
+remaining p (At place) = removedAt (waiting p) place
+remaining p Nothing = waiting p
+
+abbrev pub plannedOf : Asked → Planned
+plannedOf x = x .plan (x .repeated)
+
+abbrev pub actOf : Table → Pool → Asked → Stepped
+actOf t p x = settle t p (remaining p (x .gone)) (x .slot) (plannedOf x)
 
 -- a message list with exactly 256 places, and a valid table
 unfoldable pub isSound : Table → Pool → ℕ → Bool
 isSound t p len = eqb len messagesHigh && validOf t p
 
--- 10 before anything else, then 1, then what the action says
+-- 10 before anything else; then 1: slot, place or key out of range; then what the action asks
 unfoldable pub stepOf : Table → Pool → ℕ → Action → Stepped
 stepOf t p len a =
-    cond (isSound t p len) (cond (inRange t p a) (actOf t p a) (refusedOf t p no.OutOfRange)) (refusedOf t p no.Invalid)
-
--- what Take plans for message m
-abbrev pub takenOf : Table → Message → Planned
-takenOf t m = planTake (m .kind) (ringOf t) (idsOf t) (deadSet t) (m .dest) (nodeAt t (m .dest)) m
+    cond (isSound t p len)
+    (cond (asked t p a .range) (actOf t p (asked t p a)) (refusedOf t p no.OutOfRange))
+    (refusedOf t p no.Invalid)

@@ -6,18 +6,15 @@ use lib.Dec.{leb}
 use lib.ListN.{length}
 use Rattle.rules.specs.declared.Pool.{Pool}
 use Rattle.rules.specs.declared.Plan.{Plan}
-use Rattle.rules.specs.declared.Planned.{Planned}
-use Rattle.rules.specs.declared.Planned.the-variants.{Go}
 use Rattle.rules.specs.declared.Refusal.the-variants as no
 use Rattle.rules.specs.Plans.{mailed}
 use Rattle.rules.specs.Pool.{waiting, laid}
 use Rattle.pool.specs.declared.New.{New}
 use Rattle.pool.proofs.NewOnes.{news-room}
-use Rattle.pool.specs.InnerSending.{leftOf, newsOf, roomOf, slotted}
+use Rattle.pool.specs.InnerSending.{leftOf, newsOf, roomOf}
 use Rattle.table_type.specs.declared.Table.{Table}
 use Rattle.table_type.specs.Table.{withNode}
 use Rattle.table.specs.Settle.{refusedOf, doneOf, carriedOut}
-use Rattle.table_parts.proofs.Slots.{Slotted, slotsOf}
 
 module _ (t : Table) (p : Pool) (gone i : ℕ) (x : Plan) (w : New) (whole : length (waiting p) ≡ p .count) (told : w ≡ newsOf x (leftOf p gone)) where
   room-is : roomOf (p .count) gone w ≡ leb (length (mailed x (leftOf p gone))) 256
@@ -30,6 +27,3 @@ module _ (t : Table) (p : Pool) (gone i : ℕ) (x : Plan) (w : New) (whole : len
   pub full : roomOf (p .count) gone w ≡ false → refusedOf t p no.Full ≡ carriedOut t p (leftOf p gone) i x
   unfolding carriedOut
   full e = rw (sym room-is ∙ e)
-
-pub slotted-plan : (what : Planned) (x : Plan) → what ≡ Go x → Slotted what → slotted (x .to) ≡ true
-slotted-plan what x e s = ap slotsOf (sym e) ∙ s .is

@@ -1,2 +1,2 @@
+pub mod Lowered
 pub mod Settles
-pub mod Laws

@@ -1,1 +1,1 @@
-pub mod InnerAsked
+pub mod InnerLowered

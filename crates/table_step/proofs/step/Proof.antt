@@ -1,4 +1,4 @@
--- `step::step` meets its contract. What it tells first decides the definition's case: the table is sound, the action in range, the plan goes and
+-- `step` meets its contract. What it tells first decides the definition's case: the table is sound, the action in range, the plan goes and
 -- has room (Settles). Then three loops make the pool after the plan, one after the other. The gap: the places below `at` are those of what is
 -- left, and those from it on are as they were (Closed). The slots, once the first new message is put (Put): what is written, followed by the
 -- copies that are still to come, is what is to wait (Filling). The blanks: of the places below `at`, those past the count are blank (Blanked).
@@ -26,19 +26,19 @@ use Rattle.pool.proofs.Gaps.{Closed, next-low, closed-none, closed-more, closed
 use Rattle.pool.proofs.Gaps.{Filling, filling-none, fewer, filling-low, filling-more, filling-end}
 use Rattle.pool.proofs.Gaps.{Blanked, blanked-none, blanked-more, blanked-end}
 use Rattle.pool.proofs.Fresh.{slot-low, new-slot, new-fit, one-fits, after-is}
-use Rattle.table_parts.proofs.Slots.{Slotted}
-use Rattle.table_parts.proofs.Laws.{fits, full, slotted-plan}
-use Rattle.table.proofs.Sound.{sound, is-valid}
+use Rattle.table_parts.proofs.Laws.{fits, full}
+use Rattle.table_plan.specs.declared.Asking.{Asking}
+use Rattle.table_plan.specs.InnerAsked.{Called, Asks, slotWith}
+use Rattle.table_plan.proofs.Called.{counted}
 use Rattle.table_type.specs.declared.Table.{Table}
-use Rattle.table.specs.Settle.{refusedOf, doneOf}
-use Rattle.table.specs.Step.{inRange, isSound}
 use Rattle.table_type.specs.Table.{withNode}
+use Rattle.table.specs.Settle.{refusedOf, doneOf}
+use Rattle.table.specs.Step.{asked, plannedOf, isSound}
 use Rattle.table.specs.Valid.{validOf}
-use Rattle.table_step.specs.InnerAsked.{readOf, repeatedOf, slotWith, plannedWith}
-use Rattle.table_step.proofs.Settles.{no-request, counted, numbered, plannable, plan-slotted, lowered-valid}
-use Rattle.table_step.proofs.Settles.{step-invalid, step-range}
-use Rattle.table_step.proofs.Settles.{slot-low as acting-low}
-use Rattle.table_step.proofs.Laws.{sound-is, plan-told, refuses, carries, first-told}
+use Rattle.table.proofs.Sound.{sound, is-valid}
+use Rattle.table_step.proofs.Lowered.{lowered-valid}
+use Rattle.table_step.proofs.Settles.{sound-is, step-invalid, step-range, calls, plan-slotted}
+use Rattle.table_step.proofs.Settles.{readOf, reads, acts-low, refuses, carries, first-told}
 use Rattle.table_step.proofs.step.Statement.{statement}
 use Rattle.table_step.proofs.step.Tie as tie
 
@@ -61,8 +61,8 @@ Inv-blanks len u q₀ valid gone request there i none rest n at₀ q at = Blanke
 abbrev μ-blanks : tie.MeasureT-blanks
 μ-blanks len u q₀ valid gone request there i none rest n at₀ q at = 256 - at
 
--- ---- where the walk stands: validity told, the table sound, the action in range, its place read, whether it is repeated, its plan, the plan that
--- goes, its new messages, room for them, and the gap about to be closed
+-- ---- where the walk stands: validity told, the table sound, what is asked told, the action in range, whether it is repeated, its plan, the
+-- plan that goes, its new messages, room for them, and the gap about to be closed
 
 abbrev Tested : Type 0
 Tested = tie.After-is-valid Inv-gap μ-gap Inv-slots μ-slots Inv-blanks μ-blanks
@@ -70,14 +70,14 @@ Tested = tie.After-is-valid Inv-gap μ-gap Inv-slots μ-slots Inv-blanks μ-blan
 abbrev Sure : Type 0
 Sure = tie.Else1 Inv-gap μ-gap Inv-slots μ-slots Inv-blanks μ-blanks
 
+abbrev Told : Type 0
+Told = tie.After-asked Inv-gap μ-gap Inv-slots μ-slots Inv-blanks μ-blanks
+
 abbrev Within : Type 0
 Within = tie.Else2 Inv-gap μ-gap Inv-slots μ-slots Inv-blanks μ-blanks
 
-abbrev Read : Type 0
-Read = tie.After-gone-of Inv-gap μ-gap Inv-slots μ-slots Inv-blanks μ-blanks
-
-abbrev Asked : Type 0
-Asked = tie.Joined3 Inv-gap μ-gap Inv-slots μ-slots Inv-blanks μ-blanks
+abbrev Repeated : Type 0
+Repeated = tie.Joined3 Inv-gap μ-gap Inv-slots μ-slots Inv-blanks μ-blanks
 
 abbrev Aimed : Type 0
 Aimed = tie.After-planned Inv-gap μ-gap Inv-slots μ-slots Inv-blanks μ-blanks
@@ -85,8 +85,8 @@ Aimed = tie.After-planned Inv-gap μ-gap Inv-slots μ-slots Inv-blanks μ-blanks
 abbrev Going : Type 0
 Going = tie.After-what Inv-gap μ-gap Inv-slots μ-slots Inv-blanks μ-blanks
 
-abbrev Told : Type 0
-Told = tie.Joined4 Inv-gap μ-gap Inv-slots μ-slots Inv-blanks μ-blanks
+abbrev Newly : Type 0
+Newly = tie.Joined4 Inv-gap μ-gap Inv-slots μ-slots Inv-blanks μ-blanks
 
 abbrev Roomed : Type 0
 Roomed = tie.Else5 Inv-gap μ-gap Inv-slots μ-slots Inv-blanks μ-blanks
@@ -116,80 +116,81 @@ begun c = c .before .before .before .before
 is-sound : (c : Sure) → isSound (begun c .args .t) (begun c .args .p) (begun c .args .len) ≡ true
 is-sound c = let s = begun c .args in sound-is (s .t) (s .p) (s .len) _ (told (c .before)) ∙ not-false _ (c .if1 .left)
 
-valid : (c : Sure) → validOf (begun c .args .t) (begun c .args .p) ≡ true
-valid c = is-valid (begun c .args .t) (begun c .args .p) (begun c .args .len) (is-sound c)
+asks-is : (c : Told) → let s = begun (c .before) .args in Asks (s .t .m) (s .t .n) (s .p .count) (s .a) (c .asked .result)
+asks-is c = c .asked .ensures
 
-abbrev sure : (c : Within) → Sure
-sure c = c .before .before
+abbrev asks : (c : Within) → Told
+asks c = c .before .before
 
-in-range : (c : Within) → inRange (begun (sure c) .args .t) (begun (sure c) .args .p) (begun (sure c) .args .a) ≡ true
-in-range c = sym (c .before .in-range .ensures) ∙ not-false _ (c .if2 .left)
+abbrev start : (c : Within) → Start
+start c = begun (asks c .before)
+
+called : (c : Within) → Called (start c .args .t) (start c .args .p) (start c .args .a)
+called c =
+    let s = start c .args in
+    calls (s .t) (s .p) (s .len) (s .a) (is-sound (asks c .before)) _ (asks-is (asks c)) (not-false _ (c .if2 .left))
 
 -- ---- the plan
 
-abbrev read : (c : Asked) → Read
-read c = c .before .before .before
+abbrev within : (c : Repeated) → Within
+within c = c .before .before
 
 abbrev aim : (c : Aimed) → Within
-aim c = read (c .before) .before
+aim c = within (c .before)
 
-there-is : (c : Asked) → let s = begun (sure (read c .before)) .args in c .if3 .there ≡ repeatedOf (s .p) (s .a)
+there-is : (c : Repeated) → let s = start (within c) .args in c .if3 .there ≡ asked (s .t) (s .p) (s .a) .repeated
 there-is c =
-    let s = begun (sure (read c .before)) .args in
-    ⊎-elim (λ w. w .2 ∙ w .1 .ensures) (λ w. w .1 ∙ no-request (s .p) (s .a) (sym (c .before .is-request .ensures) ∙ w .0 .left)) (c .if3 .came)
+    let s = start (within c) .args in
+    ⊎-elim {C = c .if3 .there ≡ asked (start (within c) .args .t) (start (within c) .args .p) (start (within c) .args .a) .repeated}
+    (λ w. w .2 ∙ w .1 .ensures (s .t)) (λ w. w .1 ∙ asks-is (asks (within c)) .unasked (w .0 .left) (s .t) (s .p)) (c .if3 .came)
 
-planned-is : (c : Aimed)
-    → let s = begun (sure (aim c)) .args in c .planned .result ≡ plannedWith (s .t) (repeatedOf (s .p) (s .a)) (readOf (s .p) (s .a)) (s .a)
+planned-is : (c : Aimed) → let s = start (aim c) .args in c .planned .result ≡ plannedOf (asked (s .t) (s .p) (s .a))
 planned-is c =
     let e = aim c in
-    let s = begun (sure e) .args in
-    plan-told (s .t) (s .p) (s .len) (s .a) (is-sound (sure e)) (in-range e) _ _ _ (there-is (c .before)) (read (c .before) .gone-of .ensures) (c .planned .ensures)
+    let s = start e .args in
+    c .planned .ensures (s .p) (reads (called e) _ (asks-is (asks e))) ∙ ap (asked (s .t) (s .p) (s .a) .plan) (there-is (c .before))
 
-abbrev going : (c : Told) → Going
+abbrev going : (c : Newly) → Going
 going c = c .before .before .before .before
 
-abbrev asked : (c : Told) → Aimed
-asked c = going c .before .before
+abbrev aimed : (c : Newly) → Aimed
+aimed c = going c .before .before
 
-abbrev told-plan : (c : Told) → Plan
+abbrev told-plan : (c : Newly) → Plan
 told-plan c = going c .what .given .0 .0
 
-abbrev told-gone : (c : Told) → ℕ
-told-gone c = read (asked c .before) .gone-of .result
+abbrev told-asks : (c : Newly) → Asking
+told-asks c = asks (aim (aimed c)) .asked .result
 
-abbrev table-of : (c : Told) → Table
-table-of c = begun (sure (aim (asked c))) .args .t
+abbrev told-gone : (c : Newly) → ℕ
+told-gone c = told-asks c .gone
 
-abbrev pool-of : (c : Told) → Pool
-pool-of c = begun (sure (aim (asked c))) .args .p
+abbrev table-of : (c : Newly) → Table
+table-of c = start (aim (aimed c)) .args .t
+
+abbrev pool-of : (c : Newly) → Pool
+pool-of c = start (aim (aimed c)) .args .p
 
 slotted-of : (c : Going) → slotted (c .what .given .0 .0 .to) ≡ true
-slotted-of c =
-    let k = c .before .before in
-    let e = aim k in
-    let s = begun (sure e) .args in
-    slotted-plan _ _ (c .what .given .1)
-    (subst Slotted (sym (planned-is k)) (plan-slotted (s .t) (s .p) (valid (sure e)) (s .a) (in-range e)))
+slotted-of c = let k = c .before .before in plan-slotted (called (aim k)) _ (sym (planned-is k) ∙ c .what .given .1)
 
-long : (c : Told) → length (pool-of c .places) ≡ 256
-long c = let s = sure (aim (asked c)) .before .before .before .before in places-length (s .args .p) _ (s .good .1 .0)
+long : (c : Newly) → length (pool-of c .places) ≡ 256
+long c = let s = start (aim (aimed c)) in places-length (s .args .p) _ (s .good .1 .0)
 
-counted-of : (c : Told) → pool-of c .count ≤ 256
-counted-of c = counted (table-of c) (pool-of c) (valid (sure (aim (asked c))))
+counted-of : (c : Newly) → pool-of c .count ≤ 256
+counted-of c = counted (called (aim (aimed c)))
 
-whole : (c : Told) → length (waiting (pool-of c)) ≡ pool-of c .count
+whole : (c : Newly) → length (waiting (pool-of c)) ≡ pool-of c .count
 whole c = waiting-length (pool-of c) (counted-of c) (long c)
 
-new-is : (c : Told) → c .if4 .new ≡ newsOf (told-plan c) (leftOf (pool-of c) (told-gone c))
+new-is : (c : Newly) → c .if4 .new ≡ newsOf (told-plan c) (leftOf (pool-of c) (told-gone c))
 new-is c =
-    let k = asked c in
-    let e = aim k in
-    let s = begun (sure e) .args in
-    ⊎-elim (λ w. w .2 ∙ w .1 .ensures)
+    let e = aim (aimed c) in
+    ⊎-elim {C = c .if4 .new ≡ newsOf (told-plan c) (leftOf (pool-of c) (told-gone c))} (λ w. w .2 ∙ w .1 .ensures)
     (λ w.
     w .1 ∙ c .before .before .first-new .ensures
-    ∙ first-told (s .t) (s .p) (s .len) (s .a) (is-sound (sure e)) (in-range e) _ (told-plan c) (told-gone c) _ _ (planned-is k) (going c .what .given .1)
-    (read (k .before) .gone-of .ensures) (c .before .sends .ensures) (k .before .before .is-request .ensures) (w .0 .left))
+    ∙ first-told (called e) (told-asks c) (asks-is (asks e)) (start e .args .len) (is-sound (asks e .before)) _ (planned-is (aimed c))
+    (told-plan c) _ (going c .what .given .1) (c .before .sends .ensures) (w .0 .left))
     (c .if4 .came)
 
 roomy : (c : Roomed) → let k = c .before .before in Roomy (pool-of k) (told-gone k) (told-plan k) (k .if4 .new)
@@ -226,21 +227,20 @@ returns c =
     c .answered .ensures
     ∙ step-invalid (s .t) (s .p) (s .len) (s .a) (sound-is (s .t) (s .p) (s .len) _ (told (c .before .before)) ∙ not-true _ (c .before .if1 .taken))
 
-in-range-requires : tie.Need-in-range-requires Inv-gap μ-gap Inv-slots μ-slots Inv-blanks μ-blanks
-in-range-requires c κs = let s = begun c .args in sound (s .t) (s .p) (valid c) .numbers .m-high
+asked-requires : tie.Need-asked-requires Inv-gap μ-gap Inv-slots μ-slots Inv-blanks μ-blanks
+asked-requires c κs =
+    let s = begun c .args in
+    sound (s .t) (s .p) (is-valid (s .t) (s .p) (s .len) (is-sound c)) .numbers .m-high
 
 answered-requires-2 : tie.Need-answered-requires-2 Inv-gap μ-gap Inv-slots μ-slots Inv-blanks μ-blanks
 answered-requires-2 c κs = search needs
 
 returns-2 : tie.Need-returns-2 Inv-gap μ-gap Inv-slots μ-slots Inv-blanks μ-blanks
 returns-2 c =
-    let k = c .before .before in
+    let k = c .before .before .before in
     let s = begun (k .before) .args in
     c .answered2 .ensures
-    ∙ step-range (s .t) (s .p) (s .len) (s .a) (is-sound (k .before)) (sym (k .in-range .ensures) ∙ not-true _ (c .before .if2 .taken))
-
-gone-of-requires : tie.Need-gone-of-requires Inv-gap μ-gap Inv-slots μ-slots Inv-blanks μ-blanks
-gone-of-requires c κs = search needs
+    ∙ step-range (s .t) (s .p) (s .len) (s .a) (is-sound (k .before)) _ (asks-is k) (not-true _ (c .before .if2 .taken))
 
 mul-m : tie.Need-mul-m Inv-gap μ-gap Inv-slots μ-slots Inv-blanks μ-blanks
 mul-m c = omega arith
@@ -248,20 +248,11 @@ mul-m c = omega arith
 element-copy-out-m : tie.Need-element-copy-out-m Inv-gap μ-gap Inv-slots μ-slots Inv-blanks μ-blanks
 element-copy-out-m c = omega arith
 
-is-request-requires : tie.Need-is-request-requires Inv-gap μ-gap Inv-slots μ-slots Inv-blanks μ-blanks
-is-request-requires c κs = search needs
-
 repeated-requires : tie.Need-repeated-requires Inv-gap μ-gap Inv-slots μ-slots Inv-blanks μ-blanks
-repeated-requires c κs =
-    let e = c .before .before .before .before in
-    let s = begun (sure e) .args in
-    (counted (s .t) (s .p) (valid (sure e)), numbered (s .t) (s .p) (valid (sure e)) (s .a) (in-range e))
+repeated-requires c κs = let e = c .before .before in (start e .args .t, called e)
 
 planned-requires : tie.Need-planned-requires Inv-gap μ-gap Inv-slots μ-slots Inv-blanks μ-blanks
-planned-requires c κs =
-    let e = read c .before in
-    let s = begun (sure e) .args in
-    rw (read c .gone-of .ensures) (plannable (s .t) (s .p) (valid (sure e)) (s .a) (in-range e))
+planned-requires c κs = let e = within c in (start e .args .p, called e, reads (called e) _ (asks-is (asks e)))
 
 enum-known-what : tie.Need-enum-known-what Inv-gap μ-gap Inv-slots μ-slots Inv-blanks μ-blanks
 enum-known-what c = search needs
@@ -279,9 +270,10 @@ returns-3 : tie.Need-returns-3 Inv-gap μ-gap Inv-slots μ-slots Inv-blanks μ-b
 returns-3 c =
     let k = c .before .before in
     let e = aim (k .before .before) in
-    let s = begun (sure e) .args in
+    let s = start e .args in
     c .answered3 .ensures ∙ ap (refusedOf (s .t) (s .p)) (c .before .why-of .ensures)
-    ∙ refuses (s .t) (s .p) (s .len) (s .a) (is-sound (sure e)) (in-range e) _ _ (planned-is (k .before .before)) (k .enum-told .given .1)
+    ∙ refuses (called e) _ (asks-is (asks e)) (s .len) (is-sound (asks e .before)) _ (planned-is (k .before .before)) _
+    (k .enum-told .given .1)
 
 first-new-requires : tie.Need-first-new-requires Inv-gap μ-gap Inv-slots μ-slots Inv-blanks μ-blanks
 first-new-requires c κs = search needs
@@ -290,11 +282,7 @@ sends-requires : tie.Need-sends-requires Inv-gap μ-gap Inv-slots μ-slots Inv-b
 sends-requires c κs = search needs
 
 news-requires : tie.Need-news-requires Inv-gap μ-gap Inv-slots μ-slots Inv-blanks μ-blanks
-news-requires c κs =
-    let w = c .before .before .before .before in
-    let e = aim (w .before .before) in
-    let s = begun (sure e) .args in
-    (counted (s .t) (s .p) (valid (sure e)), slotted-of w)
+news-requires c κs = let w = c .before .before .before .before in (counted (called (aim (w .before .before))), slotted-of w)
 
 room-requires : tie.Need-room-requires Inv-gap μ-gap Inv-slots μ-slots Inv-blanks μ-blanks
 room-requires c κs = counted-of c
@@ -305,13 +293,14 @@ answered-requires-4 c κs = search needs
 returns-4 : tie.Need-returns-4 Inv-gap μ-gap Inv-slots μ-slots Inv-blanks μ-blanks
 returns-4 c =
     let k = c .before .before .before in
-    let e = aim (asked k) in
-    let s = begun (sure e) .args in
+    let e = aim (aimed k) in
+    let s = start e .args in
+    let m = readOf (called e) (told-asks k) (asks-is (asks e)) in
     c .answered4 .ensures
-    ∙ full (s .t) (s .p) (told-gone k) (slotWith (messageAt (s .p) (told-gone k % 256)) (s .a)) (told-plan k) _ (whole k) (new-is k)
+    ∙ full (s .t) (s .p) (told-gone k) (slotWith (told-asks k) m) (told-plan k) _ (whole k) (new-is k)
     (sym (c .before .before .room .ensures) ∙ not-true _ (c .before .if5 .taken))
-    ∙ carries (s .t) (s .p) (s .len) (s .a) (is-sound (sure e)) (in-range e) _ (told-plan k) (told-gone k) _ (planned-is (asked k)) (going k .what .given .1)
-    (read (asked k .before) .gone-of .ensures) refl
+    ∙ carries (called e) (told-asks k) (asks-is (asks e)) (s .len) (is-sound (asks e .before)) _ (planned-is (aimed k)) (told-plan k) _
+    (going k .what .given .1) refl
 
 slot-of-requires : tie.Need-slot-of-requires Inv-gap μ-gap Inv-slots μ-slots Inv-blanks μ-blanks
 slot-of-requires c κs = search needs
@@ -319,9 +308,8 @@ slot-of-requires c κs = search needs
 slot-fits : (c : tie.After-slot-of Inv-gap μ-gap Inv-slots μ-slots Inv-blanks μ-blanks) → c .slot-of .result < 64
 slot-fits c =
     let k = c .before .before .before in
-    let e = aim (asked k) in
-    let s = begun (sure e) .args in
-    rw (c .slot-of .ensures, read (asked k .before) .gone-of .ensures) (acting-low (s .t) (s .p) (valid (sure e)) (s .a) (in-range e))
+    let e = aim (aimed k) in
+    rw (c .slot-of .ensures) (acts-low (called e) (told-asks k) (asks-is (asks e)))
 
 mul-v : tie.Need-mul-v Inv-gap μ-gap Inv-slots μ-slots Inv-blanks μ-blanks
 mul-v c = omega (arith, slot-fits (c .before))
@@ -387,8 +375,8 @@ low-one c =
     let l = c .before .before .before .before .before .before in
     one-fits _ _ _ (new-of l) (roomy (ready l)) _ _ (l .left-count .ensures) (c .before .before .one .given .1)
 
-mul-t66 : tie.Need-mul-t66 Inv-gap μ-gap Inv-slots μ-slots Inv-blanks μ-blanks
-mul-t66 c = omega (arith, low-one c)
+mul-t68 : tie.Need-mul-t68 Inv-gap μ-gap Inv-slots μ-slots Inv-blanks μ-blanks
+mul-t68 c = omega (arith, low-one c)
 
 element-set-from-q : tie.Need-element-set-from-q Inv-gap μ-gap Inv-slots μ-slots Inv-blanks μ-blanks
 element-set-from-q c = low-one c
@@ -452,8 +440,8 @@ low-next c =
     let k = c .before .before in
     filling-low _ _ _ _ _ _ (lowest k) (k .before .before .before .before .slots .inv)
 
-mul-t71 : tie.Need-mul-t71 Inv-gap μ-gap Inv-slots μ-slots Inv-blanks μ-blanks
-mul-t71 c = omega (arith, low-next c)
+mul-t73 : tie.Need-mul-t73 Inv-gap μ-gap Inv-slots μ-slots Inv-blanks μ-blanks
+mul-t73 c = omega (arith, low-next c)
 
 element-set-from-q-2 : tie.Need-element-set-from-q-2 Inv-gap μ-gap Inv-slots μ-slots Inv-blanks μ-blanks
 element-set-from-q-2 c = low-next c
@@ -506,8 +494,8 @@ returns-5 c =
     let l = k .before .before .before .before in
     let y = ready l in
     let j = y .before .before in
-    let e = aim (asked j) in
-    let s = begun (sure e) .args in
+    let e = aim (aimed j) in
+    let s = start e .args in
     let none = sym (o .before .before .lowest .ensures) ∙ o .enum-told3 .given .1 in
     c .answered5 .ensures
     ∙ ap (doneOf (withNode (s .t) (l .before .before .before .slot-of .result) (told-plan j .node)))
@@ -515,8 +503,8 @@ returns-5 c =
     (blanked-end _ _ _ (omega (arith, k .slots .inv .room)) (k .slots .inv .long) (omega arith) (b .before .blanks .inv)
     ∙ ap laid (filling-end _ _ _ _ _ none (k .slots .inv))))
     ∙ fits (s .t) (s .p) (told-gone j) _ (told-plan j) _ (whole j) (new-is j) (roomy y .room)
-    ∙ carries (s .t) (s .p) (s .len) (s .a) (is-sound (sure e)) (in-range e) _ (told-plan j) (told-gone j) _ (planned-is (asked j)) (going j .what .given .1)
-    (read (asked j .before) .gone-of .ensures) (l .before .before .before .slot-of .ensures)
+    ∙ carries (called e) (told-asks j) (asks-is (asks e)) (s .len) (is-sound (asks e .before)) _ (planned-is (aimed j)) (told-plan j) _
+    (going j .what .given .1) (l .before .before .before .slot-of .ensures)
 
 pub step-spec : {M : Type 1} → statement M
 step-spec =
@@ -533,13 +521,11 @@ step-spec =
     is-valid-requires
     answered-requires
     returns
-    in-range-requires
+    asked-requires
     answered-requires-2
     returns-2
-    gone-of-requires
     mul-m
     element-copy-out-m
-    is-request-requires
     repeated-requires
     planned-requires
     enum-known-what
@@ -570,7 +556,7 @@ step-spec =
     enum-known-one
     cast-to-slot
     to-slot-requires
-    mul-t66
+    mul-t68
     element-set-from-q
     add-n
     enum-told-2
@@ -580,7 +566,7 @@ step-spec =
     enum-told-3
     cast-to-slot-2
     to-slot-requires-2
-    mul-t71
+    mul-t73
     element-set-from-q-2
     add-n-2
     removed-requires

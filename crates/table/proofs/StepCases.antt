@@ -1,0 +1,180 @@
+-- Small cases of the step, computed by the checker from its definition: which refusal comes first, the least number that is out of range, a
+-- request made twice, what a Take removes, what a full pool takes in, and what lies past the count afterwards. Assumes nothing.
+use mathlib.Core.Path.{_≡_, refl}
+use mathlib.Core.List.{List, [], _∷_, map}
+use Prim.Native.Nat.{ℕ}
+use lib.ListN.{replicate}
+use Rattle.ring.specs.Distance.{fallOf, wrapped, signedOf, absDistOf, risesTo, nearer, leftCoverOf, rightCoverOf, coversKey}
+use Rattle.marks.specs.Marks.{has, gather, tally, firstTo, allTo, single, union, meet, without, addOf, removeOf, sizeOf, lowestOf, listed}
+use Rattle.rules.specs.declared.Action.{Action}
+use Rattle.rules.specs.declared.Action.the-variants.{Lookup, Join, RequestLease, LeaseExpired, GrantExpired, Take}
+use Rattle.rules.specs.declared.Message.{Message}
+use Rattle.rules.specs.declared.Pool.{Pool}
+use Rattle.rules.specs.Letters.{lookup, joinRequest, noLegalRoute}
+use Rattle.rules.specs.Nodes.{placed}
+use Rattle.rules.specs.Numbers.{answerNumber}
+use Rattle.rules.specs.Pool.{waiting, lay, laid}
+use Rattle.rules.specs.Pick.{best}
+use Rattle.rules.specs.Closest.{closest}
+use Rattle.rules.specs.Leaf.{contentOf, seenFrom, leafWith, leafWithOne, overlaps, isComplete, isEmpty, coversOf}
+use Rattle.rules.specs.Hop.{leafCandidates, routeCandidates, byLeaf, leafHop, routeHop, nextHop}
+use Rattle.rules.specs.Mail.{alike, allDifferent, firstFrom, firstEqual, added, removedAt, sentTo}
+use Rattle.rules.specs.Fits.{numbersFit, idFits, sideFits, leafFits, othersFit, nodeFits, isBlank, slotFits}
+use Rattle.rules.specs.Fits.{wordFits, flagFits, carriedFits, ownerFits, routingFits, failedFits, fieldsFit, messageFits}
+use Rattle.rules.specs.Plans.{mailed}
+use Rattle.rules.specs.Actions.{waits, joinWaits, planLookup, planJoin, leasePlan, planRequestLease, isNeighbour}
+use Rattle.rules.specs.Actions.{planLeaseExpired, planGrantExpired}
+use Rattle.rules.specs.Take.{planTakeLookup, planTakeJoinRequest, planTakeJoinReply, probes2, probesOf, probePlanOf, planTakeProbe}
+use Rattle.rules.specs.Take.{statusAfterReply, replyPlanOf, planTakeProbeReply, planTakeLeaseRequest, broadcastPlan, planTakeBroadcast, planTake}
+use Rattle.table_type.specs.declared.Table.{Table}
+use Rattle.table_type.specs.declared.Stepped.{Stepped}
+use Rattle.table_type.specs.Start.{slotIds, slotsTo, startNode, startNodes, startFits, idsRise, listFits, startOf}
+use Rattle.table.specs.Valid.{nodesFit, messagesFit, poolFits, validOf}
+use Rattle.table.specs.Settle.{carriedOut, settle}
+use Rattle.table.specs.Settled.{deadSet}
+use Rattle.table.specs.Step.{asked, actOf, isSound, stepOf}
+
+-- 17, 18, 65 and 95 are ready; or 18 alone
+abbrev ring : Table
+ring = startOf 8 1 (17 ∷ 18 ∷ 65 ∷ 95 ∷ []) 15 .table
+
+abbrev alone : Table
+alone = startOf 8 1 (17 ∷ 18 ∷ 65 ∷ 95 ∷ []) 2 .table
+
+-- M below 2
+abbrev narrow : Table
+narrow = record { m = 1; l = 1; n = 4; nodes = ring .nodes }
+
+abbrev none : Pool
+none = laid []
+
+abbrev number : Table → Pool → Action → ℕ
+number t p a = answerNumber (stepOf t p 256 a .answer)
+
+-- ---- 10 before anything else, then 1, then the rest
+
+pub record Ordered : Type 0 where
+  pub list-first : answerNumber (stepOf ring none 255 (Lookup 4 0) .answer) ≡ 10
+  pub table-first : number narrow none (Lookup 4 0) ≡ 10
+  pub range-first : number ring none (Join 0 4) ≡ 1
+  pub status-then : number ring none (Join 0 1) ≡ 2
+
+-- ---- slot, place or key out of range
+
+pub record Ranges : Type 0 where
+  pub lookup-slot : number ring none (Lookup 4 0) ≡ 1
+  pub lookup-last : number ring none (Lookup 3 0) ≡ 0
+  pub key-past : number ring none (Lookup 0 256) ≡ 1
+  pub key-last : number ring none (Lookup 0 255) ≡ 0
+  pub join-slot : number alone none (Join 4 1) ≡ 1
+  pub join-last : number alone none (Join 3 1) ≡ 0
+  pub request-slot : number ring none (RequestLease 4) ≡ 1
+  pub request-last : number ring none (RequestLease 3) ≡ 2
+  pub lease-slots : (number ring none (LeaseExpired 4 0) ≡ 1) × (number ring none (LeaseExpired 0 4) ≡ 1)
+  pub lease-last : number ring none (LeaseExpired 3 3) ≡ 5
+  pub grant-slots : (number ring none (GrantExpired 4 0) ≡ 1) × (number ring none (GrantExpired 0 4) ≡ 1)
+  pub grant-last : number ring none (GrantExpired 3 3) ≡ 5
+  pub place-past : number ring (laid (placed (lookup 17) 0 ∷ [])) (Take 1) ≡ 1
+  pub place-last : number ring (laid (placed (lookup 17) 0 ∷ [])) (Take 0) ≡ 0
+
+-- ---- a request made twice
+
+pub record Repeats : Type 0 where
+  pub lookup-waits : number ring (laid (placed (lookup 200) 0 ∷ [])) (Lookup 0 200) ≡ 3
+  pub lookup-elsewhere : number ring (laid (placed (lookup 200) 1 ∷ [])) (Lookup 0 200) ≡ 0
+  pub join-waits : number alone (laid (placed (joinRequest 0 0) 3 ∷ [])) (Join 0 1) ≡ 3
+  pub join-of-another : number alone (laid (placed (joinRequest 2 0) 3 ∷ [])) (Join 0 1) ≡ 0
+
+-- ---- what waits afterwards
+
+-- the keys, and where they go
+abbrev keys : Stepped → List ℕ
+keys s = map (λ (m : Message). m .word) (waiting (s .pool))
+
+abbrev dests : Stepped → List ℕ
+dests s = map (λ (m : Message). m .dest) (waiting (s .pool))
+
+-- three lookups, each for the node that has the key
+abbrev three : Pool
+three = laid (placed (lookup 17) 0 ∷ placed (lookup 18) 1 ∷ placed (lookup 65) 2 ∷ [])
+
+-- two lie in the places, of which one waits
+abbrev one : Pool
+one = record { count = 1; places = lay (placed (lookup 17) 0 ∷ placed (lookup 18) 1 ∷ []) }
+
+pub record Waits : Type 0 where
+  -- it is that message which goes, at its destination, and the gap is closed
+  pub middle : keys (stepOf ring three 256 (Take 1)) ≡ 17 ∷ 65 ∷ []
+  pub that-one : number ring (laid (placed (lookup 17) 0 ∷ placed (noLegalRoute 17) 0 ∷ [])) (Take 1) ≡ 5
+  pub destination : asked ring three (Take 2) .slot ≡ 2
+  -- 65 is routed from 17 to 95; where an equal waits there, nothing is added
+  pub routed : dests (stepOf ring (laid (placed (lookup 65) 0 ∷ placed (lookup 18) 1 ∷ [])) 256 (Take 0)) ≡ 1 ∷ 3 ∷ []
+  pub equal : dests (stepOf ring (laid (placed (lookup 65) 0 ∷ placed (lookup 65) 3 ∷ [])) 256 (Take 0)) ≡ 3 ∷ []
+  -- what is added goes to the end, and places past the count are blank
+  pub added-last : stepOf ring one 256 (Lookup 2 65) .pool ≡ laid (placed (lookup 17) 0 ∷ placed (lookup 65) 2 ∷ [])
+  pub taken-last : stepOf ring one 256 (Take 0) .pool ≡ laid []
+  -- a refused step leaves all 256 places as they were
+  pub refused-same : stepOf ring one 256 (Lookup 4 0) .pool ≡ one
+
+-- ---- a full pool, and one with a place left
+
+abbrev filled : ℕ → Pool
+filled n = laid (placed (lookup 65) 0 ∷ replicate n (placed (lookup 17) 0))
+
+abbrev acted : Pool → Action → ℕ
+acted p a = answerNumber (actOf ring p (asked ring p a) .answer)
+
+pub record Fills : Type 0 where
+  pub one-more : acted (filled 255) (Lookup 0 18) ≡ 6
+  pub the-last : acted (filled 254) (Lookup 0 18) ≡ 0
+  -- the message taken is away first
+  pub one-for-one : acted (filled 255) (Take 0) ≡ 0
+
+pub record StepCases : Type 0 where
+  pub ordered : Ordered
+  pub ranges : Ranges
+  pub repeats : Repeats
+  pub waits-after : Waits
+  pub fills : Fills
+
+pub step-cases : StepCases
+unfolding fallOf signedOf absDistOf risesTo nearer leftCoverOf rightCoverOf coversKey has gather tally firstTo allTo single union meet
+    without addOf removeOf sizeOf lowestOf listed best closest contentOf seenFrom leafWith leafWithOne overlaps isComplete isEmpty
+    coversOf leafCandidates routeCandidates byLeaf leafHop routeHop nextHop alike allDifferent firstFrom firstEqual added removedAt
+    sentTo numbersFit idFits sideFits leafFits othersFit nodeFits isBlank slotFits wordFits flagFits carriedFits ownerFits routingFits
+    failedFits fieldsFit messageFits mailed waits joinWaits planLookup planJoin planLeaseExpired planGrantExpired leasePlan planRequestLease isNeighbour planTakeLookup
+    planTakeJoinRequest planTakeJoinReply probes2 probesOf probePlanOf planTakeProbe statusAfterReply replyPlanOf planTakeProbeReply
+    planTakeLeaseRequest broadcastPlan planTakeBroadcast planTake slotIds slotsTo startNode startNodes startFits idsRise listFits
+    startOf nodesFit messagesFit poolFits validOf carriedOut settle deadSet isSound stepOf
+step-cases =
+    record {
+      ordered = record { list-first = refl; table-first = refl; range-first = refl; status-then = refl };
+      ranges = record {
+        lookup-slot = refl;
+        lookup-last = refl;
+        key-past = refl;
+        key-last = refl;
+        join-slot = refl;
+        join-last = refl;
+        request-slot = refl;
+        request-last = refl;
+        lease-slots = (refl, refl);
+        lease-last = refl;
+        grant-slots = (refl, refl);
+        grant-last = refl;
+        place-past = refl;
+        place-last = refl;
+      };
+      repeats = record { lookup-waits = refl; lookup-elsewhere = refl; join-waits = refl; join-of-another = refl };
+      waits-after = record {
+        middle = refl;
+        that-one = refl;
+        destination = refl;
+        routed = refl;
+        equal = refl;
+        added-last = refl;
+        taken-last = refl;
+        refused-same = refl;
+      };
+      fills = record { one-more = refl; the-last = refl; one-for-one = refl };
+    }

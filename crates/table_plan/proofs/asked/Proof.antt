@@ -1,0 +1,102 @@
+-- `asked` meets its contract: the action that was matched decides the definition's case (Asks). Assumes nothing.
+use borrow.Author.Needs.{needs}
+use mathlib.Core.Bool.{true}
+use mathlib.Core.Path.{_≡_, refl, _∙_}
+use Prim.Native.Nat.{ℕ, _*_, _%_, _^_, _≤_}
+use native.Mathlib.Nat.{one-mul}
+use native.Mathlib.Omega.{arith}
+use lib.Dec.{ltb, lit<}
+use lib.Pow.{shl-exact}
+use Rattle.table.specs.Step.{takenOf}
+use Rattle.table_plan.proofs.Asks.{requests-asks, acts-asks, takes-asks, lookup-fresh, join-fresh}
+use Rattle.table_plan.proofs.asked.Statement.{statement}
+use Rattle.table_plan.proofs.asked.Tie as tie
+
+-- a one shifted by less than the width loses nothing
+size : (m : ℕ) → m ≤ 32 → 1 * 2 ^ m % 2 ^ 64 ≡ 2 ^ m
+size m h = shl-exact 1 m 64 (lit< tt) (omega arith) ∙ one-mul (2 ^ m)
+
+shl-size : tie.Need-shl-size
+shl-size c = search needs
+
+enum-known-a : tie.Need-enum-known-a
+enum-known-a c = search needs
+
+requests-requires : tie.Need-requests-requires
+requests-requires c κs = search needs
+
+enum-known-a-2 : tie.Need-enum-known-a-2
+enum-known-a-2 c = search needs
+
+requests-requires-2 : tie.Need-requests-requires-2
+requests-requires-2 c κs = search needs
+
+enum-known-a-3 : tie.Need-enum-known-a-3
+enum-known-a-3 c = search needs
+
+acts-requires : tie.Need-acts-requires
+acts-requires c κs = search needs
+
+enum-known-a-4 : tie.Need-enum-known-a-4
+enum-known-a-4 c = search needs
+
+acts-requires-2 : tie.Need-acts-requires-2
+acts-requires-2 c κs = search needs
+
+enum-known-a-5 : tie.Need-enum-known-a-5
+enum-known-a-5 c = search needs
+
+acts-requires-3 : tie.Need-acts-requires-3
+acts-requires-3 c κs = search needs
+
+enum-known-a-6 : tie.Need-enum-known-a-6
+enum-known-a-6 c = search needs
+
+takes-requires : tie.Need-takes-requires
+takes-requires c κs = search needs
+
+returns : tie.Need-returns
+returns c =
+    rw (c .requests .ensures, c .before .before .a .given .1, size _ (c .before .before .before .before .pre))
+    (requests-asks _ _ _ _ _ (λ m n. ltb _ (2 ^ m)) _ _ (λ t p. refl) (λ t p x h. lookup-fresh t p x h _ _))
+
+returns-2 : tie.Need-returns-2
+returns-2 c =
+    rw (c .requests2 .ensures, c .before .before .a2 .given .1)
+    (requests-asks _ _ _ _ _ (λ m n. ltb _ n) _ _ (λ t p. refl) (λ t p x h. join-fresh t p x h _ _))
+
+returns-3 : tie.Need-returns-3
+returns-3 c = rw (c .acts .ensures, c .before .before .a3 .given .1) (acts-asks _ _ _ _ _ (λ m n. true) _ (λ t p. refl))
+
+returns-4 : tie.Need-returns-4
+returns-4 c = rw (c .acts2 .ensures, c .before .before .a4 .given .1) (acts-asks _ _ _ _ _ (λ m n. ltb _ n) _ (λ t p. refl))
+
+returns-5 : tie.Need-returns-5
+returns-5 c = rw (c .acts3 .ensures, c .before .before .a5 .given .1) (acts-asks _ _ _ _ _ (λ m n. ltb _ n) _ (λ t p. refl))
+
+returns-6 : tie.Need-returns-6
+returns-6 c = rw (c .takes .ensures, c .before .before .a6 .given .1) (takes-asks _ _ _ _ _ takenOf (λ t p. refl))
+
+pub asked-spec : {M : Type 1} → statement M
+asked-spec =
+    tie.close
+    (tie.spec
+    shl-size
+    enum-known-a
+    requests-requires
+    enum-known-a-2
+    requests-requires-2
+    enum-known-a-3
+    acts-requires
+    enum-known-a-4
+    acts-requires-2
+    enum-known-a-5
+    acts-requires-3
+    enum-known-a-6
+    takes-requires
+    returns
+    returns-2
+    returns-3
+    returns-4
+    returns-5
+    returns-6)

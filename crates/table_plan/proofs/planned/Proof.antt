@@ -1,0 +1,111 @@
+-- `planned` meets its contract: the action that was matched decides the definition's case, and what is asked of each. Assumes nothing.
+use borrow.Author.Needs.{needs}
+use mathlib.Core.Path.{_≡_, refl, sym, _∙_, ap, subst}
+use Rattle.marks.proofs.Bools.{and-left}
+use Rattle.rules.specs.declared.Action.{Action}
+use Rattle.rules.specs.declared.Planned.{Planned}
+use Rattle.rules.specs.declared.Pool.{Pool}
+use Rattle.table.specs.Step.{takenOf, asked}
+use Rattle.table_plan.specs.InnerAsked.{Called, Read}
+use Rattle.table_plan.proofs.Called.{is-listed, low, slot-low, key-low, taken-obeys}
+use Rattle.table_plan.proofs.planned.Statement.{statement}
+use Rattle.table_plan.proofs.planned.Tie as tie
+
+called : (c : tie.Start) (b : Action) → c .args .a ≡ b → Called (c .args .t) (c .pre .0) b
+called c b e = subst (Called (c .args .t) (c .pre .0)) e (c .pre .1)
+
+read : (c : tie.Start) (p : Pool) (b : Action) → c .args .a ≡ b → Read (c .args .t) p (c .args .a) (c .args .m)
+    → Read (c .args .t) p b (c .args .m)
+read c p b e r = subst (λ (a : Action). Read (c .args .t) p a (c .args .m)) e r
+
+abbrev plan : (c : tie.Start) → Pool → Action → Planned
+plan c p b = asked (c .args .t) p b .plan (c .args .there)
+
+enum-known-a : tie.Need-enum-known-a
+enum-known-a c = search needs
+
+plan-of-lookup-requires : tie.Need-plan-of-lookup-requires
+plan-of-lookup-requires c κs = let k = called (c .before .before .before) _ (c .before .a .given .1) in (slot-low k, key-low k)
+
+enum-known-a-2 : tie.Need-enum-known-a-2
+enum-known-a-2 c = search needs
+
+plan-of-join-requires : tie.Need-plan-of-join-requires
+plan-of-join-requires c κs =
+    let k = called (c .before .before .before) _ (c .before .a2 .given .1) in
+    (slot-low k, low k _ (and-left _ _ (k .range)))
+
+enum-known-a-3 : tie.Need-enum-known-a-3
+enum-known-a-3 c = search needs
+
+plan-of-request-requires : tie.Need-plan-of-request-requires
+plan-of-request-requires c κs = let k = called (c .before .before .before) _ (c .before .a3 .given .1) in (is-listed k, slot-low k)
+
+enum-known-a-4 : tie.Need-enum-known-a-4
+enum-known-a-4 c = search needs
+
+plan-of-lease-requires : tie.Need-plan-of-lease-requires
+plan-of-lease-requires c κs = let k = called (c .before .before .before) _ (c .before .a4 .given .1) in (is-listed k, slot-low k)
+
+enum-known-a-5 : tie.Need-enum-known-a-5
+enum-known-a-5 c = search needs
+
+plan-of-grant-requires : tie.Need-plan-of-grant-requires
+plan-of-grant-requires c κs =
+    let k = called (c .before .before .before) _ (c .before .a5 .given .1) in
+    (slot-low k, low k _ (and-left _ _ (k .range)))
+
+enum-told : tie.Need-enum-told
+enum-told c = search needs
+
+plan-of-take-requires : tie.Need-plan-of-take-requires
+plan-of-take-requires c κs =
+    let s = c .before .before in
+    let k = called s _ (c .enum-told .given .1) in
+    let o = taken-obeys k (read s (s .pre .0) _ (c .enum-told .given .1) (s .pre .2) .is _ refl) in
+    (is-listed k, o .0, o .1)
+
+returns : tie.Need-returns
+returns c = λ p r.
+    c .plan-of-lookup .ensures ∙ ap (plan (c .before .before .before .before) p) (sym (c .before .before .a .given .1))
+
+returns-2 : tie.Need-returns-2
+returns-2 c = λ p r. c .plan-of-join .ensures ∙ ap (plan (c .before .before .before .before) p) (sym (c .before .before .a2 .given .1))
+
+returns-3 : tie.Need-returns-3
+returns-3 c = λ p r. c .plan-of-request .ensures ∙ ap (plan (c .before .before .before .before) p) (sym (c .before .before .a3 .given .1))
+
+returns-4 : tie.Need-returns-4
+returns-4 c = λ p r. c .plan-of-lease .ensures ∙ ap (plan (c .before .before .before .before) p) (sym (c .before .before .a4 .given .1))
+
+returns-5 : tie.Need-returns-5
+returns-5 c = λ p r. c .plan-of-grant .ensures ∙ ap (plan (c .before .before .before .before) p) (sym (c .before .before .a5 .given .1))
+
+returns-6 : tie.Need-returns-6
+returns-6 c = λ p r.
+    let s = c .before .before .before in
+    let e = c .before .enum-told .given .1 in
+    c .plan-of-take .ensures ∙ ap (takenOf (s .args .t)) (sym (read s p _ e r .is _ refl)) ∙ ap (plan s p) (sym e)
+
+pub planned-spec : {M : Type 1} → statement M
+planned-spec =
+    tie.close
+    (tie.spec
+    enum-known-a
+    plan-of-lookup-requires
+    enum-known-a-2
+    plan-of-join-requires
+    enum-known-a-3
+    plan-of-request-requires
+    enum-known-a-4
+    plan-of-lease-requires
+    enum-known-a-5
+    plan-of-grant-requires
+    enum-told
+    plan-of-take-requires
+    returns
+    returns-2
+    returns-3
+    returns-4
+    returns-5
+    returns-6)
