@@ -1,16 +1,40 @@
--- Three messages, two of them for node 2 and one for node 0, counted and looked for by the language's checker. Assumes nothing.
+-- Three messages, two of them for node 2 and one for node 0, counted and looked for by the language's checker; what is answered of them on a ring
+-- of three ready nodes, and with counts that disagree. Each answer's number by name. Assumes nothing.
 use mathlib.Core.Path.{_≡_, refl}
 use mathlib.Core.Bool.{true, false}
 use mathlib.Core.List.{List, [], _∷_, _++_}
 use Prim.Native.Nat.{ℕ}
 use lib.ListN.{replicate}
+use Rattle.ring.specs.Distance.{fallOf}
 use Rattle.marks.specs.declared.Found.the-variants.{At, Nothing}
-use Rattle.marks.specs.Marks.{tally, firstTo, allTo}
+use Rattle.marks.specs.Marks.{has, gather, tally, firstTo, allTo, single, meet, addOf, removeOf, sizeOf, listed}
+use Rattle.rules.specs.declared.Action.the-variants.{Lookup}
+use Rattle.rules.specs.declared.Answer.the-variants.{Refused}
 use Rattle.rules.specs.declared.Pool.{Pool}
+use Rattle.rules.specs.declared.Refusal.the-variants as no
+use Rattle.rules.specs.Closest.{closest}
+use Rattle.rules.specs.Fits.{numbersFit, idFits, sideFits, leafFits, othersFit, nodeFits, isBlank, slotFits}
+use Rattle.rules.specs.Fits.{wordFits, flagFits, carriedFits, ownerFits, routingFits, failedFits, fieldsFit, messageFits}
+use Rattle.rules.specs.Leaf.{seenFrom, leafWith}
 use Rattle.rules.specs.Letters.{lookup}
+use Rattle.rules.specs.Mail.{alike, allDifferent}
 use Rattle.rules.specs.Nodes.{placed}
+use Rattle.rules.specs.Pick.{best}
 use Rattle.rules.specs.Pool.{waiting, laid}
-use Rattle.counts.specs.Counts.{countFor, numbersTo, countsOf, agreeOf, firstFor}
+use Rattle.table_type.specs.declared.Table.{Table}
+use Rattle.table_type.specs.Start.{slotIds, slotsTo, startNode, startNodes, startFits, idsRise, listFits, startOf}
+use Rattle.table.specs.Step.{isSound}
+use Rattle.table.specs.Valid.{nodesFit, messagesFit, poolFits, validOf}
+use Rattle.file.specs.Bytes.{bytesOf, numberOf, encode, decode, encodeAll, decodeAll}
+use Rattle.file.specs.Load.{headerFits, offsetsFit, statusesFit, fileTable, partPool, filePool, loadOf}
+use Rattle.face_table.specs.declared.Rest.the-variants as rest
+use Rattle.face_table.specs.Asked.{startStep}
+use Rattle.counts.specs.declared.Counted.{Counted}
+use Rattle.counts.specs.declared.Has.the-variants as has-message
+use Rattle.counts.specs.declared.First.the-variants as first
+use Rattle.counts.specs.declared.Polled.the-variants as polled
+use Rattle.counts.specs.Counts.{countFor, numbersTo, countsOf, agreeOf, isSoundCounted, afterBy, stepWith, loadWith, startWith}
+use Rattle.counts.specs.Counts.{wroteWith, writtenWith, restWith, hasOf, firstFor, firstOf, polledOf, hasNumber, firstNumber, polledNumber}
 
 abbrev three : Pool
 three = laid (placed (lookup 80) 2 ∷ placed (lookup 200) 0 ∷ placed (lookup 9) 2 ∷ [])
@@ -46,3 +70,106 @@ first-behind = refl
 pub none-for-one : firstFor (waiting three) 1 ≡ Nothing
 unfolding firstFor firstTo
 none-for-one = refl
+
+-- ---- on a ring of three ready nodes
+
+abbrev nodes : Table
+nodes = startOf 8 1 (17 ∷ 18 ∷ 65 ∷ []) 7 .table
+
+abbrev here : Counted
+here = record { table = nodes; pool = three; counts = (1 ∷ 0 ∷ 2 ∷ []) ++ zeros }
+
+-- one message is forgotten
+abbrev wrong : Counted
+wrong = record { table = nodes; pool = three; counts = (1 ∷ 0 ∷ 1 ∷ []) ++ zeros }
+
+-- one message alone, for node 2
+abbrev one : Counted
+one = record { table = nodes; pool = laid (placed (lookup 80) 2 ∷ []); counts = (0 ∷ 0 ∷ 1 ∷ []) ++ zeros }
+
+-- a table file: node 17 is ready alone, and no message waits
+abbrev word : ℕ → List ℕ
+word x = x ∷ 0 ∷ 0 ∷ 0 ∷ []
+
+abbrev wide : ℕ → List ℕ
+wide x = x ∷ 0 ∷ 0 ∷ 0 ∷ 0 ∷ 0 ∷ 0 ∷ 0 ∷ []
+
+abbrev quiet : List ℕ
+quiet =
+    word 8 ++ word 1 ++ word 1 ++ word 0 ++ word 32 ++ word 96 ++ word 96 ++ word 0
+    ++ word 17 ++ word 3 ++ wide 0 ++ wide 0 ++ wide 0 ++ wide 0 ++ wide 1 ++ wide 1 ++ wide 1
+
+pub record Answers : Type 0 where
+  pub has-one : hasOf here 256 0 ≡ has-message.Yes
+  pub has-none : hasOf here 256 1 ≡ has-message.No
+  -- 1 for a slot out of range; 10 comes before it
+  pub has-no-slot : hasOf here 256 3 ≡ has-message.NotAsked no.OutOfRange
+  pub has-wrong : hasOf wrong 256 3 ≡ has-message.NotAsked no.Invalid
+  pub has-no-list : hasOf here 255 3 ≡ has-message.NotAsked no.Invalid
+  pub first-one : firstOf here 256 0 ≡ first.At 1
+  pub first-none : firstOf here 256 1 ≡ first.None
+  pub first-no-slot : firstOf here 256 3 ≡ first.NotAsked no.OutOfRange
+  pub first-wrong : firstOf wrong 256 3 ≡ first.NotAsked no.Invalid
+  pub polled-two : polledOf here 256 ≡ polled.Nodes 5
+  pub polled-one : polledOf one 256 ≡ polled.Nodes 4
+  pub polled-wrong : polledOf wrong 256 ≡ polled.NotAsked no.Invalid
+  -- counts that disagree: no step, no file, no word of settled
+  pub step-wrong : stepWith wrong 256 (Lookup 0 80) .answer ≡ Refused no.Invalid
+  pub wrote-wrong : wroteWith wrong 256 [] .answer ≡ Refused no.Invalid
+  pub written-wrong : writtenWith wrong 256 (7 ∷ []) ≡ 7 ∷ []
+  pub rest-wrong : restWith wrong 256 ≡ rest.NotAsked no.Invalid
+  -- a load and a start work them out; a refusal leaves them
+  pub loaded : loadWith quiet wrong 256 .counted .counts ≡ replicate 64 0
+  pub started : startWith wrong 256 8 1 (17 ∷ []) 1 .counted .counts ≡ replicate 64 0
+  pub not-loaded : loadWith [] wrong 256 .counted .counts ≡ wrong .counts
+  -- the numbers
+  pub has-yes-is-0 : hasNumber has-message.Yes ≡ 0
+  pub has-no-is-0 : hasNumber has-message.No ≡ 0
+  pub has-out-is-1 : hasNumber (has-message.NotAsked no.OutOfRange) ≡ 1
+  pub has-invalid-is-10 : hasNumber (has-message.NotAsked no.Invalid) ≡ 10
+  pub first-at-is-0 : firstNumber (first.At 3) ≡ 0
+  pub first-none-is-0 : firstNumber first.None ≡ 0
+  pub first-out-is-1 : firstNumber (first.NotAsked no.OutOfRange) ≡ 1
+  pub first-invalid-is-10 : firstNumber (first.NotAsked no.Invalid) ≡ 10
+  pub polled-nodes-is-0 : polledNumber (polled.Nodes 5) ≡ 0
+  pub polled-invalid-is-10 : polledNumber (polled.NotAsked no.Invalid) ≡ 10
+
+pub answers : Answers
+unfolding fallOf has gather tally firstTo allTo single meet addOf removeOf sizeOf listed closest numbersFit idFits sideFits leafFits othersFit
+    nodeFits isBlank slotFits wordFits flagFits carriedFits ownerFits routingFits failedFits fieldsFit messageFits seenFrom leafWith alike
+    allDifferent best slotIds slotsTo startNode startNodes startFits idsRise listFits startOf isSound nodesFit messagesFit poolFits validOf
+    bytesOf numberOf encode decode encodeAll decodeAll headerFits offsetsFit statusesFit fileTable partPool filePool loadOf startStep
+    countFor numbersTo countsOf agreeOf isSoundCounted afterBy stepWith loadWith startWith wroteWith writtenWith restWith hasOf firstFor
+    firstOf polledOf
+answers =
+    record {
+      has-one = refl;
+      has-none = refl;
+      has-no-slot = refl;
+      has-wrong = refl;
+      has-no-list = refl;
+      first-one = refl;
+      first-none = refl;
+      first-no-slot = refl;
+      first-wrong = refl;
+      polled-two = refl;
+      polled-one = refl;
+      polled-wrong = refl;
+      step-wrong = refl;
+      wrote-wrong = refl;
+      written-wrong = refl;
+      rest-wrong = refl;
+      loaded = refl;
+      started = refl;
+      not-loaded = refl;
+      has-yes-is-0 = refl;
+      has-no-is-0 = refl;
+      has-out-is-1 = refl;
+      has-invalid-is-10 = refl;
+      first-at-is-0 = refl;
+      first-none-is-0 = refl;
+      first-out-is-1 = refl;
+      first-invalid-is-10 = refl;
+      polled-nodes-is-0 = refl;
+      polled-invalid-is-10 = refl;
+    }

@@ -1,5 +1,5 @@
 -- A rehearsal computed from the definitions: node 17 is ready alone, a lookup of 200 is added, then taken and delivered. The files are
--- written out byte by byte. Each reply's number by name. Assumes nothing.
+-- written out byte by byte. Then one step of the checker by itself. Each reply's number by name. Assumes nothing.
 use mathlib.Core.Path.{_≡_, refl}
 use mathlib.Core.Bool.{true, false}
 use mathlib.Core.List.{List, [], _∷_, _++_}
@@ -8,6 +8,7 @@ use lib.ListN.{take}
 use Rattle.ring.specs.Distance.{fallOf, leftCoverOf, rightCoverOf, coversKey}
 use Rattle.marks.specs.Marks.{has, tally, allTo, sizeOf, listed}
 use Rattle.rules.specs.declared.Action.the-variants.{Lookup, Take}
+use Rattle.rules.specs.declared.Refusal.the-variants as no
 use Rattle.rules.specs.Actions.{waits, planLookup}
 use Rattle.rules.specs.Fits.{numbersFit, idFits, sideFits, leafFits, othersFit, nodeFits, isBlank, slotFits}
 use Rattle.rules.specs.Fits.{wordFits, flagFits, carriedFits, ownerFits, routingFits, failedFits, fieldsFit, messageFits}
@@ -15,18 +16,23 @@ use Rattle.rules.specs.Leaf.{seenFrom, coversOf}
 use Rattle.rules.specs.Mail.{alike, allDifferent, firstFrom, firstEqual, added, removedAt, sentTo}
 use Rattle.rules.specs.Pick.{best}
 use Rattle.rules.specs.Plans.{mailed}
+use Rattle.rules.specs.Pool.{laid}
 use Rattle.rules.specs.Take.{planTakeLookup, planTake}
-use Rattle.table.specs.Settle.{carriedOut, settle}
+use Rattle.table_type.specs.declared.Stepped.{Stepped}
+use Rattle.table_type.specs.declared.Table.{Table}
+use Rattle.table_type.specs.Start.{noTable}
+use Rattle.table.specs.Settle.{carriedOut, settle, doneOf, refusedOf}
 use Rattle.table.specs.Step.{isSound, stepOf}
 use Rattle.table.specs.Valid.{nodesFit, messagesFit, poolFits, validOf}
 use Rattle.file.specs.Bytes.{bytesOf, numberOf, encode, decode, encodeAll, decodeAll}
 use Rattle.file.specs.Format.{fileOf}
 use Rattle.file.specs.Load.{headerFits, offsetsFit, statusesFit, fileTable, partPool, filePool, loadOf}
 use Rattle.face_file.specs.Calls.{loadedOf}
+use Rattle.rehearsal.specs.declared.Checker.{Checker}
 use Rattle.rehearsal.specs.declared.Verdict.the-variants.{Accepted, Bad}
 use Rattle.rehearsal.specs.declared.Reply.the-variants.{LookedAt, Over}
 use Rattle.rehearsal.specs.Rehearsal.{Claim, agreesWith, verdictFrom, verdictOf, beginOf, isOpen, checkedOf, handedOf, replyNumber}
-use Rattle.rehearsal.specs.Claims.{checkerOf, answered}
+use Rattle.rehearsal.specs.Claims.{checkerOf}
 
 -- 32 and 64 bits whose first byte is x
 abbrev word : ℕ → List ℕ
@@ -60,35 +66,58 @@ looks file = record { action = Lookup 0 200; file = file }
 abbrev takes : List ℕ → Claim
 takes file = record { action = Take 0; file = file }
 
+-- a step that was done and left the table of no node with M = 2, one that was refused, and the file of it: 32 bytes
+abbrev left : Table
+left = record { m = 2; l = 0; n = 0; nodes = noTable .nodes }
+
+abbrev done : Stepped
+done = doneOf left (laid [])
+
+abbrev undone : Stepped
+undone = refusedOf left (laid []) no.Status
+
+abbrev bytes : List ℕ
+bytes = word 2 ++ word 0 ++ word 0 ++ word 0 ++ word 32 ++ word 32 ++ word 32 ++ word 0
+
+-- a checker that has found three steps good, and one that has found the fourth bad; their pool says that a message waits
+abbrev three : Checker
+three = record { verdict = Accepted; steps = 3; table = noTable; pool = record { count = 1; places = [] } }
+
+abbrev ended : Checker
+ended = record { verdict = Bad 4; steps = 3; table = noTable; pool = laid [] }
+
 pub record Cases : Type 0 where
+  -- a whole rehearsal, good; possibly none; the first or second step bad, the second refused: that Lookup waits
   pub good : verdictOf quiet (looks (looking 200) ∷ takes quiet ∷ []) ≡ Accepted
-  -- possibly none
   pub none : verdictOf quiet [] ≡ Accepted
   pub no-start : verdictOf [] (looks (looking 200) ∷ takes quiet ∷ []) ≡ Bad 0
   pub byte-changed : verdictOf quiet (looks (looking 201) ∷ takes quiet ∷ []) ≡ Bad 1
-  pub byte-more : verdictOf quiet (looks (looking 200 ++ (0 ∷ [])) ∷ takes quiet ∷ []) ≡ Bad 1
-  -- the last byte of the stated file
-  pub last-byte : verdictOf quiet (looks (take 151 (looking 200) ++ (1 ∷ [])) ∷ takes quiet ∷ []) ≡ Bad 1
-  pub byte-less : verdictOf quiet (looks (looking 200) ∷ takes (take 95 quiet) ∷ []) ≡ Bad 2
-  -- the lookup is not taken
-  pub unchanged : verdictOf quiet (looks (looking 200) ∷ takes (looking 200) ∷ []) ≡ Bad 2
-  -- the second is refused: that Lookup waits
   pub refused : verdictOf quiet (looks (looking 200) ∷ looks (looking 200) ∷ []) ≡ Bad 2
   pub singly : checkerOf quiet (looks (looking 200) ∷ takes quiet ∷ []) .verdict ≡ Accepted
-  pub singly-counted : checkerOf quiet (looks (looking 200) ∷ takes quiet ∷ []) .steps ≡ 2
-  pub singly-none : checkerOf quiet [] .steps ≡ 0
-  pub singly-no-start : checkerOf [] [] .verdict ≡ Bad 0
-  -- the first step is bad: its number is 1, and none was found good
-  pub singly-bad : checkerOf quiet (looks (looking 201) ∷ []) .verdict ≡ Bad 1
-  pub singly-bad-counted : checkerOf quiet (looks (looking 201) ∷ []) .steps ≡ 0
-  -- a further one after it changes nothing
-  pub singly-ended : checkerOf quiet (looks (looking 200) ∷ takes (looking 200) ∷ takes quiet ∷ []) .verdict ≡ Bad 2
-  pub singly-ended-counted : checkerOf quiet (looks (looking 200) ∷ takes (looking 200) ∷ takes quiet ∷ []) .steps ≡ 1
-  -- at most 1,000
+  -- precisely the stated file: the last byte, a byte more, a byte less
+  pub same-bytes : agreesWith done bytes ≡ true
+  pub last-byte : agreesWith done (take 31 bytes ++ (1 ∷ [])) ≡ false
+  pub byte-more : agreesWith done (bytes ++ (0 ∷ [])) ≡ false
+  pub byte-less : agreesWith done (take 31 bytes) ≡ false
+  pub not-done : agreesWith undone bytes ≡ false
+  -- the start
+  pub begins : beginOf [] .verdict ≡ Bad 0
+  pub begins-at-0 : beginOf [] .steps ≡ 0
+  -- a good step: one more, on the table and with the messages after it
+  pub one-more : checkedOf three done bytes .steps ≡ 4
+  pub table-after : checkedOf three done bytes .table .m ≡ 2
+  pub pool-after : checkedOf three done bytes .pool .count ≡ 0
+  -- a bad one: its number is the next, and the rest stays
+  pub bad-number : checkedOf three done [] .verdict ≡ Bad 4
+  pub bad-not-counted : checkedOf three done [] .steps ≡ 3
+  pub bad-table : checkedOf three done [] .table .m ≡ 0
+  -- 12 after an end or beyond 1,000, and the checker stays as it is
   pub thousandth : isOpen Accepted 999 ≡ true
   pub beyond : isOpen Accepted 1000 ≡ false
-  pub ended : answered quiet (looks (looking 201) ∷ []) (takes quiet) ≡ 12
-  pub going-on : answered quiet (looks (looking 200) ∷ []) (takes quiet) ≡ 0
+  pub after-end : replyNumber (handedOf ended (Take 0) [] .reply) ≡ 12
+  pub after-end-verdict : handedOf ended (Take 0) [] .checker .verdict ≡ Bad 4
+  pub after-end-steps : handedOf ended (Take 0) [] .checker .steps ≡ 3
+  pub going-on : replyNumber (handedOf three (Take 0) [] .reply) ≡ 0
   -- the numbers
   pub looked-at-is-0 : replyNumber LookedAt ≡ 0
   pub over-is-12 : replyNumber Over ≡ 12
@@ -105,22 +134,26 @@ cases =
       none = refl;
       no-start = refl;
       byte-changed = refl;
-      byte-more = refl;
-      last-byte = refl;
-      byte-less = refl;
-      unchanged = refl;
       refused = refl;
       singly = refl;
-      singly-counted = refl;
-      singly-none = refl;
-      singly-no-start = refl;
-      singly-bad = refl;
-      singly-bad-counted = refl;
-      singly-ended = refl;
-      singly-ended-counted = refl;
+      same-bytes = refl;
+      last-byte = refl;
+      byte-more = refl;
+      byte-less = refl;
+      not-done = refl;
+      begins = refl;
+      begins-at-0 = refl;
+      one-more = refl;
+      table-after = refl;
+      pool-after = refl;
+      bad-number = refl;
+      bad-not-counted = refl;
+      bad-table = refl;
       thousandth = refl;
       beyond = refl;
-      ended = refl;
+      after-end = refl;
+      after-end-verdict = refl;
+      after-end-steps = refl;
       going-on = refl;
       looked-at-is-0 = refl;
       over-is-12 = refl;

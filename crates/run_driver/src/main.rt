@@ -6,24 +6,24 @@ ghost use mathlib.Core.Path.{_≡_};
 ghost use lib.ListN.{length};
 ghost use mir.Syntax.{w64};
 ghost use mir.Val.{ofZ};
+use counts::After;
+use counts::Counted;
+use counts::First;
 use face_c::Asked;
 use face_table::Rest;
 use file::Wrote;
 use libc::STDIN_FILENO;
 use libc::STDOUT_FILENO;
-use counts::After;
-use counts::Counted;
-use counts::First;
 use rehearsal::Checker;
 use rehearsal::Handed;
 use rehearsal::Verdict;
+use rules::Answer;
+use table_type::Stepped;
 use water::Held;
 use water::Looked;
 use water::Placed;
 use water::Record;
 use water::Store;
-use rules::Answer;
-use table_type::Stepped;
 
 // A number, and how many bytes of the buffer are the result.
 struct Reply {
