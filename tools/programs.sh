@@ -1,5 +1,5 @@
-# For the wrappers of bin/, which set `here` and `tool` and source this: the proved programs run_listing and run_driver, and the command ring, are built where they are
-# missing or their sources have changed. Building is told on standard error: a line for each crate that is proved, and one every ten seconds at least. The
+# For the wrappers of bin/, which set `here` and `tool` and source this: the proved programs, and the command ring, are built where they are missing or their
+# sources have changed. Building is told on standard error: a line for each crate that is proved, and one every ten seconds at least. The
 # prover's words go to a log.
 programs=(run_listing run_driver)
 log=$here/target/log/build.txt
@@ -68,7 +68,7 @@ needed() {
 
 # The first line says what is done; it is left out where nothing is to be proved.
 tell() {
-    [ -n "$headed" ] || echo "$tool: proves and builds ${programs[*]} from $all crates; the prover's words go to target/log/build.txt" >&2
+    [ -n "$headed" ] || echo "$tool: proves and builds the programs from $all crates; the prover's words go to target/log/build.txt" >&2
     headed=1
     echo "$*" >&2
     told=$SECONDS
@@ -142,7 +142,7 @@ companion() {
 # Whether the words ask something of the proved code.
 needs_driver() {
     local word
-    case ${1:-} in '' | --help | -h | help | --version | completion | man) return 1 ;; esac
+    case ${1:-} in '' | --help | -h | help | --version | completion | man | build | print) return 1 ;; esac
     for word in "$@"; do
         case $word in --help | -h) return 1 ;; --) return 0 ;; esac
     done
@@ -151,5 +151,5 @@ needs_driver() {
 build_all() {
     companion
     proved "${programs[1]}"
-    echo "ring: ring, ${programs[0]} and ${programs[1]} are built from the sources as they are"
+    echo "ring: all is built from the sources as they are"
 }

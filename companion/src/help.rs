@@ -12,16 +12,14 @@ pub fn answer(name: &str, rest: &[OsString]) -> Option<String> {
         rest.iter().take_while(|word| *word != "--").any(|word| word == "--help" || word == "-h");
     match name {
         "--help" | "-h" | "help" => {
-            Some(match rest.first().and_then(|word| command::named(&word.to_string_lossy())) {
-                Some(command) => page(command),
-                None => overview(),
-            })
+            let named = rest.first().map(|word| word.to_string_lossy());
+            let page = named.and_then(|name| command::named(&name).map(page).or_else(|| other(&name)));
+            Some(page.unwrap_or_else(overview))
         }
         "--version" => Some(format!("ring {VERSION}\n")),
         "completion" if !wants_help => Some(completion()),
         "man" if !wants_help => Some(manual()),
-        "completion" | "man" => Some(overview()),
-        _ if wants_help => command::named(name).map(page),
+        _ if wants_help => command::named(name).map(page).or_else(|| other(name)),
         _ => None,
     }
 }
@@ -36,6 +34,14 @@ const OTHERS: [(&str, &str, &str); 4] = [
 
 fn rows() -> Vec<(&'static str, &'static str, &'static str)> {
     COMMANDS.iter().map(|command| (command.name, command.usage, command.says)).chain(OTHERS).collect()
+}
+
+/// The help of a command that is no row.
+fn other(name: &str) -> Option<String> {
+    let row = OTHERS.iter().find(|(other, _, _)| *other == name);
+    row.map(|(name, usage, says)| {
+        format!("usage: ring {}\n\n{}.\n", format!("{name} {usage}").trim_end(), sentence(says))
+    })
 }
 
 fn overview() -> String {

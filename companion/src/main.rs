@@ -84,6 +84,12 @@ fn run(mut session: Session, words: &[OsString]) -> Result<(), Trouble> {
         return files::print(text.as_bytes());
     }
     let Some(command) = command::named(&name) else {
+        if let (true, Some(more)) = (name == "build", rest.first()) {
+            return Err(Trouble::Misuse(
+                "build",
+                format!("{}: nothing more is expected", more.to_string_lossy()),
+            ));
+        }
         return Err(Trouble::Misuse("", format!("{name}: no command")));
     };
     let given = Given::read(command.name, command.options, rest)?;
