@@ -24,7 +24,7 @@ use Rattle.table.specs.Settle.{refusedOf}
 use Rattle.table_type.specs.Start.{startOf}
 use Rattle.table.specs.Step.{stepOf}
 use Rattle.table.proofs.By.{remainingOf, step-done}
-use Rattle.file.specs.Bytes.{decodeAll}
+use Rattle.words.specs.Bytes.{decodeAll}
 use Rattle.file.proofs.Exactly.{load-makes}
 use Rattle.file.specs.Format.{messageWidths, messagesAt, messageFrom}
 use Rattle.file.specs.Load.{fileN, fileCount, filePool, partPool, loadOf}

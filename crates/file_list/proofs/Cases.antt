@@ -24,7 +24,7 @@ use Rattle.table.specs.Settled.{deadSet}
 use Rattle.table_type.specs.Start.{startNode, startNodes, startTable, slotsTo}
 use Rattle.table.specs.Step.{isSound, stepOf}
 use Rattle.table.specs.Valid.{nodesFit, messagesFit, poolFits, validOf}
-use Rattle.file.specs.Bytes.{bytesOf, numberOf, encode, encodeAll, decode, decodeAll}
+use Rattle.words.specs.Bytes.{bytesOf, numberOf, encode, encodeAll, decode, decodeAll}
 use Rattle.file.specs.Format.{fileOf}
 use Rattle.file.specs.Load.{headerFits, offsetsFit, statusesFit, fileTable, partPool, filePool, loadOf}
 use Rattle.file_list.specs.Trip.{tripOf, followOf}

@@ -18,7 +18,6 @@ use Rattle.pool.proofs.Laws.{waiting-short}
 use Rattle.table_type.specs.declared.Table.{Table}
 use Rattle.table_type.specs.declared.Stepped.{Stepped}
 use Rattle.table_type.specs.Start.{noTable}
-use Rattle.table.specs.Valid.{validOf}
 use Rattle.table.proofs.Sound.{sound}
 use Rattle.file.specs.Load.{loadOf}
 use Rattle.file.specs.Write.{notWritten}

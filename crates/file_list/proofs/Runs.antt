@@ -17,7 +17,7 @@ use Rattle.rules.specs.InnerAsks.{Below}
 use Rattle.rules.specs.Numbers.{refusalNumber}
 use Rattle.rules.specs.Pool.{blank}
 use Rattle.table_type.specs.declared.Table.{Table}
-use Rattle.file_write.proofs.Laws.{follow, put-length}
+use Rattle.words.proofs.Puts.{follow, put-length}
 use Rattle.file_list.specs.declared.Trip.{Trip}
 use Rattle.file_list.specs.Print.{decimal, refusedWord, lineOf, linesOf}
 use Rattle.file_list.specs.InnerPrints.{Prints}

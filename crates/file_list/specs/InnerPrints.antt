@@ -2,7 +2,7 @@
 use mathlib.Core.List.{List}
 use Prim.Native.Nat.{ℕ}
 use lib.ListN.{length}
-use Rattle.file_write.specs.InnerPut.{Put}
+use Rattle.words.specs.InnerPut.{Put}
 
 -- the text stands in the buffer from place at on, and there was room; the rest is as before, and next is the place behind it
 abbrev pub Prints : List ℕ → ℕ → List ℕ → ℕ → List ℕ → Type 0

@@ -1,12 +1,11 @@
 -- The listing: its bytes, from the bytes of a table file. Definitions only. Assumes nothing.
-use mathlib.Core.Bool.{Bool, cond}
+use mathlib.Core.Bool.{cond}
 use mathlib.Core.List.{List, [], _∷_, _++_}
 use Prim.Native.Nat.{ℕ, zero, suc, _+_, _/_, _%_}
 use lib.Dec.{eqb, ltb}
 use Rattle.marks.specs.declared.Found.{Found}
 use Rattle.marks.specs.declared.Found.the-variants.{At, Nothing}
 use Rattle.rules.specs.declared.Message.{Message}
-use Rattle.rules.specs.declared.Pool.{Pool}
 use Rattle.rules.specs.declared.Answer.{Answer}
 use Rattle.rules.specs.declared.Answer.the-variants.{Done, Refused}
 use Rattle.rules.specs.Numbers.{refusalNumber}

@@ -12,7 +12,7 @@ use Rattle.table_type.specs.Table.{ringOf, idsOf}
 use Rattle.table_type.proofs.Laws.{length-mapped}
 use Rattle.table.specs.Settled.{deadSet}
 use Rattle.table.proofs.Sound.{sound}
-use Rattle.file_write.proofs.Laws.{put-length, stay}
+use Rattle.words.proofs.Puts.{put-length, stay}
 use Rattle.file_list.specs.declared.Turn.{Turn}
 use Rattle.file_list.specs.Trip.{ended, followOf}
 use Rattle.file_list.specs.Print.{linesOf}

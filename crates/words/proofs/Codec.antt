@@ -9,7 +9,7 @@ use native.Mathlib.Numerals.{add-one, unary-clauses}
 use native.Mathlib.Omega.{arith}
 use lib.ListN.{length, getD, take, drop, length-append, length-take, length-drop}
 use lib.Seq.{drop-cons, take-at, drop-at, drop-drop, take-add, getD-drop}
-use Rattle.file.specs.Bytes.{bytesOf, numberOf, encode, decode, encodeAll, decodeAll}
+use Rattle.words.specs.Bytes.{bytesOf, numberOf, encode, decode, encodeAll, decodeAll}
 
 -- every byte is below 256
 abbrev pub Bytes : List ℕ → Type 0

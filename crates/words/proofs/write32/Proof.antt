@@ -1,10 +1,10 @@
--- `writer::write32` meets its contract: four stores, one after the other, are a run of four bytes. Assumes nothing.
+-- `words::write32` meets its contract: four stores, one after the other, are a run of four bytes. Assumes nothing.
 use borrow.Author.Needs.{needs}
 use native.Mathlib.Omega.{arith}
 use lib.ListN.{length-set}
-use Rattle.file_write.proofs.Laws.{four-bytes}
-use Rattle.file_write.proofs.write32.Statement.{statement}
-use Rattle.file_write.proofs.write32.Tie as tie
+use Rattle.words.proofs.Puts.{four-bytes}
+use Rattle.words.proofs.write32.Statement.{statement}
+use Rattle.words.proofs.write32.Tie as tie
 
 cast-b : tie.Need-cast-b
 cast-b c = search needs

@@ -1,8 +1,8 @@
--- `writer::write64` meets its contract: the lower word, then the upper one. Assumes nothing.
+-- `words::write64` meets its contract: the lower word, then the upper one. Assumes nothing.
 use borrow.Author.Needs.{needs}
-use Rattle.file_write.proofs.Laws.{long-word}
-use Rattle.file_write.proofs.write64.Statement.{statement}
-use Rattle.file_write.proofs.write64.Tie as tie
+use Rattle.words.proofs.Puts.{long-word}
+use Rattle.words.proofs.write64.Statement.{statement}
+use Rattle.words.proofs.write64.Tie as tie
 
 cast-write32 : tie.Need-cast-write32
 cast-write32 c = search needs

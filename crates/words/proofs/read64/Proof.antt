@@ -1,9 +1,9 @@
--- `reader::read64` meets its contract: the lower word, then the upper one. Assumes nothing.
+-- `words::read64` meets its contract: the lower word, then the upper one. Assumes nothing.
 use borrow.Author.Needs.{needs}
 use native.Mathlib.Omega.{arith}
-use Rattle.file.proofs.Codec.{number-eight}
-use Rattle.file_read.proofs.read64.Statement.{statement}
-use Rattle.file_read.proofs.read64.Tie as tie
+use Rattle.words.proofs.Codec.{number-eight}
+use Rattle.words.proofs.read64.Statement.{statement}
+use Rattle.words.proofs.read64.Tie as tie
 
 read32-requires : tie.Need-read32-requires
 read32-requires c κs = search needs

@@ -1,9 +1,9 @@
--- `reader::read32` meets its contract: four bytes, each 256 times the one before, are the word. Assumes nothing.
+-- `words::read32` meets its contract: four bytes, each 256 times the one before, are the word. Assumes nothing.
 use borrow.Author.Needs.{needs}
 use native.Mathlib.Omega.{arith}
-use Rattle.file.proofs.Codec.{number-four}
-use Rattle.file_read.proofs.read32.Statement.{statement}
-use Rattle.file_read.proofs.read32.Tie as tie
+use Rattle.words.proofs.Codec.{number-four}
+use Rattle.words.proofs.read32.Statement.{statement}
+use Rattle.words.proofs.read32.Tie as tie
 
 shared-slice-read-wide : tie.Need-shared-slice-read-wide
 shared-slice-read-wide c = search needs
