@@ -1,7 +1,7 @@
--- `entry::no_messages` meets its contract: every place is blank. Assumes nothing.
+-- `table_parts::no_messages` meets its contract: every place is blank. Assumes nothing.
 use borrow.Author.Needs.{needs}
-use Rattle.face_table.proofs.no_messages.Statement.{statement}
-use Rattle.face_table.proofs.no_messages.Tie as tie
+use Rattle.table_parts.proofs.no_messages.Statement.{statement}
+use Rattle.table_parts.proofs.no_messages.Tie as tie
 
 blank-message-requires : tie.Need-blank-message-requires
 blank-message-requires c κs = search needs

@@ -1,9 +1,9 @@
--- `listing::put_text` meets its contract: a copy into what is behind the place. Assumes nothing.
+-- `text::put_text` meets its contract: a copy into what is behind the place. Assumes nothing.
 use borrow.Author.Needs.{needs}
 use native.Mathlib.Omega.{arith}
-use Rattle.file_list.proofs.Runs.{copied}
-use Rattle.file_list.proofs.put_text.Statement.{statement}
-use Rattle.file_list.proofs.put_text.Tie as tie
+use Rattle.text.proofs.Runs.{copied}
+use Rattle.text.proofs.put_text.Statement.{statement}
+use Rattle.text.proofs.put_text.Tie as tie
 
 sub-copy : tie.Need-sub-copy
 sub-copy c = search needs

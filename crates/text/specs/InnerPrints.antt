@@ -1,4 +1,4 @@
--- A text written into a buffer from a place on: what every printer of this crate promises its callers. Definitions only. Assumes nothing.
+-- A text written into a buffer from a place on: what every printer promises its callers. Definitions only. Assumes nothing.
 use mathlib.Core.List.{List}
 use Prim.Native.Nat.{ℕ}
 use lib.ListN.{length}

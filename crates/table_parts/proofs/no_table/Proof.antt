@@ -1,7 +1,7 @@
--- `wire::no_table` meets its contract: every slot is the node of no slot. Assumes nothing.
+-- `table_parts::no_table` meets its contract: every slot is the node of no slot. Assumes nothing.
 use borrow.Author.Needs.{needs}
-use Rattle.face_file.proofs.no_table.Statement.{statement}
-use Rattle.face_file.proofs.no_table.Tie as tie
+use Rattle.table_parts.proofs.no_table.Statement.{statement}
+use Rattle.table_parts.proofs.no_table.Tie as tie
 
 no-node-requires : tie.Need-no-node-requires
 no-node-requires c κs = search needs

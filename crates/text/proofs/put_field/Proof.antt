@@ -1,8 +1,8 @@
--- `listing::put_field` meets its contract: the number, then the byte. Assumes nothing.
+-- `text::put_field` meets its contract: the number, then the byte. Assumes nothing.
 use borrow.Author.Needs.{needs}
-use Rattle.file_list.proofs.Runs.{then}
-use Rattle.file_list.proofs.put_field.Statement.{statement}
-use Rattle.file_list.proofs.put_field.Tie as tie
+use Rattle.text.proofs.Runs.{then}
+use Rattle.text.proofs.put_field.Statement.{statement}
+use Rattle.text.proofs.put_field.Tie as tie
 
 put-number-requires : tie.Need-put-number-requires
 put-number-requires c κs = search needs

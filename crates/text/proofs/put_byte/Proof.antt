@@ -1,9 +1,9 @@
--- `listing::put_byte` meets its contract: one store. Assumes nothing.
+-- `text::put_byte` meets its contract: one store. Assumes nothing.
 use borrow.Author.Needs.{needs}
 use native.Mathlib.Omega.{arith}
-use Rattle.file_list.proofs.Runs.{one-byte}
-use Rattle.file_list.proofs.put_byte.Statement.{statement}
-use Rattle.file_list.proofs.put_byte.Tie as tie
+use Rattle.text.proofs.Runs.{one-byte}
+use Rattle.text.proofs.put_byte.Statement.{statement}
+use Rattle.text.proofs.put_byte.Tie as tie
 
 slice-write-b : tie.Need-slice-write-b
 slice-write-b c = search needs

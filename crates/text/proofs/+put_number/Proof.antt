@@ -2,15 +2,16 @@
 use borrow.Author.Needs.{needs}
 use Prim.Native.Nat.{ℕ, _<_}
 use native.Mathlib.Omega.{arith}
-use Rattle.file_list.proofs.Runs.{decimal-one, decimal-longer, last-digit, more-digits}
+use Rattle.text.proofs.Digits.{decimal-longer}
+use Rattle.text.proofs.Runs.{one-digit, last-digit, more-digits}
 use borrow.Fn.Kinds.{In}
 use borrow.Fn.PlainCycle.{Measures, is, falls, and}
-use Rattle.file_list.proofs.put_number.Reads as put-number
-use Rattle.file_list.proofs.put_number.Kinds as put-number-kinds
-use Rattle.file_list.proofs.+put_number.Lts-put_number as put-number-lts
-use Rattle.file_list.proofs.put_byte.Reads as put-byte-reads
-use Rattle.file_list.proofs.+put_number.{statement}
-use Rattle.file_list.proofs.+put_number.Tie.{close}
+use Rattle.text.proofs.put_number.Reads as put-number
+use Rattle.text.proofs.put_number.Kinds as put-number-kinds
+use Rattle.text.proofs.+put_number.Lts-put_number as put-number-lts
+use Rattle.text.proofs.put_byte.Reads as put-byte-reads
+use Rattle.text.proofs.+put_number.{statement}
+use Rattle.text.proofs.+put_number.Tie.{close}
 
 abbrev μ-put-number : Measures 1 put-number-kinds.ps ℕ
 μ-put-number κs a = a .1 .1 .0
@@ -45,7 +46,7 @@ put-number-put-byte-requires : (t : ℕ) → put-number-lts.Need-put-byte-requir
   put-number-below t,
   put-number.Post,
 ) (put-number-at t) put-number.Post
-put-number-put-byte-requires t c κs = omega (arith, decimal-one (c .before .before .before .args .x) (omega arith))
+put-number-put-byte-requires t c κs = omega (arith, one-digit (c .before .before .before .args .x) (omega arith))
 
 put-number-same-length : (t : ℕ) → put-number-lts.Need-same-length (
   put-byte-reads.Asked,
@@ -72,7 +73,7 @@ put-number-put-number-requires : (t : ℕ) → put-number-lts.Need-put-number-re
   put-number.Post,
 ) (put-number-at t) put-number.Post
 put-number-put-number-requires t c κs =
-    (omega arith, omega (arith, decimal-longer (c .before .before .before .args .x) (omega arith) (omega arith)))
+    (omega arith, omega (arith, decimal-longer (c .before .before .before .args .x) (omega arith)))
 
 put-number-cast-put-byte-2 : (t : ℕ) → put-number-lts.Need-cast-put-byte-2 (
   put-byte-reads.Asked,
@@ -98,7 +99,7 @@ put-number-put-byte-requires-2 : (t : ℕ) → put-number-lts.Need-put-byte-requ
 ) (put-number-at t) put-number.Post
 put-number-put-byte-requires-2 t c κs =
     let start = c .before .before .before .before .before .before .before in
-    omega (arith, decimal-longer (start .args .x) (omega arith) (omega arith))
+    omega (arith, decimal-longer (start .args .x) (omega arith))
 
 put-number-same-length-2 : (t : ℕ) → put-number-lts.Need-same-length-2 (
   put-byte-reads.Asked,
@@ -117,7 +118,7 @@ put-number-returns-2 : (t : ℕ) → put-number-lts.Need-returns-2 (
 put-number-returns-2 t c =
     let byte = c .before .before in
     let front = byte .before .before .before .before in
-    more-digits (front .before .before .before .before .args .x) (omega arith) (omega arith) (front .put-number .ensures)
+    more-digits (front .before .before .before .before .args .x) (omega arith) (front .put-number .ensures)
     (byte .put-byte2 .ensures)
 
 pub +put-number-spec : {M : Type 1} → statement M
