@@ -25,7 +25,7 @@ use Rattle.table_type.specs.declared.Table.{Table}
 use Rattle.table_type.specs.Start.{slotIds, slotsTo, startNode, startNodes, startFits, idsRise, listFits, startOf}
 use Rattle.table.specs.Step.{isSound}
 use Rattle.table.specs.Valid.{nodesFit, messagesFit, poolFits, validOf}
-use Rattle.file.specs.Bytes.{bytesOf, numberOf, encode, decode, encodeAll, decodeAll}
+use Rattle.words.specs.Bytes.{bytesOf, numberOf, encode, decode, encodeAll, decodeAll}
 use Rattle.file.specs.Load.{headerFits, offsetsFit, statusesFit, fileTable, partPool, filePool, loadOf}
 use Rattle.face_table.specs.declared.Rest.the-variants as rest
 use Rattle.face_table.specs.Asked.{startStep}

@@ -14,21 +14,14 @@ use table_type::Table;
 pub fn no_table() -> Table
     ensures { λ r. ⌜ r ≡ noTable ⌝ }
 {
-    let none = table_type::no_node();
-    let nodes = [none; 64];
-    Table {
-        m: 0,
-        l: 0,
-        n: 0,
-        nodes,
-    }
+    table_parts::no_table()
 }
 
 // What the file holds, or its refusal.
 pub fn loaded(file: &[u8]) -> Stepped
     ensures { λ r. ⌜ r ≡ loadedOf (now (file .entry)) ⌝ }
 {
-    file_read::load(file, no_table(), face_table::no_messages(), 256)
+    file_read::load(file, table_parts::no_table(), table_parts::no_messages(), 256)
 }
 
 // The step, where what came before it was done.
@@ -51,10 +44,7 @@ fn written(s: Stepped, out: &mut [u8]) -> Wrote
     let answer = s.answer;
     match answer {
         Answer::Done => file_write::write(s.table, s.pool, 256, out),
-        Answer::Refused(why) => Wrote {
-            answer: Answer::Refused(why),
-            count: 0,
-        },
+        Answer::Refused(why) => file_write::not_written(why),
     }
 }
 
@@ -62,8 +52,8 @@ fn written(s: Stepped, out: &mut [u8]) -> Wrote
 fn begun(m: u64, l: u64, a: u64, ids: &[u32]) -> Stepped
     ensures { λ r. ⌜ r ≡ begunOf m l a (now (ids .entry)) ⌝ }
 {
-    let t = no_table();
-    let p = face_table::no_messages();
+    let t = table_parts::no_table();
+    let p = table_parts::no_messages();
     if m >= 4294967296 {
         return table_parts::refused(t, p, Refusal::Header);
     }

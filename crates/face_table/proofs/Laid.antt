@@ -25,7 +25,7 @@ use Rattle.table_type.specs.Start.{startOf}
 use Rattle.table.specs.Step.{stepOf}
 use Rattle.table.specs.Step.{asked, remaining}
 use Rattle.table.proofs.By.{step-done}
-use Rattle.file.specs.Bytes.{decodeAll}
+use Rattle.words.specs.Bytes.{decodeAll}
 use Rattle.file.proofs.Exactly.{load-makes}
 use Rattle.file.specs.Format.{messageWidths, messagesAt, messageFrom}
 use Rattle.file.specs.Load.{fileN, fileCount, filePool, partPool, loadOf}

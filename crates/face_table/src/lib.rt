@@ -20,11 +20,7 @@ pub enum Rest {
 pub fn no_messages() -> Pool
     ensures { λ r. ⌜ r ≡ laid [] ⌝ }
 {
-    let none = parts::blank_message();
-    Pool {
-        count: 0,
-        places: [none; 256],
-    }
+    table_parts::no_messages()
 }
 
 // The table of a start, with no messages; a refusal leaves table and pool as they are.
@@ -38,7 +34,7 @@ pub fn start(t: Table, p: Pool, len: usize, m: u32, l: u32, ids: &[u32], a: u64)
     let answer = made.answer;
     let table = made.table;
     match answer {
-        Answer::Done => table_parts::done(table, no_messages()),
+        Answer::Done => table_parts::done(table, table_parts::no_messages()),
         Answer::Refused(why) => table_parts::refused(t, p, why),
     }
 }

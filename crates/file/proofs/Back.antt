@@ -14,8 +14,8 @@ use Rattle.marks.proofs.Laws.{each}
 use Rattle.rules.specs.Limits.{mLow, mHigh, lLow, lHigh, nodesHigh, messagesHigh}
 use Rattle.rules.specs.Fits.{between}
 use Rattle.rules.specs.Nodes.{noNode}
-use Rattle.file.specs.Bytes.{encode, encodeAll, decode, decodeAll}
-use Rattle.file.proofs.Codec.{Bytes, bytes-drop, decode-length, encode-decode, decode-all-length, decode-all-at, encode-decode-all}
+use Rattle.words.specs.Bytes.{encode, encodeAll, decode, decodeAll}
+use Rattle.words.proofs.Codec.{Bytes, bytes-drop, decode-length, encode-decode, decode-all-length, decode-all-at, encode-decode-all}
 use Rattle.file.specs.Format.{headerWidths, nodeWidths, messageWidths, nodesAt, messagesAt, totalOf, headerRow, nodeRow, messageRow}
 use Rattle.file.specs.Format.{nodeFrom, messageFrom, fileOf}
 use Rattle.file.specs.Load.{headerWord, fileM, fileL, fileN, fileCount, headerFits, offsetsFit, nodeRows, statusesFit, fileTable}

@@ -18,8 +18,8 @@ use Rattle.rules.specs.Pool.{blank, messageAt, waiting, laid}
 use Rattle.table_type.specs.declared.Table.{Table}
 use Rattle.table_type.specs.Table.{nodeAt}
 use Rattle.table.proofs.Sound.{Sound}
-use Rattle.file.specs.Bytes.{encode, encodeAll, decode, decodeAll}
-use Rattle.file.proofs.Codec.{Fit, bytesIn, encode-length, decode-encode, encode-all-length, decode-all-at, decode-encode-all}
+use Rattle.words.specs.Bytes.{encode, encodeAll, decode, decodeAll}
+use Rattle.words.proofs.Codec.{Fit, bytesIn, encode-length, decode-encode, encode-all-length, decode-all-at, decode-encode-all}
 use Rattle.file.specs.Format.{headerWidths, nodeWidths, messageWidths, nodesAt, messagesAt, totalOf, headerRow, nodeRow, messageRow}
 use Rattle.file.specs.Format.{nodeFrom, messageFrom, fileOf}
 use Rattle.file.specs.Load.{fileN, headerFits, offsetsFit, nodeRows, statusesFit, fileTable, partPool, filePool}

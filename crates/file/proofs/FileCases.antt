@@ -23,7 +23,7 @@ use Rattle.table.specs.Settle.{refusedOf, doneOf}
 use Rattle.table.specs.Step.{isSound}
 use Rattle.table.specs.Valid.{nodesFit, messagesFit, poolFits, validOf}
 use Rattle.file.specs.declared.Wrote.{Wrote}
-use Rattle.file.specs.Bytes.{bytesOf, numberOf, encode, decode, encodeAll, decodeAll}
+use Rattle.words.specs.Bytes.{bytesOf, numberOf, encode, decode, encodeAll, decodeAll}
 use Rattle.file.specs.Format.{fileOf}
 use Rattle.file.specs.Load.{headerFits, offsetsFit, statusesFit, fileTable, partPool, filePool, loadOf}
 use Rattle.file.specs.Write.{wroteOf, writtenOf}

@@ -1,4 +1,3 @@
-pub mod Codec
 pub mod Rows
 pub mod Told
 pub mod File

@@ -3,7 +3,7 @@
 use mathlib.Core.Path.{_≡_, refl, sym, ap₂}
 use mathlib.Core.Bool.{Bool, true, false, cond}
 use mathlib.Core.List.{List, [], _∷_, map}
-use Prim.Native.Nat.{ℕ, zero, suc, _+_, _^_, _<_, _≤_}
+use Prim.Native.Nat.{ℕ, zero, suc, _+_, _<_, _≤_}
 use native.Mathlib.Omega.{arith}
 use borrow.Author.Tests.{eqb-true, eqb-false}
 use lib.Dec.{eqb}
@@ -13,14 +13,10 @@ use Rattle.rules.specs.declared.Status.{Status}
 use Rattle.rules.specs.declared.Status.the-variants.{Dead, Wait, Ok, Ready}
 use Rattle.rules.specs.declared.Node.{Node}
 use Rattle.rules.specs.declared.Message.{Message}
-use Rattle.rules.specs.declared.Pool.{Pool}
 use Rattle.rules.specs.Numbers.{statusNumber}
-use Rattle.rules.specs.Pool.{messageAt}
-use Rattle.table_type.specs.declared.Table.{Table}
-use Rattle.table_type.specs.Table.{nodeAt}
-use Rattle.file.proofs.Codec.{Fit}
+use Rattle.words.proofs.Codec.{Fit}
 use Rattle.file.specs.Format.{nodeWidths, messageWidths, nodeRow, messageRow, statusOf, nodeFrom, messageFrom}
-use Rattle.file.specs.Held.{HeldNode, HeldMessage, Held}
+use Rattle.file.specs.Held.{HeldNode, HeldMessage}
 
 -- ---- what the machine's types hold of every value
 

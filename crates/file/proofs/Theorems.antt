@@ -23,7 +23,7 @@ use Rattle.table_type.specs.declared.Stepped.{Stepped}
 use Rattle.table.specs.Settle.{refusedOf, doneOf}
 use Rattle.table.specs.Step.{isSound}
 use Rattle.table.specs.Valid.{validOf}
-use Rattle.file.proofs.Codec.{Bytes}
+use Rattle.words.proofs.Codec.{Bytes}
 use Rattle.file.specs.Format.{totalOf, fileOf}
 use Rattle.file.specs.Load.{headerFits, offsetsFit, statusesFit, fileTable, filePool, loadOf}
 use Rattle.file.specs.Write.{notWritten, wroteOf, writtenOf}

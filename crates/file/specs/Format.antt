@@ -1,5 +1,5 @@
 -- The table file: header, node record, message record. Definitions only, each under 01's words. Assumes nothing.
-use mathlib.Core.Bool.{Bool, cond}
+use mathlib.Core.Bool.{cond}
 use mathlib.Core.List.{List, [], _∷_, _++_, map}
 use Prim.Native.Nat.{ℕ, _+_, _*_}
 use lib.Dec.{eqb}
@@ -12,7 +12,7 @@ use Rattle.rules.specs.declared.Pool.{Pool}
 use Rattle.rules.specs.Numbers.{statusNumber}
 use Rattle.rules.specs.Pool.{waiting}
 use Rattle.table_type.specs.declared.Table.{Table}
-use Rattle.file.specs.Bytes.{encode, encodeAll}
+use Rattle.words.specs.Bytes.{encode, encodeAll}
 
 -- header, eight 32-bit words
 abbrev pub headerWidths : List ℕ

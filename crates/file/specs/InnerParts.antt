@@ -5,7 +5,7 @@ use lib.ListN.{take}
 use Rattle.rules.specs.declared.Pool.{Pool}
 use Rattle.rules.specs.Pool.{waiting}
 use Rattle.table_type.specs.declared.Table.{Table}
-use Rattle.file.specs.Bytes.{encodeAll}
+use Rattle.words.specs.Bytes.{encodeAll}
 use Rattle.file.specs.Format.{nodeWidths, messageWidths, nodeRow, messageRow}
 
 abbrev pub nodeBytes : Table → List ℕ

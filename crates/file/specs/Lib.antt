@@ -1,4 +1,3 @@
-pub mod Bytes
 pub mod Format
 pub mod Load
 pub mod Write

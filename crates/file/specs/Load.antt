@@ -15,7 +15,7 @@ use Rattle.table_type.specs.declared.Table.{Table}
 use Rattle.table_type.specs.declared.Stepped.{Stepped}
 use Rattle.table.specs.Settle.{refusedOf, doneOf}
 use Rattle.table.specs.Valid.{validOf}
-use Rattle.file.specs.Bytes.{decode, decodeAll}
+use Rattle.words.specs.Bytes.{decode, decodeAll}
 use Rattle.file.specs.Format.{headerWidths, nodeWidths, messageWidths, nodesAt, messagesAt, totalOf, nodeFrom, messageFrom}
 
 -- a word of the header, from 0

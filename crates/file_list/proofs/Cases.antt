@@ -24,15 +24,16 @@ use Rattle.table.specs.Settled.{deadSet}
 use Rattle.table_type.specs.Start.{startNode, startNodes, startTable, slotsTo}
 use Rattle.table.specs.Step.{isSound, stepOf}
 use Rattle.table.specs.Valid.{nodesFit, messagesFit, poolFits, validOf}
-use Rattle.file.specs.Bytes.{bytesOf, numberOf, encode, encodeAll, decode, decodeAll}
+use Rattle.words.specs.Bytes.{bytesOf, numberOf, encode, encodeAll, decode, decodeAll}
 use Rattle.file.specs.Format.{fileOf}
 use Rattle.file.specs.Load.{headerFits, offsetsFit, statusesFit, fileTable, partPool, filePool, loadOf}
 use Rattle.file_list.specs.Trip.{tripOf, followOf}
-use Rattle.file_list.specs.Print.{decimalTo, headline, refusedWord, lineOf, linesOf, listingOf}
+use Rattle.text.specs.Decimal.{decimalTo, decimal}
+use Rattle.file_list.specs.Print.{headline, refusedWord, lineOf, linesOf, listingOf}
 
 -- to unfold this is to unfold all that the listing computes with
 opened : Unit {0}
-unfolding listingOf loadOf headerFits offsetsFit statusesFit fileTable filePool partPool decode decodeAll numberOf decimalTo lineOf linesOf
+unfolding listingOf loadOf headerFits offsetsFit statusesFit fileTable filePool partPool decode decodeAll numberOf decimal decimalTo lineOf linesOf
     followOf tripOf validOf numbersFit nodesFit slotFits idFits nodeFits leafFits sideFits othersFit isBlank listed sizeOf tally has allTo
     poolFits messagesFit messageFits fieldsFit wordFits flagFits carriedFits ownerFits routingFits failedFits allDifferent alike stepOf isSound
     settle carriedOut mailed sentTo planTake planTakeLookup coversOf seenFrom best coversKey leftCoverOf rightCoverOf fallOf nextHop byLeaf

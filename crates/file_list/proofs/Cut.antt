@@ -18,8 +18,8 @@ use Rattle.rules.specs.Fits.{between}
 use Rattle.rules.specs.Pool.{laid}
 use Rattle.table.specs.Settle.{refusedOf}
 use Rattle.table_type.specs.Start.{noTable}
-use Rattle.file.specs.Bytes.{decode}
-use Rattle.file.proofs.Codec.{bytesIn}
+use Rattle.words.specs.Bytes.{decode}
+use Rattle.words.proofs.Codec.{bytesIn}
 use Rattle.file.specs.Format.{headerWidths, totalOf}
 use Rattle.file.specs.Load.{headerWord, fileM, fileL, fileN, fileCount, headerFits, offsetsFit, loadOf}
 use Rattle.file.proofs.Back.{header-told}

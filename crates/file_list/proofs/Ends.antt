@@ -18,8 +18,9 @@ use Rattle.table_type.specs.Start.{noTable}
 use Rattle.file.specs.declared.Wrote.{Wrote}
 use Rattle.file.specs.Load.{loadOf}
 use Rattle.file.specs.Write.{notWritten}
-use Rattle.file_list.specs.Print.{decimal, headline, refusedWord, linesOf, printOf, listingOf}
-use Rattle.file_list.specs.InnerPrints.{Prints}
+use Rattle.text.specs.Decimal.{decimal}
+use Rattle.file_list.specs.Print.{headline, refusedWord, linesOf, printOf, listingOf}
+use Rattle.text.specs.InnerPrints.{Prints}
 use Rattle.file_list.specs.List.{room, listOf, listedOf}
 use Rattle.file_list.proofs.Length.{loaded}
 use Rattle.file_list.specs.InnerLoaded.{Loaded}

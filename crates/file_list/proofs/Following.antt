@@ -5,7 +5,7 @@
 -- (crate demand). Assumes nothing.
 use mathlib.Core.Path.{_≡_, refl, sym, _∙_}
 use mathlib.Core.Bool.{Bool, true, false, cond, not}
-use mathlib.Core.List.{List, [], _∷_}
+use mathlib.Core.List.{[], _∷_}
 use Prim.Native.Nat.{ℕ, zero, suc, _+_, _-_, _^_, _<_, _≤_}
 use native.Mathlib.Omega.{arith}
 use native.Mathlib.Nat.{zero-add, add-zero}
@@ -16,18 +16,14 @@ use Rattle.marks.specs.declared.Found.the-variants.{At, Nothing}
 use Rattle.rules.specs.declared.Hop.{Hop}
 use Rattle.rules.specs.declared.Hop.the-variants.{To, NoRoute}
 use Rattle.rules.specs.declared.Message.{Message}
-use Rattle.rules.specs.declared.Node.{Node}
-use Rattle.rules.specs.declared.Ring.{Ring}
 use Rattle.rules.specs.declared.Pool.{Pool}
 use Rattle.rules.specs.declared.Action.the-variants.{Take}
 use Rattle.rules.specs.declared.Refusal.the-variants as no
 use Rattle.rules.specs.InnerAsks.{Listed, Below}
 use Rattle.rules.specs.Fits.{messageFits}
-use Rattle.rules.specs.Hop.{nextHop}
-use Rattle.rules.specs.Leaf.{coversOf}
 use Rattle.rules.specs.Letters.{lookup, noLegalRoute}
 use Rattle.rules.specs.Mail.{firstFrom, firstEqual, added, removedAt, allDifferent}
-use Rattle.rules.specs.Nodes.{sidesOf, placed}
+use Rattle.rules.specs.Nodes.{placed}
 use Rattle.rules.specs.Plans.{isReady}
 use Rattle.rules.specs.Pool.{laid, messageAt}
 use Rattle.rules.specs.Take.{planTakeLookup, planTake}
@@ -36,7 +32,6 @@ use Rattle.table_type.specs.declared.Table.{Table}
 use Rattle.table_type.specs.declared.Stepped.{Stepped}
 use Rattle.table_type.specs.Table.{nodeAt, ringOf, idsOf}
 use Rattle.table.specs.Settle.{refusedOf, doneOf, carriedOut, settle}
-use Rattle.table.specs.Settled.{deadSet}
 use Rattle.table.specs.Step.{isSound, stepOf}
 use Rattle.table.specs.Valid.{validOf}
 use Rattle.table.proofs.Letters.{lookup-fits}

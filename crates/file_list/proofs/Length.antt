@@ -2,7 +2,7 @@
 use mathlib.Core.Path.{_≡_, refl}
 use mathlib.Core.Bool.{Bool, true, false, cond}
 use mathlib.Core.List.{List, [], _++_}
-use Prim.Native.Nat.{ℕ, _+_, _*_, _≤_}
+use Prim.Native.Nat.{ℕ, _+_, _*_, _<_, _≤_}
 use native.Mathlib.Omega.{arith}
 use lib.Dec.{ltb}
 use borrow.Author.Tests.{le-ltb}
@@ -11,34 +11,50 @@ use lib.Seq.{take-append-seam}
 use Rattle.rules.specs.declared.Pool.{Pool}
 use Rattle.rules.specs.declared.Answer.{Answer}
 use Rattle.rules.specs.declared.Answer.the-variants.{Done, Refused}
+use Rattle.rules.specs.declared.Refusal.{Refusal}
 use Rattle.rules.specs.declared.Refusal.the-variants as no
 use Rattle.rules.specs.Numbers.{refusalNumber}
-use Rattle.rules.specs.Pool.{laid, waiting}
-use Rattle.pool.proofs.Laws.{waiting-short}
+use Rattle.rules.specs.Pool.{laid}
 use Rattle.table_type.specs.declared.Table.{Table}
 use Rattle.table_type.specs.declared.Stepped.{Stepped}
 use Rattle.table_type.specs.Start.{noTable}
-use Rattle.table.specs.Valid.{validOf}
 use Rattle.table.proofs.Sound.{sound}
 use Rattle.file.specs.Load.{loadOf}
 use Rattle.file.specs.Write.{notWritten}
 use Rattle.file.proofs.Exactly.{load-valid}
 use Rattle.file_list.specs.List.{room, listOf, listedOf}
 use Rattle.file_list.specs.Print.{printed, printOf, listingOf}
-use Rattle.file_list.proofs.Text.{digits-most, lines-short}
+use Rattle.file_list.proofs.Text.{lines-short}
+use Rattle.text.specs.Decimal.{decimal}
+use Rattle.text.proofs.Digits.{decimal-word}
 use Rattle.file_list.specs.InnerLoaded.{Loaded}
 
 pub loaded : (bs : List ℕ) (t : Table) (p : Pool) (len : ℕ) → Loaded (loadOf bs t p len)
 loaded bs t p len = record { valid = load-valid bs t p len }
+
+refusal-short : (why : Refusal) → length (decimal (refusalNumber why)) ≤ 10
+refusal-short why = decimal-word (refusalNumber why) (small why)
+  where
+    small : (why : Refusal) → refusalNumber why < 4294967296
+    small no.OutOfRange = omega arith
+    small no.Status = omega arith
+    small no.Waits = omega arith
+    small no.LeafSet = omega arith
+    small no.Partner = omega arith
+    small no.Full = omega arith
+    small no.Short = omega arith
+    small no.Header = omega arith
+    small no.Offsets = omega arith
+    small no.Invalid = omega arith
+    small no.NoRoom = omega arith
 
 pub print-short : (s : Stepped) → Loaded s → length (printOf s) ≤ 17 + 256 * 36
 print-short s v = go (s .answer) refl
   where
     go : (a : Answer) → s .answer ≡ a → length (printed a s) ≤ 17 + 256 * 36
     go Done e =
-        let few = sound (s .table) (s .pool) (v .valid e) .counted in
-        omega (arith, lines-short (s .table) (waiting (s .pool)), waiting-short (s .pool))
-    go (Refused why) e = simp length-append (omega (arith, digits-most 10 (refusalNumber why)))
+        omega (arith, sound (s .table) (s .pool) (v .valid e) .counted, lines-short (s .table) (s .pool) (v .valid e) (s .pool .count) (omega arith))
+    go (Refused why) e = simp length-append (omega (arith, refusal-short why))
 
 pub listing-short : (bs : List ℕ) → length (listingOf bs) ≤ 17 + 256 * 36
 unfolding listingOf

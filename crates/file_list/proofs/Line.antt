@@ -1,18 +1,13 @@
 -- The line of a lookup that ended so, from the ids by slot: with those of a table it is the listing's (`line-is`). Assumes nothing.
 use mathlib.Core.Path.{_≡_, refl}
-use mathlib.Core.List.{List, [], _∷_, _++_}
-use Prim.Native.Nat.{ℕ, _<_}
-use lib.ListN.{getD}
 use Rattle.marks.specs.declared.Found.{Found}
 use Rattle.marks.specs.declared.Found.the-variants.{At, Nothing}
 use Rattle.rules.specs.declared.Message.{Message}
-use Rattle.rules.specs.InnerAsks.{Below}
 use Rattle.table_type.specs.declared.Table.{Table}
 use Rattle.table_type.specs.Table.{idsOf}
 use Rattle.table_type.proofs.IdLaws.{ids-at}
-use Rattle.file_list.specs.declared.Trip.{Trip}
 use Rattle.file_list.specs.Trip.{followOf}
-use Rattle.file_list.specs.Print.{decimal, space, newline, endText, lineOf}
+use Rattle.file_list.specs.Print.{endText, lineOf}
 use Rattle.file_list.specs.InnerLine.{endIn, lineIn}
 
 end-is : (t : Table) (end : Found) → endIn (idsOf t) end ≡ endText t end

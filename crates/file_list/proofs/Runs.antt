@@ -1,68 +1,30 @@
--- Texts that follow one another are one text (then); a byte stored is a text of one byte, and a copy into what is behind a place is a text
--- from there on. Digits, fields and lines are put together of these. Assumes nothing.
-use mathlib.Core.Path.{_≡_, refl, _∙_}
+-- The line of a lookup is put together of its fields, the lines of the messages passed of theirs, and the line of a refused file of two texts.
+-- Assumes nothing.
+use mathlib.Core.Path.{_≡_}
+use mathlib.Core.Bool.{true}
 use mathlib.Core.List.{List, [], _∷_, _++_, append-assoc, append-nil}
-use Prim.Native.Nat.{ℕ, _+_, _-_, _*_, _/_, _%_, _<_, _≤_}
-use native.Mathlib.Numerals.{add-one}
+use Prim.Native.Nat.{ℕ, _+_, _*_, _<_, _≤_}
 use native.Mathlib.Omega.{arith}
 use borrow.Author.Tests.{ne-eqb}
-use lib.ListN.{getD, length, length-take, take, drop, set, length-append, length-drop}
-use lib.Seq.{set-split, append-snoc, take-all, take-length, drop-length, drop-drop}
-use borrow.Rule.Slice.PartMut.{midOf, postOf, putMid, post-is}
+use lib.ListN.{getD, length, take, length-append}
 use Rattle.marks.specs.declared.Found.{Found}
 use Rattle.marks.specs.declared.Found.the-variants.{At, Nothing}
 use Rattle.rules.specs.declared.Message.{Message}
+use Rattle.rules.specs.declared.Pool.{Pool}
 use Rattle.rules.specs.declared.Refusal.{Refusal}
 use Rattle.rules.specs.InnerAsks.{Below}
 use Rattle.rules.specs.Numbers.{refusalNumber}
 use Rattle.rules.specs.Pool.{blank}
 use Rattle.table_type.specs.declared.Table.{Table}
-use Rattle.file_write.proofs.Laws.{follow, put-length}
+use Rattle.table.specs.Valid.{validOf}
+use Rattle.text.proofs.Runs.{then}
+use Rattle.words.proofs.Puts.{put-length}
 use Rattle.file_list.specs.declared.Trip.{Trip}
-use Rattle.file_list.specs.Print.{decimal, refusedWord, lineOf, linesOf}
-use Rattle.file_list.specs.InnerPrints.{Prints}
+use Rattle.text.specs.Decimal.{decimal}
+use Rattle.file_list.specs.Print.{refusedWord, lineOf, linesOf}
+use Rattle.text.specs.InnerPrints.{Prints}
 use Rattle.file_list.specs.InnerLine.{endIn, lineIn}
-use Rattle.file_list.proofs.Text.{digit, decimal-more, lines-more, lines-short}
-
-pub then : {a b c : List ℕ} {at i j : ℕ} {vs ws : List ℕ} → Prints a at vs i b → Prints b i ws j c → Prints a at (vs ++ ws) j c
-then p q = rw length-append (follow p q)
-
-pub one-byte : (l : List ℕ) (at x : ℕ) → at + 1 ≤ length l → Prints l at (x ∷ []) (at + 1) (set l at x)
-one-byte l at x h =
-    record {
-      inside = h;
-      next-is = refl;
-      sized = refl;
-      new-is = set-split l at x (omega arith) ∙ rw (add-one, append-snoc);
-    }
-
-pub copied : (b text : List ℕ) (at : ℕ) → at + length text ≤ length b → {n : ℕ} {mid : List ℕ} → n ≡ length text
-    → mid ≡ take (length text) text ++ drop (length text) (midOf at (length b - at) b)
-    → Prints b at text (at + n) (putMid at (length b - at) b mid)
-copied b text at h e m =
-    let whole : midOf at (length b - at) b ≡ drop at b = take-all (length b - at) (drop at b) (rw length-drop (omega arith)) in
-    let none : postOf at (length b - at) b ≡ [] = post-is at (length b) b (omega arith) ∙ drop-length b in
-    record {
-      inside = h;
-      next-is = rw e;
-      sized = refl;
-      new-is = rw (m, none, append-nil, whole, take-length, drop-drop, append-assoc);
-    }
-
--- ---- digits
-
-pub decimal-one : (x : ℕ) → x < 10 → length (decimal x) ≡ 1
-decimal-one x h = rw (digit 9 x h)
-
-pub decimal-longer : (x : ℕ) → 10 ≤ x → x < 4294967296 → length (decimal x) ≡ length (decimal (x / 10)) + 1
-decimal-longer x l h = rw (decimal-more x l (omega arith), length-append)
-
-pub last-digit : {l new : List ℕ} {at next : ℕ} (x : ℕ) → x < 10 → Prints l at ((48 + x) ∷ []) next new → Prints l at (decimal x) next new
-last-digit x h p = rw (digit 9 x h) p
-
-pub more-digits : {a b c : List ℕ} {at i j : ℕ} (x : ℕ) → 10 ≤ x → x < 4294967296 → Prints a at (decimal (x / 10)) i b
-    → Prints b i ((48 + x % 10) ∷ []) j c → Prints a at (decimal x) j c
-more-digits x l h p q = rw (decimal-more x l (omega arith)) (then p q)
+use Rattle.file_list.proofs.Text.{lines-more, lines-short}
 
 -- ---- where a lookup ended
 
@@ -77,14 +39,6 @@ module _ (ids : List ℕ) {end : Found} where
   end-none q p = rw q p
 
 -- ---- a line
-
--- where a text and a field end, and that the buffer is as long as before
-pub text-end : {a b : List ℕ} {at i : ℕ} {vs : List ℕ} → Prints a at vs i b → (i ≡ at + length vs) × (length b ≡ length a)
-text-end p = (p .next-is, put-length p)
-
-pub field-end : {a b : List ℕ} {at i : ℕ} (x y : ℕ) → Prints a at (decimal x ++ (y ∷ [])) i b
-    → (i ≡ at + (length (decimal x) + 1)) × (length b ≡ length a)
-field-end x y p = (p .next-is ∙ rw length-append, put-length p)
 
 -- the lengths of its fields
 pub fields-length : (ids : List ℕ) (m : Message) (trip : Trip)
@@ -101,11 +55,12 @@ line-run ids m trip p q r s u = simp append-assoc at (then p (then q (then r (th
 
 -- ---- the lines of the messages passed
 
-module _ (t : Table) (ms : List Message) (q : ℕ) where
-  -- where they end
-  pub lines-end : {a b : List ℕ} {at i : ℕ} → Prints a at (linesOf t (take q ms)) i b → (i ≤ at + 36 * q) × (length b ≡ length a)
-  lines-end p = (omega (arith, p .next-is, lines-short t (take q ms), length-take q ms), put-length p)
+-- where they end
+pub lines-end : (t : Table) (x : Pool) → validOf t x ≡ true → (q : ℕ) → q ≤ x .count → {a b : List ℕ} {at i : ℕ}
+    → Prints a at (linesOf t (take q (x .places))) i b → (i ≤ at + 36 * q) × (length b ≡ length a)
+lines-end t x v q h p = (omega (arith, p .next-is, lines-short t x v q h), put-length p)
 
+module _ (t : Table) (ms : List Message) (q : ℕ) where
   module _ (h : q < length ms) where
     -- one lookup more
     pub lines-line : {a b c : List ℕ} {at i j : ℕ} → getD ms q blank .kind ≡ 1 → Prints a at (linesOf t (take q ms)) i b

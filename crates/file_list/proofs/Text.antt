@@ -1,108 +1,36 @@
--- How long the parts of a listing are, and how its digits follow from one another. A number below ten to the n has at most n digits; a line
--- has at most 36 bytes, since a lookup is taken at most 64 times. By induction on the digits, the takes and the messages. Assumes nothing.
-use mathlib.Core.Path.{_≡_, refl, sym, _∙_}
+-- How long the parts of a listing are, and how its lines follow from one another. A line has at most 36 bytes: its keys and ids are below 2^32,
+-- and a lookup is routed fewer than 64 times. By induction on the messages. Assumes nothing.
+use mathlib.Core.Path.{_≡_, refl, _∙_}
 use mathlib.Core.Bool.{Bool, true, false, cond}
 use mathlib.Core.List.{List, [], _∷_, _++_, append-assoc, append-nil}
-use Prim.Native.Nat.{ℕ, zero, suc, _+_, _*_, _/_, _%_, _^_, _<_, _≤_}
+use Prim.Native.Nat.{ℕ, zero, suc, _+_, _*_, _^_, _<_, _≤_}
 use native.Mathlib.Omega.{arith}
-use native.Mathlib.Nat.{pow-suc}
+use native.Mathlib.Nat.{lt-of-lt-of-le}
 use native.Mathlib.Numerals.{add-one}
-use lib.Dec.{eqb, ltb}
-use lib.ListN.{length, getD, take, length-append}
-use borrow.Author.Tests.{lt-ltb, le-ltb, ltb-true, ltb-false}
+use borrow.Author.Tests.{eqb-true}
+use lib.Dec.{eqb}
+use lib.ListN.{length, take, getD, length-append, length-take}
+use lib.Pow.{pow-mono}
+use lib.Seq.{getD-take}
+use Rattle.text.specs.Decimal.{decimal}
+use Rattle.text.proofs.Digits.{decimal-few, decimal-word}
 use Rattle.marks.specs.declared.Found.{Found}
 use Rattle.marks.specs.declared.Found.the-variants.{At, Nothing}
 use Rattle.rules.specs.declared.Message.{Message}
 use Rattle.rules.specs.declared.Pool.{Pool}
-use Rattle.rules.specs.declared.Answer.{Answer}
-use Rattle.rules.specs.declared.Answer.the-variants.{Done, Refused}
-use Rattle.rules.specs.declared.Action.the-variants.{Take}
-use Rattle.rules.specs.Pool.{blank, laid, messageAt}
+use Rattle.rules.specs.InnerAsks.{Below}
+use Rattle.rules.specs.Pool.{blank}
 use Rattle.table_type.specs.declared.Table.{Table}
 use Rattle.table_type.specs.Table.{nodeAt}
-use Rattle.table.specs.Step.{stepOf}
-use Rattle.file_list.specs.declared.Trip.{Trip}
-use Rattle.file_list.specs.Trip.{ended, tripBy, tripOf, followOf}
-use Rattle.file_list.specs.Print.{decimalTo, decimal, endText, lineOf, linesOf}
+use Rattle.table_type.proofs.IdLaws.{ids-at}
+use Rattle.table.specs.Valid.{validOf}
+use Rattle.file_list.specs.Trip.{followOf}
+use Rattle.file_list.specs.Print.{endText, lineOf, linesOf}
+use Rattle.file_list.proofs.Following.{Lone, lone, lone-listed, lone-slot, lone-key, follow-few, follow-below}
 
--- ---- digits
+-- ---- a line
 
-pub digit : (n x : ℕ) → x < 10 → decimalTo (suc n) x ≡ (48 + x) ∷ []
-unfolding decimalTo
-digit n x h = rw (lt-ltb x 10 h)
-
-pub digits : (n x : ℕ) → 10 ≤ x → decimalTo (suc n) x ≡ decimalTo n (x / 10) ++ ((48 + x % 10) ∷ [])
-unfolding decimalTo
-digits n x h = rw (le-ltb x 10 h)
-
--- more digits are allowed than there are
-spare : (n x : ℕ) → x < 10 ^ suc n → decimalTo (suc (suc n)) x ≡ decimalTo (suc n) x
-spare zero x h = digit 1 x (omega arith) ∙ sym (digit 0 x (omega arith))
-spare (suc n) x h = go (ltb x 10) refl (spare n (x / 10))
-  where
-    go : (b : Bool) → ltb x 10 ≡ b → (x / 10 < 10 ^ suc n → decimalTo (suc (suc n)) (x / 10) ≡ decimalTo (suc n) (x / 10))
-        → decimalTo (suc (suc (suc n))) x ≡ decimalTo (suc (suc n)) x
-    go true e rest = let l = ltb-true x 10 e in digit (suc (suc n)) x l ∙ sym (digit (suc n) x l)
-    go false e rest =
-        let l = ltb-false x 10 e in
-        let k : x < 10 ^ suc n * 10 = rw (pow-suc 10 (suc n)) at h in
-        digits (suc (suc n)) x l ∙ rw (rest (omega (arith, k))) (sym (digits (suc n) x l))
-
--- the digits of a 32-bit number: those of its tenth, and its last
-pub decimal-more : (x : ℕ) → 10 ≤ x → x < 10 ^ 10 → decimal x ≡ decimal (x / 10) ++ ((48 + x % 10) ∷ [])
-decimal-more x l h = digits 9 x l ∙ rw (spare 8 (x / 10) (omega arith))
-
--- a number below ten to the n has at most n digits, however many are allowed
-pub digits-few : (n k x : ℕ) → x < 10 ^ suc n → length (decimalTo k x) ≤ suc n
-unfolding decimalTo
-digits-few n zero x h = omega arith
-digits-few zero (suc k) x h = rw (digit k x (omega arith)) (omega arith)
-digits-few (suc n) (suc k) x h = go (ltb x 10) refl (digits-few n k (x / 10))
-  where
-    go : (b : Bool) → ltb x 10 ≡ b → (x / 10 < 10 ^ suc n → length (decimalTo k (x / 10)) ≤ suc n)
-        → length (decimalTo (suc k) x) ≤ suc (suc n)
-    go true e rest = rw (digit k x (ltb-true x 10 e)) (omega arith)
-    go false e rest =
-        let l : x < 10 ^ suc n * 10 = rw (pow-suc 10 (suc n)) at h in
-        rw (digits k x (ltb-false x 10 e), length-append) (omega (arith, rest (omega (arith, l))))
-
--- and never more than are allowed
-pub digits-most : (k x : ℕ) → length (decimalTo k x) ≤ k
-unfolding decimalTo
-digits-most zero x = omega arith
-digits-most (suc k) x = go (ltb x 10) (digits-most k (x / 10))
-  where
-    go : (b : Bool) → length (decimalTo k (x / 10)) ≤ k
-        → length (cond b ((48 + x) ∷ []) (decimalTo k (x / 10) ++ ((48 + x % 10) ∷ []))) ≤ suc k
-    go true rest = omega arith
-    go false rest = rw length-append (omega arith)
-
--- ---- lines
-
-by-few : (a : Answer) (p : Pool) (m : Message) (hops : ℕ) (rest : Trip) (n : ℕ) → hops ≤ n → rest .hops ≤ n
-    → tripBy a p m hops rest .hops ≤ n
-by-few (Refused why) p m hops rest n h r = h
-by-few Done p m hops rest n h r = go (eqb (p .count) 0) (eqb (messageAt p 0 .kind) 1)
-  where
-    go : (b c : Bool) → cond b (ended (At (m .dest)) hops) (cond c rest (ended Nothing hops)) .hops ≤ n
-    go true c = h
-    go false true = r
-    go false false = h
-
--- each take routes at most once
-pub trip-few : (n : ℕ) (t : Table) (p : Pool) (hops : ℕ) → tripOf n t p hops .hops ≤ hops + n
-unfolding tripOf
-trip-few zero t p hops = omega arith
-trip-few (suc n) t p hops =
-    let s = stepOf t p 256 (Take 0) in
-    by-few (s .answer) (s .pool) (messageAt p 0) hops _ (hops + suc n) (omega arith)
-    (omega (arith, trip-few n (s .table) (s .pool) (hops + 1)))
-
-end-short : (t : Table) (e : Found) → length (endText t e) ≤ 10
-end-short t (At e) = digits-most 10 (nodeAt t e .id)
-end-short t Nothing = omega arith
-
--- the lengths of a line's fields
+-- the lengths of its fields
 pub line-length : (t : Table) (m : Message)
     → length (lineOf t m)
     ≡ length (decimal (m .word)) + 1 + (length (decimal (nodeAt t (m .dest) .id)) + 1)
@@ -110,29 +38,36 @@ pub line-length : (t : Table) (m : Message)
 unfolding lineOf
 line-length t m = simp length-append (omega arith)
 
-pub line-short : (t : Table) (m : Message) → length (lineOf t m) ≤ 36
-unfolding followOf
-line-short t m =
-    let few : followOf t m .hops < 10 ^ 2 = omega (arith, trip-few 64 t (laid (m ∷ [])) 0) in
-    omega (
-      arith,
-      line-length t m,
-      digits-most 10 (m .word),
-      digits-most 10 (nodeAt t (m .dest) .id),
-      end-short t (followOf t m .end),
-      digits-few 1 10 (followOf t m .hops) few,
-    )
+module _ {t : Table} {m : Message} (l : Lone t m) where
+  -- a number of the ring is a word
+  ring-word : (x : ℕ) → x < 2 ^ t .m → x < 4294967296
+  ring-word x h = lt-of-lt-of-le h (pow-mono (lone-listed l .width .high))
+
+  id-short : (s : ℕ) → s < t .n → length (decimal (nodeAt t s .id)) ≤ 10
+  id-short s h =
+      decimal-word (nodeAt t s .id)
+      (ring-word (nodeAt t s .id) (rw (ids-at (t .nodes) s) at (lone-listed l .ids-in s (omega (arith, lone-listed l .n-high)))))
+
+  end-short : (e : Found) → Below e (t .n) → length (endText t e) ≤ 10
+  end-short (At e) h = id-short e h
+  end-short Nothing h = omega arith
+
+  pub line-short : length (lineOf t m) ≤ 36
+  line-short =
+      omega (
+        arith,
+        line-length t m,
+        decimal-word (m .word) (ring-word (m .word) (lone-key l)),
+        id-short (m .dest) (lone-slot l),
+        end-short (followOf t m .end) (follow-below l),
+        decimal-few 1 (followOf t m .hops) (omega (arith, follow-few l, lone-listed l .n-high)),
+      )
+
+-- ---- lines
 
 -- the line of a message, if it is a Lookup
 abbrev pub lineIf : Table → Message → List ℕ
 lineIf t m = cond (eqb (m .kind) 1) (lineOf t m) []
-
-line-if-short : (t : Table) (m : Message) → length (lineIf t m) ≤ 36
-line-if-short t m = go (eqb (m .kind) 1)
-  where
-    go : (b : Bool) → length (cond b (lineOf t m) []) ≤ 36
-    go true = line-short t m
-    go false = omega arith
 
 lines-cons : (t : Table) (m : Message) (ms : List Message) → linesOf t (m ∷ ms) ≡ lineIf t m ++ linesOf t ms
 unfolding linesOf
@@ -155,7 +90,30 @@ pub lines-more : (t : Table) (ms : List Message) (q : ℕ) → q < length ms
     → linesOf t (take (q + 1) ms) ≡ linesOf t (take q ms) ++ lineIf t (getD ms q blank)
 lines-more t ms q h = rw add-one (lines-suc t ms q h)
 
-pub lines-short : (t : Table) (ms : List Message) → length (linesOf t ms) ≤ 36 * length ms
+-- each Lookup among the messages is one that waits alone
+abbrev Loners : Table → List Message → Type 0
+Loners t ms = (q : ℕ) → q < length ms → getD ms q blank .kind ≡ 1 → Lone t (getD ms q blank)
+
+line-if-short : (t : Table) (m : Message) → (m .kind ≡ 1 → Lone t m) → length (lineIf t m) ≤ 36
+line-if-short t m l = go (eqb (m .kind) 1) refl
+  where
+    go : (b : Bool) → eqb (m .kind) 1 ≡ b → length (cond b (lineOf t m) []) ≤ 36
+    go true e = line-short (l (eqb-true (m .kind) 1 e))
+    go false e = omega arith
+
+all-short : (t : Table) (ms : List Message) → Loners t ms → length (linesOf t ms) ≤ 36 * length ms
 unfolding linesOf
-lines-short t [] = omega arith
-lines-short t (m ∷ ms) = rw (lines-cons t m ms, length-append) (omega (arith, line-if-short t m, lines-short t ms))
+all-short t [] l = omega arith
+all-short t (m ∷ ms) l =
+    rw (lines-cons t m ms, length-append)
+    (omega (arith, line-if-short t m (l 0 (omega arith)), all-short t ms (λ q h. l (suc q) (omega arith))))
+
+-- of the first messages of a valid table
+pub lines-short : (t : Table) (p : Pool) → validOf t p ≡ true → (q : ℕ) → q ≤ p .count
+    → length (linesOf t (take q (p .places))) ≤ 36 * q
+lines-short t p v q h =
+    let few = length-take q (p .places) in
+    omega (arith, few, all-short t (take q (p .places)) (λ i l k.
+    let j : i < q = omega (arith, few) in
+    let same = getD-take q (p .places) i blank j in
+    rw same (lone t p v i (omega arith) (rw same at k))))

@@ -8,7 +8,6 @@ use Rattle.rules.specs.declared.Node.{Node}
 use Rattle.rules.specs.declared.Ring.{Ring}
 use Rattle.rules.specs.Hop.{nextHop}
 use Rattle.rules.specs.Leaf.{coversOf}
-use Rattle.rules.specs.Letters.{lookup}
 use Rattle.rules.specs.Nodes.{sidesOf}
 use Rattle.rules.specs.Plans.{isReady}
 use Rattle.table_type.specs.declared.Table.{Table}

@@ -7,7 +7,8 @@ use Rattle.marks.specs.declared.Found.the-variants.{At, Nothing}
 use Rattle.rules.specs.declared.Message.{Message}
 use Rattle.rules.specs.InnerAsks.{Below}
 use Rattle.file_list.specs.declared.Trip.{Trip}
-use Rattle.file_list.specs.Print.{decimal, space, newline}
+use Rattle.text.specs.Decimal.{decimal}
+use Rattle.file_list.specs.Print.{space, newline}
 
 -- it ended at one of the 64 slots, if at any, after fewer than 64 routings
 pub record Ends (trip : Trip) : Type 0 where

@@ -1,6 +1,5 @@
 pub mod Trip
 pub mod Print
-pub mod InnerPrints
 pub mod List
 pub mod InnerLine
 pub mod InnerFollow

@@ -1,12 +1,11 @@
 -- The listing: its bytes, from the bytes of a table file. Definitions only. Assumes nothing.
-use mathlib.Core.Bool.{Bool, cond}
+use mathlib.Core.Bool.{cond}
 use mathlib.Core.List.{List, [], _∷_, _++_}
-use Prim.Native.Nat.{ℕ, zero, suc, _+_, _/_, _%_}
-use lib.Dec.{eqb, ltb}
+use Prim.Native.Nat.{ℕ}
+use lib.Dec.{eqb}
 use Rattle.marks.specs.declared.Found.{Found}
 use Rattle.marks.specs.declared.Found.the-variants.{At, Nothing}
 use Rattle.rules.specs.declared.Message.{Message}
-use Rattle.rules.specs.declared.Pool.{Pool}
 use Rattle.rules.specs.declared.Answer.{Answer}
 use Rattle.rules.specs.declared.Answer.the-variants.{Done, Refused}
 use Rattle.rules.specs.Numbers.{refusalNumber}
@@ -16,16 +15,9 @@ use Rattle.table_type.specs.declared.Stepped.{Stepped}
 use Rattle.table_type.specs.Start.{noTable}
 use Rattle.table_type.specs.Table.{nodeAt}
 use Rattle.file.specs.Load.{loadOf}
+use Rattle.text.specs.Decimal.{decimal}
 use Rattle.file_list.specs.declared.Trip.{Trip}
 use Rattle.file_list.specs.Trip.{followOf}
-
--- a number in decimal digits, of which there are at most so many
-unfoldable pub decimalTo : ℕ → ℕ → List ℕ
-decimalTo zero x = []
-decimalTo (suc more) x = let rest = decimalTo more (x / 10) in cond (ltb x 10) ((48 + x) ∷ []) (rest ++ ((48 + x % 10) ∷ []))
-
-abbrev pub decimal : ℕ → List ℕ
-decimal x = decimalTo 10 x
 
 abbrev pub space : ℕ
 space = 32

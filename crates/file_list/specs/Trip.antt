@@ -1,7 +1,7 @@
 -- Following a lookup as the only message, on a table with no other step: it is taken, by the real step, until it is delivered or ends. Definitions only.
 -- Assumes nothing.
-use mathlib.Core.Bool.{Bool, cond}
-use mathlib.Core.List.{List, [], _∷_}
+use mathlib.Core.Bool.{cond}
+use mathlib.Core.List.{[], _∷_}
 use Prim.Native.Nat.{ℕ, zero, suc, _+_}
 use lib.Dec.{eqb}
 use Rattle.marks.specs.declared.Found.{Found}
@@ -13,7 +13,6 @@ use Rattle.rules.specs.declared.Answer.the-variants.{Done, Refused}
 use Rattle.rules.specs.declared.Action.the-variants.{Take}
 use Rattle.rules.specs.Pool.{laid, messageAt}
 use Rattle.table_type.specs.declared.Table.{Table}
-use Rattle.table_type.specs.declared.Stepped.{Stepped}
 use Rattle.table.specs.Step.{stepOf}
 use Rattle.file_list.specs.declared.Trip.{Trip}
 

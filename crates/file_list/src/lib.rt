@@ -6,11 +6,11 @@ ghost use Prim.Native.Nat.{_+_, _*_, _^_, _<_, _≤_};
 ghost use lib.ListN.{length};
 ghost use Rattle.rules.specs.InnerAsks.{Listed, Below};
 ghost use Rattle.rules.specs.Numbers.{refusalNumber};
-ghost use Rattle.rules.specs.Pool.{laid, waiting};
-ghost use Rattle.table_type.specs.Start.{noTable};
+ghost use Rattle.rules.specs.Pool.{waiting};
 ghost use Rattle.table.specs.Valid.{validOf};
-ghost use Rattle.file_list.specs.Print.{decimal, headline, refusedWord, linesOf, printOf};
-ghost use Rattle.file_list.specs.InnerPrints.{Prints};
+ghost use Rattle.text.specs.Decimal.{decimal};
+ghost use Rattle.text.specs.InnerPrints.{Prints};
+ghost use Rattle.file_list.specs.Print.{headline, refusedWord, linesOf, printOf};
 ghost use Rattle.file_list.specs.InnerFollow.{turnOf};
 ghost use Rattle.file_list.specs.InnerLine.{Ends, endIn, lineIn};
 ghost use Rattle.file_list.specs.List.{listOf, listedOf};
@@ -60,45 +60,6 @@ fn turn_at(g: Ring, ids: &[u32; 64], dead: u64, i: usize, v: Node, k: u32) -> Tu
     }
 }
 
-// Writes one byte.
-fn put_byte(b: &mut [u8], at: usize, x: u8) -> usize
-    requires { ⌜ at + 1 ≤ length (now b) ⌝ }
-    ensures { λ r. ⌜ Prints (now (b .entry)) at (x ∷ []) r (now (b .exit)) ⌝ }
-{
-    b[at] = x;
-    at + 1
-}
-
-// Writes a text.
-fn put_text(b: &mut [u8], at: usize, text: &[u8]) -> usize
-    requires { ⌜ at + length (now text) ≤ length (now b) ⌝ }
-    ensures { λ r. ⌜ Prints (now (b .entry)) at (now (text .entry)) r (now (b .exit)) ⌝ }
-{
-    let n = bytes::copy(text, &mut b[at..]);
-    at + n
-}
-
-// Writes a number in decimal digits: those of its tenth, and its last.
-fn put_number(b: &mut [u8], at: usize, x: u32) -> usize
-    requires { ⌜ at + length (decimal x) ≤ length (now b) ⌝ }
-    ensures { λ r. ⌜ Prints (now (b .entry)) at (decimal x) r (now (b .exit)) ⌝ }
-{
-    if x < 10 {
-        return put_byte(b, at, 48 + x as u8);
-    }
-    let next = put_number(b, at, x / 10);
-    put_byte(b, next, 48 + (x % 10) as u8)
-}
-
-// Writes a number, and the byte that ends its field.
-fn put_field(b: &mut [u8], at: usize, x: u32, mark: u8) -> usize
-    requires { ⌜ at + length (decimal x) + 1 ≤ length (now b) ⌝ }
-    ensures { λ r. ⌜ Prints (now (b .entry)) at (decimal x ++ (mark ∷ [])) r (now (b .exit)) ⌝ }
-{
-    let next = put_number(b, at, x);
-    put_byte(b, next, mark)
-}
-
 // Writes the id of the slot that delivered a lookup, or `-`.
 fn put_end(b: &mut [u8], at: usize, ids: &[u32; 64], end: Found) -> usize
     requires { ⌜ Below end 64 × (at + length (endIn (now ids) end) ≤ length (now b)) ⌝ }
@@ -107,9 +68,9 @@ fn put_end(b: &mut [u8], at: usize, ids: &[u32; 64], end: Found) -> usize
     match end {
         Found::At(e) => {
             let id = ids[e];
-            put_number(b, at, id)
+            text::put_number(b, at, id)
         }
-        Found::Nothing => put_byte(b, at, 45),
+        Found::Nothing => text::put_byte(b, at, 45),
     }
 }
 
@@ -121,11 +82,11 @@ fn put_line(b: &mut [u8], at: usize, ids: &[u32; 64], m: Message, trip: Trip) ->
     let i = m.dest as usize;
     let own = ids[i];
     let end = trip.end;
-    let a1 = put_field(b, at, m.word, 32);
-    let a2 = put_field(b, a1, own, 32);
+    let a1 = text::put_field(b, at, m.word, 32);
+    let a2 = text::put_field(b, a1, own, 32);
     let a3 = put_end(b, a2, ids, end);
-    let a4 = put_byte(b, a3, 32);
-    put_field(b, a4, trip.hops as u32, 10)
+    let a4 = text::put_byte(b, a3, 32);
+    text::put_field(b, a4, trip.hops as u32, 10)
 }
 
 // Follows each waiting lookup, in pool order, as the only message of the table, with no other step, and writes its line: by the rules alone, with no
@@ -174,7 +135,7 @@ fn print(t: Table, p: Pool, out: &mut [u8]) -> usize
     requires { ⌜ (validOf t p ≡ true) × (16384 ≤ length (now out)) ⌝ }
     ensures { λ r. ⌜ Prints (now (out .entry)) 0 (headline ++ linesOf t (waiting p)) r (now (out .exit)) ⌝ }
 {
-    let at = put_text(out, 0, b"key from to hops\n");
+    let at = text::put_text(out, 0, b"key from to hops\n");
     follow(out, at, t, p)
 }
 
@@ -184,8 +145,8 @@ fn put_refused(b: &mut [u8], why: Refusal) -> usize
     ensures { λ r. ⌜ Prints (now (b .entry)) 0 (refusedWord ++ (decimal (refusalNumber why) ++ (10 ∷ []))) r (now (b .exit)) ⌝ }
 {
     let number = parts::answer_number(Answer::Refused(why));
-    let at = put_text(b, 0, b"refused ");
-    put_field(b, at, number, 10)
+    let at = text::put_text(b, 0, b"refused ");
+    text::put_field(b, at, number, 10)
 }
 
 // Writes the listing of what a load left.
@@ -200,37 +161,15 @@ fn put_loaded(b: &mut [u8], s: Stepped) -> usize
     }
 }
 
-// The table of no node.
-fn no_table() -> Table
-    ensures { λ r. ⌜ r ≡ noTable ⌝ }
-{
-    let none = table_type::not_started(Refusal::Invalid);
-    none.table
-}
-
-// The pool in which nothing waits.
-fn no_pool() -> Pool
-    ensures { λ r. ⌜ r ≡ laid [] ⌝ }
-{
-    let none = parts::blank_message();
-    Pool {
-        count: 0,
-        places: [none; 256],
-    }
-}
-
 // Writes the listing of a file into the first bytes of a buffer, and tells how many: of a table file its header line and a line for each
 // waiting lookup, of any other file one line with the number of its refusal. 11 for a buffer of fewer than 16,384 bytes, which stays as it is.
 pub fn list(file: &[u8], out: &mut [u8]) -> Wrote
     ensures { λ r. ⌜ (r ≡ listOf (now (file .entry)) (now (out .entry))) × (now (out .exit) ≡ listedOf (now (file .entry)) (now (out .entry))) ⌝ }
 {
     if out.len() < 16384 {
-        return Wrote {
-            answer: Answer::Refused(Refusal::NoRoom),
-            count: 0,
-        };
+        return file_write::not_written(Refusal::NoRoom);
     }
-    let s = file_read::load(file, no_table(), no_pool(), 256);
+    let s = file_read::load(file, table_parts::no_table(), table_parts::no_messages(), 256);
     let count = put_loaded(out, s);
     Wrote {
         answer: Answer::Done,

@@ -14,8 +14,8 @@ use lib.Seq.{take-all, drop-drop, set-at, append-snoc}
 use Rattle.marks.proofs.Bools.{and-left, and-right}
 use Rattle.rules.specs.Limits.{mLow, mHigh, lLow, lHigh, nodesHigh, messagesHigh}
 use Rattle.rules.specs.Fits.{between}
-use Rattle.file.specs.Bytes.{numberOf, decode, decodeAll}
-use Rattle.file.proofs.Codec.{decode-all-length}
+use Rattle.words.specs.Bytes.{numberOf, decode, decodeAll}
+use Rattle.words.proofs.Codec.{decode-all-length}
 use Rattle.file.specs.Format.{nodeWidths, messageWidths, nodesAt, messagesAt, totalOf, statusOf, nodeFrom, messageFrom}
 use Rattle.file.specs.Load.{headerWord, fileM, fileL, fileN, fileCount, headerFits, offsetsFit}
 

@@ -1,9 +1,9 @@
 // Reading a table file: its words, its records, its tests in the order of their numbers.
 ghost use mathlib.Core.Path.{_≡_};
 ghost use mathlib.Core.Bool.{true};
-ghost use Prim.Native.Nat.{ℕ, _+_, _*_, _<_, _≤_};
-ghost use lib.ListN.{length, take, drop};
-ghost use Rattle.file.specs.Bytes.{numberOf, decode};
+ghost use Prim.Native.Nat.{_+_, _*_, _<_, _≤_};
+ghost use lib.ListN.{length, drop};
+ghost use Rattle.words.specs.Bytes.{decode};
 ghost use Rattle.file.specs.Format.{nodeWidths, messageWidths, statusOf, nodeFrom, messageFrom};
 ghost use Rattle.file.specs.Load.{headerWord, headerFits, offsetsFit, statusesFit, fileTable, partPool, filePool, loadOf};
 ghost use Rattle.file_read.specs.InnerRecords.{Fitting, recordsOf};
@@ -15,40 +15,12 @@ use rules::Status;
 use table_type::Stepped;
 use table_type::Table;
 
-fn wide(x: u8) -> u32
-    ensures { λ r. ⌜ (r ≡ x) × (r < 256) ⌝ }
-{
-    x as u32
-}
-
-// The word whose four bytes, lowest first, begin at a place.
-fn read32(bs: &[u8], at: usize) -> u32
-    requires { ⌜ at + 4 ≤ length (now bs) ⌝ }
-    ensures { λ r. ⌜ r ≡ numberOf (take 4 (drop at (now (bs .entry)))) ⌝ }
-{
-    let b0 = wide(bs[at]);
-    let b1 = wide(bs[at + 1]);
-    let b2 = wide(bs[at + 2]);
-    let b3 = wide(bs[at + 3]);
-    b0 + 256 * b1 + 65536 * b2 + 16777216 * b3
-}
-
-// The long word whose eight bytes, lowest first, begin at a place.
-fn read64(bs: &[u8], at: usize) -> u64
-    requires { ⌜ at + 8 ≤ length (now bs) ⌝ }
-    ensures { λ r. ⌜ r ≡ numberOf (take 8 (drop at (now (bs .entry)))) ⌝ }
-{
-    let lo = read32(bs, at) as u64;
-    let hi = read32(bs, at + 4) as u64;
-    lo + 4294967296 * hi
-}
-
 // Word i of the header, from 0.
 fn word(bs: &[u8], i: usize) -> u32
     requires { ⌜ (i < 8) × (32 ≤ length (now bs)) ⌝ }
     ensures { λ r. ⌜ r ≡ headerWord (now (bs .entry)) i ⌝ }
 {
-    read32(bs, 4 * i)
+    words::read32(bs, 4 * i)
 }
 
 // The status of a number from 0 to 3, and dead for any other.
@@ -68,15 +40,15 @@ fn read_node(bs: &[u8], at: usize) -> Node
     requires { ⌜ at + 64 ≤ length (now bs) ⌝ }
     ensures { λ r. ⌜ r ≡ nodeFrom (decode nodeWidths (drop at (now (bs .entry)))) ⌝ }
 {
-    let id = read32(bs, at);
-    let status = status_of(read32(bs, at + 4));
-    let left = read64(bs, at + 8);
-    let right = read64(bs, at + 16);
-    let probing = read64(bs, at + 24);
-    let failed = read64(bs, at + 32);
-    let routing = read64(bs, at + 40);
-    let lease = read64(bs, at + 48);
-    let grant = read64(bs, at + 56);
+    let id = words::read32(bs, at);
+    let status = status_of(words::read32(bs, at + 4));
+    let left = words::read64(bs, at + 8);
+    let right = words::read64(bs, at + 16);
+    let probing = words::read64(bs, at + 24);
+    let failed = words::read64(bs, at + 32);
+    let routing = words::read64(bs, at + 40);
+    let lease = words::read64(bs, at + 48);
+    let grant = words::read64(bs, at + 56);
     Node {
         id,
         status,
@@ -95,16 +67,16 @@ fn read_message(part: &[u8], at: usize) -> Message
     requires { ⌜ at + 56 ≤ length (now part) ⌝ }
     ensures { λ r. ⌜ r ≡ messageFrom (decode messageWidths (drop at (now (part .entry)))) ⌝ }
 {
-    let kind = read32(part, at);
-    let dest = read32(part, at + 4);
-    let word = read32(part, at + 8);
-    let flag = read32(part, at + 12);
-    let owner = read32(part, at + 16);
-    let hops = read32(part, at + 20);
-    let routing = read64(part, at + 24);
-    let left = read64(part, at + 32);
-    let right = read64(part, at + 40);
-    let failed = read64(part, at + 48);
+    let kind = words::read32(part, at);
+    let dest = words::read32(part, at + 4);
+    let word = words::read32(part, at + 8);
+    let flag = words::read32(part, at + 12);
+    let owner = words::read32(part, at + 16);
+    let hops = words::read32(part, at + 20);
+    let routing = words::read64(part, at + 24);
+    let left = words::read64(part, at + 32);
+    let right = words::read64(part, at + 40);
+    let failed = words::read64(part, at + 48);
     Message {
         kind,
         dest,
@@ -156,7 +128,7 @@ fn statuses_fit(bs: &[u8]) -> bool
     let n = word(bs, 2) as usize;
     let mut s: usize = 0;
     while s < n {
-        if 3 < read32(bs, 32 + 64 * s + 4) {
+        if 3 < words::read32(bs, 32 + 64 * s + 4) {
             return false;
         }
         s += 1;

@@ -19,7 +19,7 @@ use Rattle.table.proofs.Sound.{sound}
 use Rattle.file.specs.declared.Wrote.{Wrote}
 use Rattle.file.specs.Format.{totalOf, fileOf}
 use Rattle.file.specs.Write.{notWritten, wroteOf, writtenOf}
-use Rattle.file_write.specs.InnerPut.{Put}
+use Rattle.words.specs.InnerPut.{Put}
 
 -- what a valid table tells of its counts
 pub counts : (t : Table) (p : Pool) → validOf t p ≡ true → (t .n ≤ 64) × (p .count ≤ 256)

@@ -1,14 +1,14 @@
 // Writing a table file into a buffer: front to back, each writer giving the place behind what it wrote.
 ghost use mathlib.Core.Path.{_≡_};
 ghost use mathlib.Core.List.{_++_};
-ghost use Prim.Native.Nat.{ℕ, _+_, _*_, _<_, _≤_};
+ghost use Prim.Native.Nat.{_+_, _*_, _<_, _≤_};
 ghost use lib.ListN.{length};
-ghost use Rattle.file.specs.Bytes.{bytesOf, encode};
+ghost use Rattle.words.specs.Bytes.{bytesOf, encode};
 ghost use Rattle.file.specs.Format.{headerWidths, nodeWidths, messageWidths, headerRow, nodeRow, messageRow, totalOf, fileOf};
 ghost use Rattle.file.specs.InnerParts.{nodeBytes, messageBytes};
 ghost use Rattle.file.specs.Held.{Held};
 ghost use Rattle.file.specs.Write.{notWritten, wroteOf, writtenOf};
-ghost use Rattle.file_write.specs.InnerPut.{Put};
+ghost use Rattle.words.specs.InnerPut.{Put};
 use file::Wrote;
 use rules::Answer;
 use rules::Message;
@@ -17,34 +17,13 @@ use rules::Pool;
 use rules::Refusal;
 use table_type::Table;
 
-// Writes the four bytes of x, lowest first.
-fn write32(b: &mut [u8], at: usize, x: u32) -> usize
-    requires { ⌜ at + 4 ≤ length (now b) ⌝ }
-    ensures { λ r. ⌜ Put 4 (now (b .entry)) at (bytesOf 4 x) r (now (b .exit)) ⌝ }
-{
-    b[at] = (x % 256) as u8;
-    b[at + 1] = (x / 256 % 256) as u8;
-    b[at + 2] = (x / 65536 % 256) as u8;
-    b[at + 3] = (x / 16777216 % 256) as u8;
-    at + 4
-}
-
-// Writes the eight bytes of x, lowest first.
-fn write64(b: &mut [u8], at: usize, x: u64) -> usize
-    requires { ⌜ at + 8 ≤ length (now b) ⌝ }
-    ensures { λ r. ⌜ Put 8 (now (b .entry)) at (bytesOf 8 x) r (now (b .exit)) ⌝ }
-{
-    let mid = write32(b, at, (x % 4294967296) as u32);
-    write32(b, mid, (x / 4294967296) as u32)
-}
-
 // Writes two words.
 fn pair32(b: &mut [u8], at: usize, x: u32, y: u32) -> usize
     requires { ⌜ at + 8 ≤ length (now b) ⌝ }
     ensures { λ r. ⌜ Put 8 (now (b .entry)) at (bytesOf 4 x ++ bytesOf 4 y) r (now (b .exit)) ⌝ }
 {
-    let mid = write32(b, at, x);
-    write32(b, mid, y)
+    let mid = words::write32(b, at, x);
+    words::write32(b, mid, y)
 }
 
 // Writes two long words.
@@ -52,8 +31,8 @@ fn pair64(b: &mut [u8], at: usize, x: u64, y: u64) -> usize
     requires { ⌜ at + 16 ≤ length (now b) ⌝ }
     ensures { λ r. ⌜ Put 16 (now (b .entry)) at (bytesOf 8 x ++ bytesOf 8 y) r (now (b .exit)) ⌝ }
 {
-    let mid = write64(b, at, x);
-    write64(b, mid, y)
+    let mid = words::write64(b, at, x);
+    words::write64(b, mid, y)
 }
 
 // Writes the record of a node.
@@ -67,7 +46,7 @@ fn put_node(b: &mut [u8], at: usize, v: Node) -> usize
     let a2 = pair64(b, a1, v.left, v.right);
     let a3 = pair64(b, a2, v.probing, v.failed);
     let a4 = pair64(b, a3, v.routing, v.lease);
-    write64(b, a4, v.grant)
+    words::write64(b, a4, v.grant)
 }
 
 // Writes the record of a message.

@@ -3,18 +3,19 @@
 -- file alone. Assumes nothing.
 use mathlib.Core.Path.{_≡_, refl, sym, _∙_, ap}
 use mathlib.Core.Logic.{_⊎_, inl, inr, ⊎-elim}
-use mathlib.Core.Bool.{Bool, true, false, _&&_, _||_, not, and-true}
+use mathlib.Core.Bool.{Bool, true, false, _&&_, _||_, not, or-false}
 use Prim.Native.Nat.{ℕ, zero, suc, _+_, _^_, _<_, _≤_}
 use native.Mathlib.Nat.{le-of-lt, lt-of-lt-of-le}
+use native.Mathlib.Numerals.{add-one}
 use native.Mathlib.Omega.{arith}
-use borrow.Author.Tests.{eqb-true, lt-leb, le-leb, leb-true, leb-false, lt-ltb, ltb-true, not-true}
+use borrow.Author.Tests.{eq-eqb, ne-eqb, eqb-true, lt-leb, leb-false, lt-ltb, ltb-true, not-true}
 use lib.Dec.{eqb, leb, ltb}
 use lib.Pow.{pow-mono}
 use Rattle.marks.specs.declared.Found.{Found}
 use Rattle.marks.specs.declared.Found.the-variants.{At, Nothing}
-use Rattle.marks.proofs.Bools.{opposed, bool-false, bool-same, and-left, and-right, or-cases, false-not, lt-or-le}
+use Rattle.marks.proofs.Bools.{opposed, bool-false, bool-same, and-left, and-right, or-cases, or-right, false-not, lt-or-le, eq-or-ne}
 use Rattle.marks.specs.Marks.{has, gather, tally, firstTo, single, union, meet, without, addOf, removeOf}
-use Rattle.marks.specs.Marks.{sizeOf, lowestOf, lowestFromOf, listed}
+use Rattle.marks.specs.Marks.{sizeOf, lowestOf, listed}
 pub use Rattle.marks.proofs.Bits.{ext, has-zero, has-high, has-gather}
 pub use Rattle.marks.proofs.Bits.{gather-below, gather-high, gather-same, gather-all, gather-none, gather-more}
 pub use Rattle.marks.proofs.Slots.{tally-same, tally-mono, tally-none, tally-all, tally-le, tally-strict, tally-zero, tally-more}
@@ -104,31 +105,6 @@ lowest-found a s e = first-found 64 (has a) s e
 pub lowest-none : (a : ℕ) → a < 2 ^ 64 → lowestOf a ≡ Nothing → a ≡ 0
 unfolding lowestOf
 lowest-none a h e = empty a h (first-none 64 (has a) e)
-
-passed : (a s u : ℕ) → s ≤ u → (has a u && leb s u) ≡ false → has a u ≡ false
-passed a s u l e = sym (and-true (has a u)) ∙ (rw (le-leb s u l) at e)
-
--- t is the least member that is not below s
-pub record FirstFrom (a s t : ℕ) : Type 0 where
-  pub below : t < 64
-  pub holds : has a t ≡ true
-  pub from : s ≤ t
-  pub least : (u : ℕ) → s ≤ u → u < t → has a u ≡ false
-
-pub from-found : (a s t : ℕ) → lowestFromOf a s ≡ At t → FirstFrom a s t
-unfolding lowestFromOf
-from-found a s t e =
-    let i = first-found 64 (λ u. has a u && leb s u) t e in
-    record {
-      below = i .below;
-      holds = and-left (has a t) (leb s t) (i .holds);
-      from = leb-true s t (and-right (has a t) (leb s t) (i .holds));
-      least = λ u l k. passed a s u l (i .least u k);
-    }
-
-pub from-none : (a s : ℕ) → lowestFromOf a s ≡ Nothing → (u : ℕ) → u < 64 → s ≤ u → has a u ≡ false
-unfolding lowestFromOf
-from-none a s e u h l = passed a s u l (first-none 64 (λ t. has a t && leb s t) e u h)
 
 -- ---- how many members
 
@@ -260,3 +236,29 @@ listed-add n a t e h =
 pub listed-remove : (n a t : ℕ) → listed n a ≡ true → listed n (removeOf a t) ≡ true
 listed-remove n a t e =
     listed-part n (removeOf a t) a e (λ s l p. and-left (has a s) (not (eqb s t)) (sym (has-remove a t s l) ∙ p))
+
+-- ---- a set is gathered slot by slot: slot s is added where it passes the test, and passed over where it does not
+
+module _ (f : ℕ → Bool) (s : ℕ) where
+  took : s < 64 → f s ≡ true → addOf (gather s f) s ≡ gather (s + 1) f
+  took h p =
+      let k : s + 1 ≤ 64 = omega arith in
+      ext 64 (addOf (gather s f) s) (gather (s + 1) f) (add-below (gather s f) s) (lt-of-lt-of-le (gather-below (s + 1) f) (pow-mono k))
+      (λ t l. has-add (gather s f) s t l ∙ go t (lt-or-le t s) (eq-or-ne t s))
+    where
+      go : (t : ℕ) → (t < s) ⊎ (s ≤ t) → (t ≡ s) ⊎ (t ≡ s → ⊥) → (has (gather s f) t || eqb t s) ≡ has (gather (s + 1) f) t
+      go t o (inl e) = or-right (has (gather s f) t) (eq-eqb t s e) ∙ sym (rw e (has-gather (s + 1) f s (omega arith) ∙ p))
+      go t (inl l) (inr d) =
+          rw (ne-eqb t s d, or-false) (has-gather s f t l ∙ sym (has-gather (s + 1) f t (omega arith)))
+      go t (inr l) (inr d) =
+          rw (ne-eqb t s d, or-false) (gather-high s f t l ∙ sym (gather-high (s + 1) f t (omega arith)))
+
+  passed : f s ≡ false → gather s f ≡ gather (s + 1) f
+  unfolding gather
+  passed p = rw (add-one, p) (omega arith)
+
+  -- one turn: out was gathered below s, and next is what the turn makes of it
+  pub gather-next : (out next : ℕ) → s < 64 → out ≡ gather s f
+      → ((f s ≡ true) × (next ≡ addOf out s)) ⊎ ((f s ≡ false) × (next ≡ out)) → next ≡ gather (s + 1) f
+  gather-next out next h e (inl w) = w .1 ∙ (rw e (took h (w .0)))
+  gather-next out next h e (inr w) = w .1 ∙ e ∙ passed (w .0)

@@ -2,23 +2,23 @@
 -- the lowest one. Each is read mark by mark, and two sets with the same marks are equal. Assumes nothing.
 use mathlib.Core.Path.{_≡_, refl, sym, _∙_, ap}
 use mathlib.Core.Logic.{_⊎_, inl, inr}
-use mathlib.Core.Bool.{Bool, true, false, cond, _&&_, _||_, not, and-true}
+use mathlib.Core.Bool.{Bool, true, false, cond, _&&_, _||_, not}
 use Prim.Native.Nat.{ℕ, zero, suc, _+_, _-_, _*_, _/_, _%_, _^_, _<_, _≤_}
-use native.Mathlib.Nat.{mod-eq-of-lt, mul-add-mod-self-right, div-mul-le-self, lt-of-le-of-lt, add-zero, div-lt-iff-lt-mul, div-eq-of-lt}
+use native.Mathlib.Nat.{mod-eq-of-lt, mul-add-mod-self-right, div-lt-iff-lt-mul, div-eq-of-lt}
 use native.Mathlib.Omega.{arith}
-use borrow.Author.Tests.{eq-eqb, eqb-true, ne-eqb, lt-leb, le-leb}
+use borrow.Author.Tests.{eq-eqb, eqb-true, ne-eqb}
 use lib.Bits.{bitAnd, bitOr, bitXor, and-shr, or-shr, xor-shr, and-mod, or-mod, xor-mod, and-mask, xor-add-and, and-lt, or-lt}
 use lib.Count.{ones, ones-cat, trailingZeros, under}
-use lib.Dec.{eqb, leb}
-use lib.Pow.{ones-lt, ones-sub-lt, pow-pos, ones-split, high, shr-shr, shl-shr}
+use lib.Dec.{eqb}
+use lib.Pow.{ones-lt, ones-sub-lt, pow-pos, ones-split, high}
 use Rattle.marks.specs.declared.Found.the-variants.{At, Nothing}
-use Rattle.marks.proofs.Bools.{bool-same, and-fails-right, lt-or-le}
+use Rattle.marks.proofs.Bools.{bool-same}
 use Rattle.marks.specs.Marks.{has, gather, tally, single, union, meet, without, addOf, removeOf, sizeOf}
-use Rattle.marks.specs.Marks.{lowestOf, lowestFromOf, listed}
-use Rattle.marks.proofs.Bits.{bit, bit-lt, bit-zero, bit-suc, bit-below, digit, half-lt, top}
+use Rattle.marks.specs.Marks.{lowestOf, listed}
+use Rattle.marks.proofs.Bits.{bit, bit-lt, bit-zero, bit-suc, digit, half-lt, top}
 use Rattle.marks.proofs.Laws.{ext, has-zero, gather-below, gather-same, gather-all, has-single, has-union, has-meet, has-without}
 use Rattle.marks.proofs.Laws.{gather-none, gather-more, union-below, meet-below, without-below}
-use Rattle.marks.proofs.Laws.{First, first-at, first-same, first-nothing, listed-lt, lt-listed}
+use Rattle.marks.proofs.Laws.{First, first-at, first-nothing, listed-lt, lt-listed}
 
 -- ---- or, and, not
 
@@ -148,35 +148,6 @@ trailing-lowest a p h =
 pub zero-lowest : Nothing ≡ lowestOf 0
 unfolding lowestOf
 zero-lowest = sym (first-nothing 64 (has 0) (λ s h. has-zero s))
-
--- ---- the marks from s on, which `(a >> s) << s` leaves
-
-has-cut : (a s t : ℕ) → has (a / 2 ^ s * 2 ^ s) t ≡ (has a t && leb s t)
-unfolding has
-has-cut a s t = go (lt-or-le t s)
-  where
-    go : (t < s) ⊎ (s ≤ t) → has (a / 2 ^ s * 2 ^ s) t ≡ (has a t && leb s t)
-    go (inl l) =
-        let none : has (a / 2 ^ s * 2 ^ s) t ≡ false =
-        ap (λ (n : ℕ). has n t) (sym (add-zero (a / 2 ^ s * 2 ^ s))) ∙ rw (bit-below s (a / 2 ^ s) 0 t l) (has-zero t) in
-        none ∙ sym (and-fails-right (has a t) (lt-leb s t l))
-    go (inr l) =
-        let r = t - s in
-        let e : t ≡ s + r = omega arith in
-        let same : a / 2 ^ s * 2 ^ s / 2 ^ t ≡ a / 2 ^ t =
-        ap (λ (n : ℕ). a / 2 ^ s * 2 ^ s / 2 ^ n) e ∙ sym (shr-shr (a / 2 ^ s * 2 ^ s) s r)
-        ∙ ap (λ (n : ℕ). n / 2 ^ r) (shl-shr (a / 2 ^ s) s) ∙ shr-shr a s r ∙ ap (λ (n : ℕ). a / 2 ^ n) (sym e) in
-        rw (same, le-leb s t l) (sym (and-true (has a t)))
-
-pub cut-lowest : (a s : ℕ) → a < 2 ^ 64 → lowestOf ((a / 2 ^ s * 2 ^ s) % 2 ^ 64) ≡ lowestFromOf a s
-unfolding lowestOf lowestFromOf
-cut-lowest a s h =
-    rw (mod-eq-of-lt (lt-of-le-of-lt (div-mul-le-self a (2 ^ s)) h))
-    (first-same 64 (has (a / 2 ^ s * 2 ^ s)) (λ t. has a t && leb s t) (λ t l. has-cut a s t))
-
-pub far-lowest : (a s : ℕ) → 64 ≤ s → Nothing ≡ lowestFromOf a s
-unfolding lowestFromOf
-far-lowest a s h = sym (first-nothing 64 (λ t. has a t && leb s t) (λ t l. and-fails-right (has a t) (lt-leb s t (omega arith))))
 
 -- ---- nothing is left when n digits are shifted out
 

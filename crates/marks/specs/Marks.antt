@@ -60,10 +60,6 @@ sizeOf a = tally 64 (has a)
 unfoldable pub lowestOf : ℕ → Found
 lowestOf a = firstTo 64 (has a)
 
--- the least node of the set that is not below s
-unfoldable pub lowestFromOf : ℕ → ℕ → Found
-lowestFromOf a s = firstTo 64 (λ t. has a t && leb s t)
-
 -- no mark is at n or above
 unfoldable pub listed : ℕ → ℕ → Bool
 listed n a = allTo 64 (λ s. not (has a s && leb n s))

@@ -1,6 +1,6 @@
 // Sets of nodes: the 64 marks of a u64, mark s for slot s. No function asks anything of its caller.
 ghost use mathlib.Core.Path.{_≡_};
-ghost use Rattle.marks.specs.Marks.{has, single, union, meet, without, addOf, removeOf, sizeOf, lowestOf, lowestFromOf, listed};
+ghost use Rattle.marks.specs.Marks.{has, single, union, meet, without, addOf, removeOf, sizeOf, lowestOf, listed};
 
 // A slot that was looked for.
 pub enum Found {
@@ -70,18 +70,6 @@ pub fn lowest(a: u64) -> Found
         Found::Nothing
     } else {
         Found::At(u64::trailing_zeros(a) as usize)
-    }
-}
-
-// The least member from slot s on.
-pub fn lowest_from(a: u64, s: usize) -> Found
-    ensures { λ r. ⌜ r ≡ lowestFromOf a s ⌝ }
-{
-    if s < 64 {
-        let t = s as u32;
-        lowest((a >> t) << t)
-    } else {
-        Found::Nothing
     }
 }
 

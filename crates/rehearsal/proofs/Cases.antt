@@ -24,7 +24,7 @@ use Rattle.table_type.specs.Start.{noTable}
 use Rattle.table.specs.Settle.{carriedOut, settle, doneOf, refusedOf}
 use Rattle.table.specs.Step.{isSound, stepOf}
 use Rattle.table.specs.Valid.{nodesFit, messagesFit, poolFits, validOf}
-use Rattle.file.specs.Bytes.{bytesOf, numberOf, encode, decode, encodeAll, decodeAll}
+use Rattle.words.specs.Bytes.{bytesOf, numberOf, encode, decode, encodeAll, decodeAll}
 use Rattle.file.specs.Format.{fileOf}
 use Rattle.file.specs.Load.{headerFits, offsetsFit, statusesFit, fileTable, partPool, filePool, loadOf}
 use Rattle.face_file.specs.Calls.{loadedOf}

@@ -1,1 +1,2 @@
 pub mod InnerAnswers
+pub mod InnerSlots

@@ -1,7 +1,13 @@
-// What every action answers: it is done, and leaves a table and a pool, or it is refused, and leaves what was there.
+// Small parts of tables: what every action answers, done with a table and a pool or refused with what was there; the table of no node and the pool in
+// which none waits; the slots by status.
 ghost use mathlib.Core.Path.{_≡_};
+ghost use mathlib.Core.List.{[]};
+ghost use Prim.Native.Nat.{_≤_};
+ghost use Rattle.rules.specs.Pool.{laid};
+ghost use Rattle.table_type.specs.Start.{noTable};
 ghost use Rattle.table.specs.Settle.{refusedOf, doneOf};
 ghost use Rattle.table_parts.specs.InnerAnswers.{answeredOf, whyOf};
+ghost use Rattle.table_parts.specs.InnerSlots.{slotsWith};
 use rules::Answer;
 use rules::Planned;
 use rules::Pool;
@@ -39,4 +45,48 @@ pub fn why_of(what: Planned) -> Refusal
         Planned::No(why) => why,
         Planned::Go(_) => Refusal::Full,
     }
+}
+
+// The table of no node.
+pub fn no_table() -> Table
+    ensures { λ r. ⌜ r ≡ noTable ⌝ }
+{
+    let none = table_type::no_node();
+    let nodes = [none; 64];
+    Table {
+        m: 0,
+        l: 0,
+        n: 0,
+        nodes,
+    }
+}
+
+// The pool in which none waits.
+pub fn no_messages() -> Pool
+    ensures { λ r. ⌜ r ≡ laid [] ⌝ }
+{
+    let none = parts::blank_message();
+    Pool {
+        count: 0,
+        places: [none; 256],
+    }
+}
+
+// The slots whose status has 01's number so.
+pub fn slots_with(t: Table, number: u32) -> u64
+    requires { ⌜ t .n ≤ 64 ⌝ }
+    ensures { λ r. ⌜ r ≡ slotsWith t number ⌝ }
+{
+    let n = t.n;
+    let mut out: u64 = 0;
+    let mut s: usize = 0;
+    while s < n {
+        let v = t.nodes[s];
+        let st = v.status;
+        if parts::status_number(st) == number {
+            out = marks::added(out, s);
+        }
+        s += 1;
+    }
+    out
 }

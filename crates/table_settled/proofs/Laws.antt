@@ -1,48 +1,21 @@
--- The loops over the slots. A set is gathered slot by slot: slot s is added where it passes the test, and passed over where it does not.
--- The two tests of isSettled that ask something of every slot are one (calm), which a turn decides by the node's status. Assumes nothing.
-use mathlib.Core.Path.{_≡_, sym, _∙_, ap}
-use mathlib.Core.Logic.{_⊎_, inl, inr}
+-- The two tests of isSettled that ask something of every slot are one (calm), which a turn decides by the node's status; and the sets of slots
+-- by the number of their status are those of the dead and of the ready. Assumes nothing.
+use mathlib.Core.Path.{_≡_, refl, _∙_, ap}
 use mathlib.Core.Bool.{Bool, true, false, _&&_, _||_, not, or-true, or-false, and-true}
-use Prim.Native.Nat.{ℕ, _+_, _<_, _≤_}
-use native.Mathlib.Nat.{lt-of-lt-of-le}
-use native.Mathlib.Numerals.{add-one}
-use native.Mathlib.Omega.{arith}
+use Prim.Native.Nat.{ℕ, _<_}
 use borrow.Author.Tests.{eq-eqb, ne-eqb}
 use lib.Dec.{eqb}
-use lib.Pow.{pow-mono}
-use Rattle.marks.proofs.Bools.{bool-same, and-left, and-right, and-both, and-fails-right, or-right, false-not, lt-or-le, eq-or-ne}
-use Rattle.marks.specs.Marks.{has, gather, addOf, allTo}
-use Rattle.marks.proofs.Laws.{ext, has-add, has-gather, gather-below, gather-high, add-below, each, all-of, fails}
+use Rattle.marks.proofs.Bools.{bool-same, and-left, and-right, and-both, and-fails-right, false-not}
+use Rattle.marks.specs.Marks.{gather, allTo}
+use Rattle.marks.proofs.Laws.{gather-same, each, all-of, fails}
+use Rattle.rules.specs.declared.Status.{Status}
+use Rattle.rules.specs.declared.Status.the-variants.{Dead, Wait, Ok, Ready}
+use Rattle.rules.specs.Numbers.{statusNumber}
 use Rattle.rules.specs.Plans.{isDead, isReady}
 use Rattle.table_type.specs.declared.Table.{Table}
 use Rattle.table_type.specs.Table.{nodeAt, idsOf, ringOf}
-use Rattle.table.specs.Settled.{readySet, settledAt, isSettled}
-
-module _ (f : ℕ → Bool) (s : ℕ) where
-  took : s < 64 → f s ≡ true → addOf (gather s f) s ≡ gather (s + 1) f
-  took h p =
-      let k : s + 1 ≤ 64 = omega arith in
-      ext 64 (addOf (gather s f) s) (gather (s + 1) f) (add-below (gather s f) s) (lt-of-lt-of-le (gather-below (s + 1) f) (pow-mono k))
-      (λ t l. has-add (gather s f) s t l ∙ go t (lt-or-le t s) (eq-or-ne t s))
-    where
-      go : (t : ℕ) → (t < s) ⊎ (s ≤ t) → (t ≡ s) ⊎ (t ≡ s → ⊥) → (has (gather s f) t || eqb t s) ≡ has (gather (s + 1) f) t
-      go t o (inl e) = or-right (has (gather s f) t) (eq-eqb t s e) ∙ sym (rw e (has-gather (s + 1) f s (omega arith) ∙ p))
-      go t (inl l) (inr d) =
-          rw (ne-eqb t s d, or-false) (has-gather s f t l ∙ sym (has-gather (s + 1) f t (omega arith)))
-      go t (inr l) (inr d) =
-          rw (ne-eqb t s d, or-false) (gather-high s f t l ∙ sym (gather-high (s + 1) f t (omega arith)))
-
-  passed : f s ≡ false → gather s f ≡ gather (s + 1) f
-  unfolding gather
-  passed p = rw (add-one, p) (omega arith)
-
-  -- one turn: out was gathered below s, and next is what the turn makes of it
-  pub gather-next : (out next : ℕ) → s < 64 → out ≡ gather s f
-      → ((f s ≡ true) × (next ≡ addOf out s)) ⊎ ((f s ≡ false) × (next ≡ out)) → next ≡ gather (s + 1) f
-  gather-next out next h e (inl w) = w .1 ∙ (rw e (took h (w .0)))
-  gather-next out next h e (inr w) = w .1 ∙ e ∙ passed (w .0)
-
--- ---- settled
+use Rattle.table.specs.Settled.{readySet, deadSet, settledAt, isSettled}
+use Rattle.table_parts.specs.InnerSlots.{slotsWith}
 
 -- a node is dead or ready, and as a ready node has to be if it is ready
 abbrev pub calm : Bool → Bool → Bool → Bool
@@ -80,3 +53,30 @@ settled-not t i h e = settled-calm t ∙ and-fails-right (not (eqb (readySet t) 
 
 pub settled-all : (t : Table) (i : ℕ) → (readySet t ≡ 0 → ⊥) → i ≡ t .n → allTo i (calmIn t) ≡ true → isSettled t ≡ true
 settled-all t i d q e = settled-calm t ∙ and-both (false-not (ne-eqb (readySet t) 0 d)) (rw q at e)
+
+-- ---- the sets
+
+numbered : (t : Table) (number : ℕ) (f : Status → Bool) → ((st : Status) → eqb (statusNumber st) number ≡ f st)
+    → slotsWith t number ≡ gather (t .n) (λ s. f (nodeAt t s .status))
+unfolding slotsWith
+numbered t number f e = gather-same (t .n) _ _ (λ s h. e (nodeAt t s .status))
+
+pub dead-slots : (t : Table) → slotsWith t 0 ≡ deadSet t
+unfolding deadSet
+dead-slots t = numbered t 0 isDead same
+  where
+    same : (st : Status) → eqb (statusNumber st) 0 ≡ isDead st
+    same Dead = refl
+    same Wait = refl
+    same Ok = refl
+    same Ready = refl
+
+pub ready-slots : (t : Table) → slotsWith t 3 ≡ readySet t
+unfolding readySet
+ready-slots t = numbered t 3 isReady same
+  where
+    same : (st : Status) → eqb (statusNumber st) 3 ≡ isReady st
+    same Dead = refl
+    same Wait = refl
+    same Ok = refl
+    same Ready = refl

@@ -1,6 +1,6 @@
 // Settled, decided.
 ghost use mathlib.Core.Path.{_≡_};
-ghost use Prim.Native.Nat.{ℕ, _≤_, _<_};
+ghost use Prim.Native.Nat.{_≤_, _<_};
 ghost use Rattle.rules.specs.InnerAsks.{Listed};
 ghost use Rattle.table_type.specs.Table.{ringOf, idsOf};
 ghost use Rattle.table.specs.Settled.{readySet, deadSet, settledAt, isSettled};
@@ -14,18 +14,7 @@ fn ready_set(t: Table) -> u64
     requires { ⌜ t .n ≤ 64 ⌝ }
     ensures { λ r. ⌜ r ≡ readySet t ⌝ }
 {
-    let n = t.n;
-    let mut out: u64 = 0;
-    let mut s: usize = 0;
-    while s < n {
-        let v = t.nodes[s];
-        let st = v.status;
-        if parts::is_ready(st) {
-            out = marks::added(out, s);
-        }
-        s += 1;
-    }
-    out
+    table_parts::slots_with(t, 3)
 }
 
 // The dead nodes.
@@ -33,18 +22,7 @@ pub fn dead_set(t: Table) -> u64
     requires { ⌜ t .n ≤ 64 ⌝ }
     ensures { λ r. ⌜ r ≡ deadSet t ⌝ }
 {
-    let n = t.n;
-    let mut out: u64 = 0;
-    let mut s: usize = 0;
-    while s < n {
-        let v = t.nodes[s];
-        let st = v.status;
-        if parts::is_dead(st) {
-            out = marks::added(out, s);
-        }
-        s += 1;
-    }
-    out
+    table_parts::slots_with(t, 0)
 }
 
 // Are both neighbours of the ready node i the next ready ids, and is no ready node in its failed?

@@ -1,6 +1,6 @@
 -- `wire::written` meets its contract: the answer before the write decides the definition's case. Assumes nothing.
 use borrow.Author.Needs.{needs}
-use mathlib.Core.Path.{_≡_, refl}
+use mathlib.Core.Path.{_≡_}
 use mathlib.Core.List.{List}
 use Prim.Native.Nat.{ℕ}
 use Rattle.rules.specs.declared.Answer.the-variants.{Done, Refused}
@@ -35,6 +35,9 @@ enum-known-answer c = search needs
 same-length : tie.Need-same-length
 same-length c = search needs
 
+not-written-requires : tie.Need-not-written-requires
+not-written-requires c κs = search needs
+
 returns : tie.Need-returns
 returns c =
     let write = c .before .before in
@@ -44,4 +47,4 @@ returns-2 : tie.Need-returns-2
 returns-2 c = written-refused _ _ _ (c .before .answer .given .1)
 
 pub written-spec : {M : Type 1} → statement M
-written-spec = tie.close (tie.spec enum-told write-requires enum-known-answer same-length returns returns-2)
+written-spec = tie.close (tie.spec enum-told write-requires enum-known-answer not-written-requires same-length returns returns-2)

@@ -1,7 +1,7 @@
 -- `entry::settled` meets its contract: its three tests are the definition's, and a valid table is listed as the last one asks. Assumes nothing.
 use borrow.Author.Needs.{needs}
 use borrow.Author.Tests.{eq-eqb, ne-eqb, not-true, not-false}
-use mathlib.Core.Path.{_≡_, refl, sym, _∙_}
+use mathlib.Core.Path.{_≡_, sym, _∙_}
 use mathlib.Core.Bool.{true, false}
 use Prim.Native.Nat.{ℕ}
 use Rattle.rules.specs.declared.Pool.{Pool}

@@ -1,7 +1,7 @@
 -- `entry::start` meets its contract: the length and the answer of the table's own start decide the definition's case. Assumes nothing.
 use borrow.Author.Needs.{needs}
 use borrow.Author.Tests.{eq-eqb, ne-eqb}
-use mathlib.Core.Path.{_≡_, refl, sym, _∙_}
+use mathlib.Core.Path.{_≡_, _∙_}
 use mathlib.Core.List.{List, []}
 use Prim.Native.Nat.{ℕ}
 use Rattle.rules.specs.declared.Answer.the-variants.{Done, Refused}
@@ -10,7 +10,6 @@ use Rattle.rules.specs.declared.Refusal.{Refusal}
 use Rattle.rules.specs.declared.Refusal.the-variants as no
 use Rattle.rules.specs.Pool.{laid}
 use Rattle.table_type.specs.declared.Started.{Started}
-use Rattle.table_type.specs.declared.Stepped.{Stepped}
 use Rattle.table_type.specs.declared.Table.{Table}
 use Rattle.table.specs.Settle.{refusedOf, doneOf}
 use Rattle.table_type.specs.Start.{startOf}

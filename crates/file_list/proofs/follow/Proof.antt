@@ -12,11 +12,11 @@ use Rattle.table_type.specs.Table.{ringOf, idsOf}
 use Rattle.table_type.proofs.Laws.{length-mapped}
 use Rattle.table.specs.Settled.{deadSet}
 use Rattle.table.proofs.Sound.{sound}
-use Rattle.file_write.proofs.Laws.{put-length, stay}
+use Rattle.words.proofs.Puts.{put-length, stay}
 use Rattle.file_list.specs.declared.Turn.{Turn}
 use Rattle.file_list.specs.Trip.{ended, followOf}
 use Rattle.file_list.specs.Print.{linesOf}
-use Rattle.file_list.specs.InnerPrints.{Prints}
+use Rattle.text.specs.InnerPrints.{Prints}
 use Rattle.file_list.proofs.Following.{Lone, lone, lone-listed, lone-slot}
 use Rattle.file_list.specs.InnerFollow.{turnOf}
 use Rattle.file_list.proofs.Text.{line-short}
@@ -151,8 +151,8 @@ put-line-requires c κs =
       trip-ends one (trip-told w),
       rw line (omega (
         arith,
-        line-short (a .t3) m,
-        lines-end (a .t3) (a .t4 .places) (l .lookups .q) (l .lookups .inv .1),
+        line-short one,
+        lines-end (a .t3) (a .t4) (start l .pre .0) (l .lookups .q) (l .lookups .inv .0) (l .lookups .inv .1),
         counted (start l),
         start l .pre .1,
       )),

@@ -5,6 +5,9 @@ use Rattle.file_list.proofs.Ends.{loaded-by, lists-none, lists-done}
 use Rattle.file_list.proofs.list.Statement.{statement}
 use Rattle.file_list.proofs.list.Tie as tie
 
+not-written-requires : tie.Need-not-written-requires
+not-written-requires c κs = search needs
+
 returns : tie.Need-returns
 returns c =
     let a = c .before .before .before .args in
@@ -13,8 +16,8 @@ returns c =
 no-table-requires : tie.Need-no-table-requires
 no-table-requires c κs = search needs
 
-no-pool-requires : tie.Need-no-pool-requires
-no-pool-requires c κs = search needs
+no-messages-requires : tie.Need-no-messages-requires
+no-messages-requires c κs = search needs
 
 load-requires : tie.Need-load-requires
 load-requires c κs = search needs
@@ -31,15 +34,16 @@ returns-2 c =
     let load = put .before .before in
     let a = load .before .before .before .before .before .before .args in
     lists-done (a .file .now) (a .out .now) (omega arith) (load .load .result) (load .before .before .no-table .ensures)
-    (load .before .no-pool .ensures) (load .load .ensures) (put .put-loaded .ensures)
+    (load .before .no-messages .ensures) (load .load .ensures) (put .put-loaded .ensures)
 
 pub list-spec : {M : Type 1} → statement M
 list-spec =
     tie.close
     (tie.spec
+    not-written-requires
     returns
     no-table-requires
-    no-pool-requires
+    no-messages-requires
     load-requires
     put-loaded-requires
     same-length

@@ -1,6 +1,6 @@
 -- `listing::print` meets its contract: the header line, then the lines of the lookups. Assumes nothing.
 use borrow.Author.Needs.{needs}
-use Rattle.file_list.proofs.Runs.{then}
+use Rattle.text.proofs.Runs.{then}
 use Rattle.file_list.proofs.print.Statement.{statement}
 use Rattle.file_list.proofs.print.Tie as tie
 

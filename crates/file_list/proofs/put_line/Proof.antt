@@ -3,9 +3,10 @@ use borrow.Author.Needs.{needs}
 use Prim.Native.Nat.{_+_, _≤_}
 use native.Mathlib.Omega.{arith}
 use lib.ListN.{length, getD}
-use Rattle.file_list.specs.Print.{decimal}
+use Rattle.text.specs.Decimal.{decimal}
 use Rattle.file_list.specs.InnerLine.{endIn}
-use Rattle.file_list.proofs.Runs.{text-end, field-end, fields-length, line-run}
+use Rattle.text.proofs.Runs.{text-end, field-end}
+use Rattle.file_list.proofs.Runs.{fields-length, line-run}
 use Rattle.file_list.proofs.put_line.Statement.{statement}
 use Rattle.file_list.proofs.put_line.Tie as tie
 

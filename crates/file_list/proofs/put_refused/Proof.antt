@@ -1,8 +1,9 @@
 -- `listing::put_refused` meets its contract: the word, then the number. Assumes nothing.
 use borrow.Author.Needs.{needs}
 use native.Mathlib.Omega.{arith}
-use Rattle.file_list.proofs.Text.{digits-most}
-use Rattle.file_list.proofs.Runs.{text-end, refused-run}
+use Rattle.text.proofs.Digits.{decimal-word}
+use Rattle.text.proofs.Runs.{text-end}
+use Rattle.file_list.proofs.Runs.{refused-run}
 use Rattle.file_list.proofs.put_refused.Statement.{statement}
 use Rattle.file_list.proofs.put_refused.Tie as tie
 
@@ -19,7 +20,7 @@ put-field-requires : tie.Need-put-field-requires
 put-field-requires c κs =
     let text = c .before .before .before in
     let number = text .before .before .before in
-    omega (arith, text-end (text .put-text .ensures), digits-most 10 (number .answer-number .result))
+    omega (arith, text-end (text .put-text .ensures), decimal-word (number .answer-number .result) (omega arith))
 
 same-length : tie.Need-same-length
 same-length c = search needs

@@ -10,8 +10,8 @@ use lib.Dec.{leb}
 use lib.ListN.{length, getD, drop}
 use Rattle.marks.specs.Marks.{allTo}
 use Rattle.marks.proofs.Laws.{more, fails}
-use Rattle.file.specs.Bytes.{decode}
-use Rattle.file.proofs.Codec.{decode-at}
+use Rattle.words.specs.Bytes.{decode}
+use Rattle.words.proofs.Codec.{decode-at}
 use Rattle.file.specs.Format.{nodeWidths, nodesAt, totalOf}
 use Rattle.file.specs.Load.{fileN, fileCount, statusesFit}
 use Rattle.file_read.proofs.Laws.{offsets-long}

@@ -1,6 +1,6 @@
 -- `writer::pair64` meets its contract: the one, then the other. Assumes nothing.
 use borrow.Author.Needs.{needs}
-use Rattle.file_write.proofs.Laws.{follow}
+use Rattle.words.proofs.Puts.{follow}
 use Rattle.file_write.proofs.pair64.Statement.{statement}
 use Rattle.file_write.proofs.pair64.Tie as tie
 

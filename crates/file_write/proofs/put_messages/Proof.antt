@@ -8,10 +8,11 @@ use native.Mathlib.Omega.{arith}
 use lib.ListN.{length, take}
 use Rattle.rules.specs.Pool.{blank}
 use Rattle.table_type.proofs.Laws.{length-mapped}
-use Rattle.file.specs.Bytes.{encodeAll}
+use Rattle.words.specs.Bytes.{encodeAll}
 use Rattle.file.specs.Format.{messageWidths, messageRow}
-use Rattle.file_write.specs.InnerPut.{Put}
-use Rattle.file_write.proofs.Laws.{put-length, stay, rows-more}
+use Rattle.words.specs.InnerPut.{Put}
+use Rattle.words.proofs.Puts.{put-length, stay}
+use Rattle.file_write.proofs.Laws.{rows-more}
 use Rattle.file_write.proofs.put_messages.Statement.{statement}
 use Rattle.file_write.proofs.put_messages.Tie as tie
 

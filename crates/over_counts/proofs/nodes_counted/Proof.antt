@@ -10,7 +10,7 @@ use Prim.Native.Nat.{ℕ, _-_, _≤_}
 use native.Mathlib.Omega.{arith}
 use lib.Dec.{ltb}
 use Rattle.marks.specs.Marks.{gather}
-use Rattle.table_settled.proofs.Laws.{gather-next}
+use Rattle.marks.proofs.Laws.{gather-next}
 use Rattle.counts.specs.Counts.{countAt}
 use Rattle.over_counts.proofs.nodes_counted.Statement.{statement}
 use Rattle.over_counts.proofs.nodes_counted.Tie as tie

@@ -1,0 +1,22 @@
+-- `text::put_field` meets its contract: the number, then the byte. Assumes nothing.
+use borrow.Author.Needs.{needs}
+use Rattle.text.proofs.Runs.{then}
+use Rattle.text.proofs.put_field.Statement.{statement}
+use Rattle.text.proofs.put_field.Tie as tie
+
+put-number-requires : tie.Need-put-number-requires
+put-number-requires c κs = search needs
+
+put-byte-requires : tie.Need-put-byte-requires
+put-byte-requires c κs = search needs
+
+same-length : tie.Need-same-length
+same-length c = search needs
+
+returns : tie.Need-returns
+returns c =
+    let mark = c .before .before in
+    then (mark .before .before .before .before .put-number .ensures) (mark .put-byte .ensures)
+
+pub put-field-spec : {M : Type 1} → statement M
+put-field-spec = tie.close (tie.spec put-number-requires put-byte-requires same-length returns)
