@@ -1,0 +1,17 @@
+pub mod Beyond
+pub mod Guarding
+pub mod Written
+pub mod Moves
+pub mod Told
+pub mod Good
+pub mod Lasting
+pub mod Request
+pub mod Reply
+pub mod Probe
+pub mod Broadcast
+pub mod Acts
+pub mod Steps
+pub mod Begun
+pub mod Tests
+pub mod Safely
+pub mod Proved
