@@ -113,13 +113,15 @@ slips! {
     AddLeftOnly,
     /// Overlap means that the sides are equal.
     OverlapIsEquality,
-    /// Complete means that one side holds L.
+    /// Complete means that one side holds L, or the sides overlap.
     CompleteOneSide,
-    /// Complete also if the sides overlap.
-    CompleteOrOverlap,
-    /// Complete means that neither side is empty.
+    /// Complete means that both sides hold L, overlap or not, as before T-02.
+    CompleteOnlyFull,
+    /// Complete means that the sides overlap, full or not.
+    CompleteOnlyOverlap,
+    /// Complete means that neither side is empty: short sides that share nothing too.
     CompleteNotEmpty,
-    /// Complete means that the sides together hold 2L.
+    /// Complete means that the sides together hold 2L, or overlap.
     CompleteTogether,
     /// Empty means that one side holds none.
     EmptyOneSide,
@@ -559,8 +561,8 @@ slips! {
     OkAlways,
     /// Kind 5 judges the old leaf set for ok.
     OkJudgesOldSet,
-    /// Kind 5 asks for a complete leaf set, overlap or not.
-    OkOnlyComplete,
+    /// Kind 5 asks for full sides, overlap or not.
+    OkOnlyFull,
     /// Kind 5 asks for overlap, complete or not.
     OkOnlyOverlap,
     /// Kind 5 judges probing without P for ok.

@@ -51,8 +51,14 @@ impl Sides {
     }
 
     #[inline]
-    pub const fn is_complete(self, l: u32) -> bool {
+    pub const fn is_full(self, l: u32) -> bool {
         self.left.count_ones() == l && self.right.count_ones() == l
+    }
+
+    /// As T-02 has it: both sides full, or the sides overlap.
+    #[inline]
+    pub const fn is_complete(self, l: u32) -> bool {
+        self.is_full(l) || self.overlap()
     }
 }
 

@@ -134,16 +134,19 @@ impl<'a, R: Reading> View<'a, R> {
     pub fn is_complete(&self, sides: Sides) -> bool {
         let l = self.table.l;
         if self.r.takes(Slip::CompleteOneSide) {
-            return sides.left.count_ones() == l || sides.right.count_ones() == l;
+            return sides.left.count_ones() == l || sides.right.count_ones() == l || sides.overlap();
         }
-        if self.r.takes(Slip::CompleteOrOverlap) && sides.overlap() {
-            return true;
+        if self.r.takes(Slip::CompleteOnlyFull) {
+            return sides.is_full(l);
+        }
+        if self.r.takes(Slip::CompleteOnlyOverlap) {
+            return sides.overlap();
         }
         if self.r.takes(Slip::CompleteNotEmpty) {
             return sides.left != 0 && sides.right != 0;
         }
         if self.r.takes(Slip::CompleteTogether) {
-            return (sides.left | sides.right).count_ones() == 2 * l;
+            return (sides.left | sides.right).count_ones() == 2 * l || sides.overlap();
         }
         sides.is_complete(l)
     }

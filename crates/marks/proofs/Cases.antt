@@ -5,7 +5,7 @@ use mathlib.Core.List.{List, [], _∷_}
 use Prim.Native.Nat.{ℕ}
 use lib.Dec.{ltb}
 use Rattle.marks.specs.Marks.{has, gather, tally, firstTo, allTo, single, union, meet, without, addOf, removeOf, sizeOf}
-use Rattle.marks.specs.Marks.{lowestOf, lowestFromOf, listed}
+use Rattle.marks.specs.Marks.{lowestOf, listed}
 use Rattle.marks.specs.declared.Found.the-variants.{At, Nothing}
 
 abbrev top : ℕ
@@ -22,7 +22,6 @@ pub record Sets : Type 0 where
   pub fewer : (removeOf 5 2 ≡ 1) × (removeOf 5 1 ≡ 5) × (removeOf top 63 ≡ 0)
   pub size : (sizeOf 0 ≡ 0) × (sizeOf 11 ≡ 3) × (sizeOf top ≡ 1)
   pub lowest : (lowestOf 12 ≡ At 2) × (lowestOf top ≡ At 63) × (lowestOf 0 ≡ Nothing)
-  pub lowest-from : (lowestFromOf 13 1 ≡ At 2) × (lowestFromOf 13 2 ≡ At 2) × (lowestFromOf 13 4 ≡ Nothing)
   -- no mark is at n or above
   pub below : (listed 2 3 ≡ true) × (listed 2 4 ≡ false) × (listed 64 top ≡ true) × (listed 63 top ≡ false) × (listed 0 0 ≡ true)
   -- the slots below n that pass a test, their number, the first of them, whether all pass
@@ -30,7 +29,7 @@ pub record Sets : Type 0 where
   pub all : (allTo 3 (λ s. ltb s 3) ≡ true) × (allTo 4 (λ s. ltb s 3) ≡ false) × (allTo 4 (λ s. ltb 0 s) ≡ false)
 
 pub sets : Sets
-unfolding has gather tally firstTo allTo single union meet without addOf removeOf sizeOf lowestOf lowestFromOf listed
+unfolding has gather tally firstTo allTo single union meet without addOf removeOf sizeOf lowestOf listed
 sets =
     record {
       members = refl;
@@ -42,7 +41,6 @@ sets =
       fewer = (refl, refl, refl);
       size = (refl, refl, refl);
       lowest = (refl, refl, refl);
-      lowest-from = (refl, refl, refl);
       below = (refl, refl, refl, refl, refl);
       passing = (refl, refl, refl, refl);
       all = (refl, refl, refl);

@@ -170,9 +170,11 @@ impl<R: Reading> Scene<'_, R> {
     /// Overlaps or is complete.
     fn whole(&self, sides: Sides) -> bool {
         let r = self.view.r;
-        let overlap = self.view.overlap(sides) && !r.takes(Slip::OkOnlyComplete);
+        if r.takes(Slip::OkOnlyFull) {
+            return sides.is_full(self.view.table.l);
+        }
         let complete = self.view.is_complete(sides) && !r.takes(Slip::OkOnlyOverlap);
-        overlap || complete || r.takes(Slip::OkAlways)
+        self.view.overlap(sides) || complete || r.takes(Slip::OkAlways)
     }
 
     /// A probe is for a node that is not dead, and not wait with an empty leaf set; its sender may be wrong.

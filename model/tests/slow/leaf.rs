@@ -68,8 +68,9 @@ impl Leaf {
         self.left.iter().any(|x| self.right.contains(x))
     }
 
+    /// As T-02 has it: both sides full, or the sides overlap.
     pub fn complete(&self, table: &Table) -> bool {
-        self.left.len() == table.l && self.right.len() == table.l
+        self.left.len() == table.l && self.right.len() == table.l || self.overlap()
     }
 
     pub fn empty(&self) -> bool {
