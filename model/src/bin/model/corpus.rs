@@ -32,13 +32,13 @@ impl Label {
 /// How many requests are kept for an answer, for a misreading and of others.
 const ANSWERS: usize = 2;
 const TOLD: usize = 2;
-const OTHERS: usize = 6;
+const OTHERS: usize = 12;
 
 /// A request of more bytes is kept where there is no other for its answer or misreading.
 const LONG: usize = 2_000;
 
 /// The length of the longest of the others.
-const LONGEST_OTHER: usize = 800;
+const LONGEST_OTHER: usize = 600;
 
 /// A request after its length, so that smaller ones come first.
 type Place = (usize, Vec<u8>);
