@@ -161,7 +161,7 @@ function arrow(svg, tip, from, fill) {
 }
 
 /* The path of one lookup: an arrow for each routing, dots from who delivers it to its key. */
-function drawLookup(svg, lookup, strong, outside) {
+function drawLookup(svg, lookup, strong, outside, far) {
   const [key, path, delivered] = lookup, red = strong ? "#b3123f" : "#e7a8b8";
   const group = make("g", { class: strong ? "path followed" : "path" }, svg);
   for (let hop = 0; hop + 1 < path.length; hop++) {
@@ -176,9 +176,10 @@ function drawLookup(svg, lookup, strong, outside) {
   }
   if (strong) {
     const turn = key / SIZE, side = Math.sin(turn * 2 * Math.PI);
+    line(group, round(turn, outside + 8), round(turn, far + 12), red, 1.5);
     arrow(group, round(turn, outside), round(turn, outside + 12), red);
     const anchor = Math.abs(side) < 0.3 ? "middle" : side > 0 ? "end" : "start";
-    halo(group, round(turn, outside + 22), String(key), { "font-weight": "bold", fill: red, "font-size": 15, "text-anchor": anchor });
+    halo(group, round(turn, far + 22), String(key), { "font-weight": "bold", fill: red, "font-size": 15, "text-anchor": anchor });
   }
   return group;
 }
@@ -254,15 +255,15 @@ function draw(state) {
   const outside = drawCovers(svg, state);
   const digits = String(SIZE - 1).length, long = !MANY && name(COUNT - 1).length > 3 ? 10 + 8.5 * name(COUNT - 1).length : 0;
   drawScale(svg, outside + long);
-  const high = outside + Math.max(long + 12, 22) + 18, wide = outside + Math.max(long, 22) + 9 * digits + 14;
+  const high = outside + long + 40, wide = outside + long + 36 + 9 * digits;
   svg.setAttribute("viewBox", `${-wide} ${-high} ${2 * wide} ${2 * high}`);
   drawChosen(svg, state);
   const few = state.lookups.length <= 6;
-  state.lookups.forEach((lookup, nth) => { if (few && nth !== followed) drawLookup(svg, lookup, false, outside); });
+  state.lookups.forEach((lookup, nth) => { if (few && nth !== followed) drawLookup(svg, lookup, false, outside, outside + long); });
   drawMessages(svg, state);
   drawNodes(svg, state, outside);
   const lookup = state.lookups[followed];
-  move(lookup ? drawLookup(svg, lookup, true, outside) : null);
+  move(lookup ? drawLookup(svg, lookup, true, outside, outside + long) : null);
 }
 
 /* A dot that goes the way of the followed lookup, again and again. */
@@ -333,6 +334,7 @@ function tellCovers(state) {
   const box = part("covers").lastElementChild;
   box.replaceChildren();
   const rows = put("div", box, undefined, MANY ? "rows many" : "rows");
+  rows.style.setProperty("--width", name(COUNT - 1).length + 2 * String(SIZE - 1).length + 12 + "ch");
   rows.style.setProperty("--columns", data.m > 16 ? (MANY ? 3 : 2) : COUNT > 24 ? 5 : COUNT > 12 ? 4 : 3);
   data.ids.forEach((id, slot) => {
     const { status } = state.nodes[slot], arc = state.covers[slot];
