@@ -34,10 +34,11 @@ impl Rules<'_> {
         self.node(slot).left() | self.node(slot).right() == 0
     }
 
-    /// Both sides hold exactly L.
+    /// Both sides hold exactly L, or they overlap (T-02).
     pub fn complete(&self, slot: u32) -> bool {
         let node = self.node(slot);
-        [node.left(), node.right()].iter().all(|side| side.count_ones() == self.0.l)
+        let full = [node.left(), node.right()].iter().all(|side| side.count_ones() == self.0.l);
+        full || self.overlap(slot)
     }
 
     pub fn overlap(&self, slot: u32) -> bool {
