@@ -16,7 +16,7 @@ pub struct Row {
 }
 
 /// Every action that the proved code knows. KEY, PLACE: numbers; all other capitals: nodes.
-pub const ROWS: [Row; 6] = [
+pub const ROWS: &[Row] = &[
     Row {
         number: 1,
         form: "lookup KEY at NODE",
@@ -131,7 +131,7 @@ mod tests {
     #[test]
     fn every_row_is_read_as_it_is_written() {
         let names = Names::new(vec![17, 18, 65]);
-        for row in &ROWS {
+        for row in ROWS {
             let words: ActionWords = [row.number, 2, if row.words.len() > 1 { 1 } else { 0 }];
             let text = written(words, &names);
             let mut line = lines(&text).remove(0);

@@ -103,7 +103,8 @@ fn completion() -> String {
 }
 
 fn manual() -> String {
-    let mut text = format!(".TH RING 1 \"\" \"ring {VERSION}\" \"Tarpudhriv\"\n.SH NAME\nring \\- tables, plans and pages of a Pastry ring bench\n");
+    let mut text = format!(".TH RING 1 \"\" \"ring {VERSION}\" \"Tarpudhriv\"\n.SH NAME\n");
+    text += "ring \\- tables, plans and pages of a Pastry ring bench\n";
     text += ".SH SYNOPSIS\n.B ring\n.I COMMAND\n.RI [ WORDS ]\n.SH DESCRIPTION\n";
     text += "TABLE is a table file or a text; a dash is standard input. Nodes are named by id, or by the word slot and a number.\n";
     text += &roff(UNPROVED);

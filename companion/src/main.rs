@@ -26,6 +26,7 @@ mod picture;
 mod plan;
 mod play;
 mod print;
+mod refusals;
 mod rules;
 mod session;
 mod sha256;

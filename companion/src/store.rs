@@ -120,7 +120,11 @@ mod tests {
         made.put([21, 5, 1, 2, 3], &[7], placed);
         made.put([20, 5, 9, 2, 3], &[7], placed);
         let text = made.text();
-        assert_eq!(text, "water store\ntable 07\nrecord 21 5 1 2 3 on 0 holder 1 copies 5 change -112\nrecord 20 5 9 2 3 on 0 holder 1 copies 5 change -112\n");
+        assert_eq!(
+            text,
+            "water store\ntable 07\nrecord 21 5 1 2 3 on 0 holder 1 copies 5 change -112\n\
+             record 20 5 9 2 3 on 0 holder 1 copies 5 change -112\n"
+        );
         assert_eq!(store(&text).unwrap().text(), text);
     }
 

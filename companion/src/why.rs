@@ -1,37 +1,33 @@
-//! Reasons: why a node is not ready, a table is not settled, an action is refused. The rule of 01 is named, with the numbers
-//! of the table. The answer itself is the proved code's; where the rules as read here say otherwise no reason is given.
+//! Reasons: why a node is not ready and a table is not settled; `refusals` has why an action is refused. The rule of 01 is named, with
+//! the numbers of the table. The answer itself is the proved code's.
 
-use crate::driver::ActionWords;
 use crate::rules::Rules;
 use crate::table::{members, Message, Names, Node, Table};
 
 pub struct Why<'a> {
-    rules: Rules<'a>,
-    names: Names,
+    pub rules: Rules<'a>,
+    pub names: Names,
 }
-
-/// A number and why it is answered.
-type Reason = Option<(u32, String)>;
 
 impl<'a> Why<'a> {
     pub fn new(table: &'a Table) -> Why<'a> {
         Why { rules: Rules(table), names: Names::new(table.ids()) }
     }
 
-    fn table(&self) -> &Table {
+    pub fn table(&self) -> &Table {
         self.rules.0
     }
 
-    fn name(&self, slot: u32) -> String {
+    pub fn name(&self, slot: u32) -> String {
         self.names.of(slot)
     }
 
-    fn status(&self, slot: u32) -> String {
+    pub fn status(&self, slot: u32) -> String {
         self.rules.node(slot).status_word()
     }
 
     /// `leaf set 2 of 4 a side`, or each side where they differ.
-    fn leaf_set(&self, slot: u32) -> String {
+    pub fn leaf_set(&self, slot: u32) -> String {
         let node = self.rules.node(slot);
         let (left, right, most) = (node.left().count_ones(), node.right().count_ones(), self.table().l);
         if left == right {
@@ -55,7 +51,7 @@ impl<'a> Why<'a> {
     }
 
     /// Places of waiting messages, with their names.
-    fn found(&self, wanted: impl Fn(&Message) -> bool) -> Vec<String> {
+    pub fn found(&self, wanted: impl Fn(&Message) -> bool) -> Vec<String> {
         let messages = self.table().messages.iter().zip(0u32..).filter(|(message, _)| wanted(message));
         messages
             .map(|(message, place)| {
@@ -64,68 +60,69 @@ impl<'a> Why<'a> {
             .collect()
     }
 
+    /// Messages of a kind, each with what keeps it from being taken, if something does.
+    fn held_up(&self, wanted: impl Fn(&Message) -> bool) -> Option<String> {
+        let first = self.table().messages.iter().find(|message| wanted(message))?;
+        let all = self.found(wanted).join(", ");
+        let why = self.take(first).map(|(_, reason)| format!(", and is not taken: {reason}"));
+        Some(format!("{all} waits{}", why.unwrap_or_default()))
+    }
+
     fn waits(&self, slot: u32) -> String {
         let id = self.rules.id(slot);
-        let asked = self.found(|m| m.kind == Message::JOIN_REQUEST && m.word == slot);
-        if !asked.is_empty() {
-            return format!("its request is not answered: {} waits", asked.join(", "));
+        if let Some(asked) = self.held_up(|m| m.kind == Message::JOIN_REQUEST && m.word == slot) {
+            return format!("its request is not answered: {asked}");
         }
-        let replied = self.found(|m| m.kind == Message::JOIN_REPLY && m.at == slot);
-        if !replied.is_empty() {
-            return format!("its reply is not taken: {} waits", replied.join(", "));
+        if let Some(replied) = self.held_up(|m| m.kind == Message::JOIN_REPLY && m.at == slot) {
+            return format!("its reply is not taken: {replied}");
         }
-        let probing = self.rules.node(slot).probing();
-        if probing != 0 {
-            let them = self.names.all(probing);
-            let between = |m: &Message| {
-                (m.kind == Message::PROBE && m.word == slot)
-                    || (m.kind == Message::PROBE_REPLY && m.at == slot)
-            };
-            let on_way = match self.found(between).len() {
-                0 => "none of their replies is on its way".to_string(),
-                count => format!("{count} of its probes and their replies wait"),
-            };
-            return format!("it has not heard from {them} (probing); {on_way}");
+        if self.rules.node(slot).probing() != 0 {
+            return self.unheard(slot);
         }
-        let lost = self.found(|m| m.kind == Message::NO_LEGAL_ROUTE && m.word == id);
-        if !lost.is_empty() {
-            return format!(
-                "its request met no legal route: {} waits, and nothing takes it",
-                lost.join(", ")
-            );
+        if let Some(lost) = self.held_up(|m| m.kind == Message::NO_LEGAL_ROUTE && m.word == id) {
+            return format!("its request met no legal route: {lost}");
         }
         if self.rules.is_empty(slot) {
             return "no message of its join waits, and its leaf set is empty".to_string();
         }
         let leaf_set = self.leaf_set(slot);
         if self.rules.complete(slot) || self.rules.overlap(slot) {
-            return format!("{leaf_set}, all heard from; ok comes with an LSProbeReply alone, and none waits for it (01, Take 5)");
+            let rule = "ok comes with an LSProbeReply alone, and none waits for it (01, Take 5)";
+            return format!("{leaf_set}, all heard from; {rule}");
         }
-        format!("{leaf_set}, and no node on both sides; ok comes with the last LSProbeReply where both sides are full or overlap (01, Take 5)")
+        let rule = "ok comes with the last LSProbeReply where both sides are full or overlap (01, Take 5)";
+        format!("{leaf_set}, and no node on both sides; {rule}")
+    }
+
+    /// Of a node that probes: from whom it has not heard.
+    fn unheard(&self, slot: u32) -> String {
+        let them = self.names.all(self.rules.node(slot).probing());
+        let asked = |m: &Message| m.kind == Message::PROBE && m.word == slot;
+        let replied = |m: &Message| m.kind == Message::PROBE_REPLY && m.at == slot;
+        let on_way = match self.held_up(|m| asked(m) || replied(m)) {
+            None => "no probe of it and no reply waits".to_string(),
+            Some(held_up) => held_up,
+        };
+        format!("it has not heard from {them} (probing); {on_way}")
     }
 
     fn is_ok(&self, slot: u32) -> String {
         let leaf_set = self.leaf_set(slot);
         if !self.rules.complete(slot) {
-            return format!("{leaf_set}; a BroadcastLSet, which brings the lease, is taken only with {} a side (01, Take 8)", self.table().l);
+            let rule = "a BroadcastLSet, which brings the lease, is taken only with";
+            return format!("{leaf_set}; {rule} {} a side (01, Take 8)", self.table().l);
         }
+        let asked = |m: &Message| m.kind == Message::LEASE_REQUEST && m.word == slot;
+        let granted = |m: &Message| m.kind == Message::BROADCAST && m.at == slot;
+        let unasked = || format!("none is asked for: `request lease {}`", self.name(slot));
+        let on_way = self.held_up(|m| asked(m) || granted(m)).unwrap_or_else(unasked);
         let sides = [self.rules.left_neighbour(slot), self.rules.right_neighbour(slot)];
-        let lease = self.rules.node(slot).lease();
-        let lacking: Vec<u32> = sides.into_iter().filter(|side| lease >> side & 1 == 0).collect();
-        let on_way = self.found(|m| {
-            (m.kind == Message::LEASE_REQUEST && m.word == slot)
-                || (m.kind == Message::BROADCAST && m.at == slot)
-        });
-        let on_way = match on_way.len() {
-            0 => format!("none is asked for: `request lease {}`", self.name(slot)),
-            _ => format!("{} waits", on_way.join(", ")),
-        };
-        if lacking.is_empty() {
-            return format!("it holds both leases, and becomes ready with the next BroadcastLSet that leaves its neighbours (01, Take 8); {on_way}");
+        let lacking = sides.iter().fold(0, |set, side| set | 1 << side) & !self.rules.node(slot).lease();
+        if lacking == 0 {
+            let rule = "becomes ready with the next BroadcastLSet that leaves its neighbours (01, Take 8)";
+            return format!("it holds both leases, and {rule}; {on_way}");
         }
-        let them: Vec<String> = members(lacking.iter().fold(0, |set, side| set | 1 << side))
-            .map(|side| self.name(side))
-            .collect();
+        let them: Vec<String> = members(lacking).map(|side| self.name(side)).collect();
         format!("{leaf_set}, no lease of its neighbour {} (01, Take 8); {on_way}", them.join(" and "))
     }
 
@@ -164,200 +161,48 @@ impl<'a> Why<'a> {
         });
         wrong.chain(failed).collect()
     }
+}
 
-    /// Why an action is refused with this number; empty where the rules as read here say otherwise.
-    pub fn refused(&self, action: ActionWords, number: u32) -> String {
-        if number == 6 {
-            return format!("{} messages wait; a step leaves 256 at most", self.table().messages.len());
-        }
-        match self.rule(action) {
-            Some((rule, reason)) if rule == number => reason,
-            _ => String::new(),
-        }
+#[cfg(test)]
+mod tests {
+    use super::*;
+
+    /// 17, 65 and 95 are ready with L = 4, and 120 has this status, with a leaf set of the three.
+    fn small(status: u32, messages: Vec<Message>) -> Table {
+        let node = |id, status, side| Node { id, status, sets: [side, side, 0, 0, 15, 15, 15] };
+        let nodes = vec![
+            node(17, 3, 14),
+            node(65, 3, 13),
+            node(95, 3, 11),
+            Node { id: 120, status, sets: [7, 7, 0, 0, 15, 0, 0] },
+        ];
+        Table { m: 8, l: 4, nodes, messages }
     }
 
-    fn rule(&self, action: ActionWords) -> Reason {
-        let [number, x, y] = action;
-        match number {
-            1 => self.slot(x).or_else(|| self.key(y)).or_else(|| self.lookup(x as u32, y as u32)),
-            2 => self.slot(x).or_else(|| self.slot(y)).or_else(|| self.join(x as u32, y as u32)),
-            3 => self.slot(x).or_else(|| self.request_lease(x as u32)),
-            4 => self.slot(x).or_else(|| self.slot(y)).or_else(|| self.lease_expired(x as u32, y as u32)),
-            5 => self.slot(x).or_else(|| self.slot(y)).or_else(|| self.grant_expired(x as u32, y as u32)),
-            6 => self.place(x).or_else(|| self.take(&self.table().messages[x as usize])),
-            _ => None,
-        }
+    #[test]
+    fn a_node_that_is_ok_is_told_by_its_leaf_set() {
+        let table = small(Node::OK, vec![]);
+        let said = Why::new(&table).node(3);
+        assert!(said.starts_with("120 is ok: leaf set 3 of 4 a side; "), "{said}");
+        let full = Table { l: 3, ..table };
+        let said = Why::new(&full).node(3);
+        assert!(
+            said.starts_with(
+                "120 is ok: leaf set 3 of 3 a side, no lease of its neighbour 17 and 95 (01, Take 8); none"
+            ),
+            "{said}"
+        );
+        assert!(Why::new(&full).not_settled().len() > 2);
     }
 
-    fn slot(&self, slot: u64) -> Reason {
-        let count = self.table().nodes.len() as u64;
-        (slot >= count).then(|| {
-            (1, format!("slot {slot} is not listed; the slots are 0 to {}", count.saturating_sub(1)))
-        })
-    }
-
-    fn key(&self, key: u64) -> Reason {
-        let last = self.rules.last();
-        (key > last.into()).then(|| (1, format!("key {key} is out of range; keys are 0 to {last}")))
-    }
-
-    fn place(&self, place: u64) -> Reason {
-        let count = self.table().messages.len() as u64;
-        let are = match count {
-            0 => "no message waits".to_string(),
-            _ => format!("the places are 0 to {}", count - 1),
-        };
-        (place >= count).then(|| (1, format!("no message at place {place}; {are}")))
-    }
-
-    /// 2, unless the status is one of these.
-    fn asks(&self, slot: u32, wanted: &[u32], by: &str) -> Reason {
-        let status = self.rules.node(slot).status;
-        let words: Vec<&str> = wanted.iter().map(|status| Node::STATUSES[*status as usize]).collect();
-        let reason = || {
-            format!(
-                "{} is {}; {by} asks for a node that is {}",
-                self.name(slot),
-                self.status(slot),
-                words.join(" or ")
-            )
-        };
-        (!wanted.contains(&status)).then(|| (2, reason()))
-    }
-
-    fn not_empty(&self, slot: u32, by: &str) -> Reason {
-        let reason = || format!("{} has an empty leaf set; {by} asks for one that is not", self.name(slot));
-        self.rules.is_empty(slot).then(|| (4, reason()))
-    }
-
-    fn lookup(&self, slot: u32, key: u32) -> Reason {
-        let equal = self.found(|m| *m == Message::lookup(key, slot));
-        equal.first().map(|equal| (3, format!("{equal} waits (01, Lookup)")))
-    }
-
-    fn join(&self, slot: u32, seed: u32) -> Reason {
-        let asked = || self.found(|m| m.kind == Message::JOIN_REQUEST && m.word == slot);
-        let asked = || asked().first().map(|asked| (3, format!("{asked} waits (01, Join)")));
-        let full = || {
-            let reason =
-                || format!("{}: {}; Join asks for an empty one", self.name(slot), self.leaf_set(slot));
-            (!self.rules.is_empty(slot)).then(|| (4, reason()))
-        };
-        self.asks(slot, &[Node::DEAD], "Join")
-            .or_else(|| self.asks(seed, &[Node::READY], "Join's seed"))
-            .or_else(asked)
-            .or_else(full)
-    }
-
-    fn request_lease(&self, slot: u32) -> Reason {
-        self.asks(slot, &[Node::OK], "RequestLease").or_else(|| self.not_empty(slot, "RequestLease"))
-    }
-
-    fn lease_expired(&self, slot: u32, other: u32) -> Reason {
-        let by = "LeaseExpired";
-        self.asks(slot, &[Node::OK, Node::READY], by).or_else(|| self.differ(slot, other, by)).or_else(|| {
-            let held = self.rules.node(slot).lease() >> other & 1 == 1;
-            (!held).then(|| (5, format!("{} holds no lease of {} ({by})", self.name(slot), self.name(other))))
-        })
-    }
-
-    fn grant_expired(&self, slot: u32, other: u32) -> Reason {
-        let by = "GrantExpired";
-        let pair = (self.name(slot), self.name(other));
-        let given = self.rules.node(slot).grant() >> other & 1 == 1;
-        let held = self.rules.node(other).lease() >> slot & 1 == 1;
-        let reason = match (given, held) {
-            (false, _) => Some(format!("{} gave {} no grant ({by})", pair.0, pair.1)),
-            (true, true) => {
-                Some(format!("{} still holds the lease of {}; that ends first ({by})", pair.1, pair.0))
-            }
-            (true, false) => None,
-        };
-        self.asks(slot, &[Node::OK, Node::READY], by)
-            .or_else(|| self.differ(slot, other, by))
-            .or(reason.map(|reason| (5, reason)))
-    }
-
-    fn differ(&self, slot: u32, other: u32, by: &str) -> Reason {
-        (slot == other).then(|| (5, format!("{by} asks for two nodes that differ")))
-    }
-
-    fn take(&self, message: &Message) -> Reason {
-        let (at, from) = (message.at, message.word);
-        let own = |from: u32| (from == at).then(|| (5, format!("it comes from {} itself", self.name(at))));
-        match message.kind {
-            Message::LOOKUP => self.asks(at, &[Node::READY], "a Lookup (01, Take 1)"),
-            Message::JOIN_REQUEST => {
-                self.asks(at, &[Node::READY], "a JoinRequest (01, Take 2)").or_else(|| self.known(at, from))
-            }
-            Message::JOIN_REPLY => self.take_reply(at),
-            Message::PROBE => {
-                self.alive(at, "an LSProbe (01, Take 4)").or_else(|| self.probed(at)).or_else(|| own(from))
-            }
-            Message::PROBE_REPLY => {
-                let heard = || self.heard(at, from);
-                self.alive(at, "an LSProbeReply (01, Take 5)")
-                    .or_else(|| self.probed(at))
-                    .or_else(|| own(from))
-                    .or_else(heard)
-            }
-            Message::NO_LEGAL_ROUTE => Some((5, "a NoLegalRoute is never taken (01, Take 6)".to_string())),
-            Message::LEASE_REQUEST => {
-                let by = "a LeaseRequest (01, Take 7)";
-                self.asks(at, &[Node::OK, Node::READY], by).or_else(|| self.not_empty(at, by))
-            }
-            _ => self.take_broadcast(at, message.owner),
-        }
-    }
-
-    fn alive(&self, slot: u32, by: &str) -> Reason {
-        self.asks(slot, &[Node::WAIT, Node::OK, Node::READY], by)
-    }
-
-    fn known(&self, slot: u32, from: u32) -> Reason {
-        let known = self.rules.content(slot) >> from & 1 == 1;
-        known.then(|| {
-            (5, format!("{} is in the leaf set of {} (01, Take 2)", self.name(from), self.name(slot)))
-        })
-    }
-
-    fn probed(&self, slot: u32) -> Reason {
-        let waits = self.rules.node(slot).status == Node::WAIT && self.rules.is_empty(slot);
-        waits.then(|| (4, format!("{} waits with an empty leaf set (01, Take 4)", self.name(slot))))
-    }
-
-    fn heard(&self, slot: u32, from: u32) -> Reason {
-        let probed = self.rules.node(slot).probing() >> from & 1 == 1;
-        (!probed).then(|| (5, format!("{} does not probe {} (01, Take 5)", self.name(slot), self.name(from))))
-    }
-
-    fn take_reply(&self, at: u32) -> Reason {
-        let full = || {
-            format!(
-                "{}: {}; a JoinReply asks for an empty one (01, Take 3)",
-                self.name(at),
-                self.leaf_set(at)
-            )
-        };
-        let probes = || format!("{} probes already (01, Take 3)", self.name(at));
-        self.alive(at, "a JoinReply (01, Take 3)")
-            .or_else(|| (!self.rules.is_empty(at)).then(|| (4, full())))
-            .or_else(|| (self.rules.node(at).probing() != 0).then(|| (5, probes())))
-    }
-
-    fn take_broadcast(&self, at: u32, owner: u32) -> Reason {
-        let by = "a BroadcastLSet (01, Take 8)";
-        let short = || {
-            format!(
-                "{} is {}: {}; {by} asks for {} a side",
-                self.name(at),
-                self.status(at),
-                self.leaf_set(at),
-                self.table().l
-            )
-        };
-        self.asks(at, &[Node::OK, Node::READY], by)
-            .or_else(|| (!self.rules.complete(at)).then(|| (4, short())))
-            .or_else(|| (owner == at).then(|| (5, format!("it is {}'s own (01, Take 8)", self.name(at)))))
+    #[test]
+    fn a_message_that_is_held_up_is_told_with_its_rule() {
+        let request = Message { kind: Message::JOIN_REQUEST, at: 0, word: 3, ..Message::default() };
+        let mut table = small(Node::WAIT, vec![request]);
+        table.nodes[0].status = Node::OK;
+        let said = Why::new(&table).node(3);
+        let wanted = "120 waits: its request is not answered: JoinRequest from 120 at 17 (place 0) waits, \
+                      and is not taken: 17 is ok; a JoinRequest";
+        assert!(said.starts_with(wanted), "{said}");
     }
 }

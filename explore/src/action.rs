@@ -21,6 +21,9 @@ pub struct Kind {
     pub number: u64,
     pub words: &'static str,
     pub form: Form,
+    /// Whether the step is handed no more than the acting node, the other one, the dead nodes, the message taken, and whether the same request waits,
+    /// and takes nothing else from the pool: then what it comes to may be remembered.
+    pub local: bool,
 }
 
 pub const LOOKUP: u64 = 1;
@@ -32,15 +35,18 @@ pub const TAKE: u64 = 6;
 
 /// Every kind that the proved step knows.
 pub const KINDS: [Kind; 6] = [
-    Kind { number: LOOKUP, words: "lookup", form: Form::Lookup },
-    Kind { number: JOIN, words: "join", form: Form::Pair },
-    Kind { number: REQUEST_LEASE, words: "request lease", form: Form::Node },
-    Kind { number: LEASE_EXPIRED, words: "lease expired", form: Form::Pair },
-    Kind { number: GRANT_EXPIRED, words: "grant expired", form: Form::Pair },
-    Kind { number: TAKE, words: "take", form: Form::Place },
+    Kind { number: LOOKUP, words: "lookup", form: Form::Lookup, local: true },
+    Kind { number: JOIN, words: "join", form: Form::Pair, local: true },
+    Kind { number: REQUEST_LEASE, words: "request lease", form: Form::Node, local: true },
+    Kind { number: LEASE_EXPIRED, words: "lease expired", form: Form::Pair, local: true },
+    Kind { number: GRANT_EXPIRED, words: "grant expired", form: Form::Pair, local: true },
+    Kind { number: TAKE, words: "take", form: Form::Place, local: true },
 ];
 
-fn kind(number: u64) -> &'static Kind {
+/// The kinds that take a message; each is tried on every message.
+pub const TAKING: [u64; 1] = [TAKE];
+
+pub fn kind(number: u64) -> &'static Kind {
     KINDS.iter().find(|kind| kind.number == number).expect("a kind of the table")
 }
 

@@ -1,6 +1,6 @@
 //! What was found as a rehearsal: actions from the start, each with the table file after it, for the proved checker.
 
-use crate::action::{self, Form, KINDS, TAKE};
+use crate::action::{self, Form, TAKE};
 use crate::engine::{room, Driver, Engine, Words};
 use crate::file::{self, Frame, Message};
 use crate::moves::Move;
@@ -25,11 +25,11 @@ pub struct Rehearsal {
     pub steps: Vec<Step>,
 }
 
-/// What a step of the way is: an action, or the taking of a message that looks like this one.
+/// What a step of the way is: an action, or the taking, by a kind of action, of a message that looks like this one.
 #[derive(Clone, Copy, Debug, PartialEq, Eq)]
 pub enum Done {
     Do(Words),
-    Take(Message),
+    Take(u64, Message),
 }
 
 /// The steps on the way to a state.
@@ -52,7 +52,7 @@ pub fn way(search: &mut Search, number: u32) -> Result<Vec<Done>, Trouble> {
             }
         }
         done.push(match leads.ok_or_else(|| Trouble::Failed("a state has no way to it".to_string()))? {
-            Move::Take(place) => Done::Take(search.records.message(now.messages[place])),
+            Move::Take(kind, place) => Done::Take(kind, search.records.message(now.messages[place])),
             Move::Do(at) => Done::Do(search.mover.plan.actions[at]),
         });
     }
@@ -65,7 +65,7 @@ pub fn shown(shown: &[Shown]) -> Vec<Done> {
         Shown::Do(words) => Done::Do(words),
         Shown::Deliver(slot, key) => {
             let kind = u64::from(file::LOOKUP);
-            Done::Take(Message([kind | (slot as u64) << 32, key.into(), 0, 0, 0, 0, 0]))
+            Done::Take(TAKE, Message([kind | (slot as u64) << 32, key.into(), 0, 0, 0, 0, 0]))
         }
     };
     shown.iter().map(done).collect()
@@ -81,12 +81,12 @@ impl Rehearsal {
             let before = rehearsal.steps.last().map_or(start, |step| &step.file);
             let (action, words) = match *done {
                 Done::Do(action) => (action, action::words(&rehearsal.frame, action)),
-                Done::Take(message) => {
+                Done::Take(kind, message) => {
                     let looks = |other: Message| (key.message)(other) == message;
                     let place = file::messages(before).position(looks);
                     let place = place
                         .ok_or_else(|| Trouble::Failed("a message of the way does not wait".to_string()))?;
-                    ([TAKE, place as u64, 0], taken(&rehearsal.frame, &message))
+                    ([kind, place as u64, 0], taken(&rehearsal.frame, &message))
                 }
             };
             let answer = engine.step(before, action, &mut out)?;
@@ -140,7 +140,7 @@ fn taken(frame: &Frame, message: &Message) -> String {
 
 /// An action as `bin/table` reads it.
 fn claim([number, x, y]: Words) -> String {
-    let kind = KINDS.iter().find(|kind| kind.number == number).expect("a kind of the table");
+    let kind = action::kind(number);
     let name = kind.words.replace(' ', "-");
     match kind.form {
         Form::Node | Form::Place => format!("{name}:{x}"),

@@ -1,10 +1,11 @@
 //! What comes of a move in a state. Every answer is the proved code's.
 //!
-//! Asked every time, the step is made on the whole state. Remembered, it is asked once for each different thing that the definition of the step is handed
-//! (crates/table_type/specs/Step: `takeOf`, `actOf`): the dead nodes, the acting node, the message, for a Join the seed, and whether the same request waits. It is then
-//! made on the table with the message alone, so that everything that it adds is seen, and what it adds is added to the set.
+//! Asked every time, the step is made on the whole state. Remembered, it is asked once for each different thing that the definition of the
+//! step is handed (crates/table_type/specs/Step: `takeOf`, `actOf`): the dead nodes, the acting node, the message, for a Join the seed, and whether
+//! the same request waits. It is then made on the table with the message alone, so that everything that it adds is seen, and what it adds is
+//! added to the set.
 
-use crate::action::{JOIN, LOOKUP, TAKE};
+use crate::action::{self, JOIN, LOOKUP, TAKING};
 use crate::engine::{room, Engine, Room, Words};
 use crate::file::{self, DEAD, HEADER, JOIN_REQUEST, MESSAGE, MESSAGES, NODE};
 use crate::index::Index;
@@ -15,8 +16,8 @@ use crate::trouble::Trouble;
 /// Something that may be done in a state.
 #[derive(Clone, Copy, Debug, PartialEq, Eq)]
 pub enum Move {
-    /// Takes the message at this place of the state's list.
-    Take(usize),
+    /// Takes the message at this place of the state's list, by this kind of action.
+    Take(u64, usize),
     /// Does this action of the plan.
     Do(usize),
 }
@@ -71,7 +72,11 @@ impl<'a> Mover<'a> {
     /// The moves of this state that may be tried, but for those that the statuses forbid.
     pub fn moves(&self, records: &Records, state: &State, moves: &mut Vec<Move>) {
         moves.clear();
-        moves.extend((0..state.messages.len()).map(Move::Take));
+        moves.extend(
+            TAKING
+                .iter()
+                .flat_map(|&kind| (0..state.messages.len()).map(move |place| Move::Take(kind, place))),
+        );
         let actions = self.plan.actions.iter().enumerate();
         let actions = actions.filter(|(_, &action)| !Plan::forbids(action, records, state));
         let allowed = actions.filter(|(_, &action)| self.plan.allows(action, records, state));
@@ -93,7 +98,7 @@ impl<'a> Mover<'a> {
         step: Move,
         after: &mut State,
     ) -> Result<u32, Trouble> {
-        if self.memory.is_none() {
+        if self.memory.is_none() || !action::kind(self.number(step)).local {
             return self.ask(records, state, step, after);
         }
         let at = self.effect(records, state, step)?;
@@ -104,7 +109,7 @@ impl<'a> Mover<'a> {
         after.nodes.clone_from(&state.nodes);
         after.nodes[self.acting(records, state, step)] = effect.node;
         after.messages.clone_from(&state.messages);
-        if let Move::Take(place) = step {
+        if let Move::Take(_, place) = step {
             after.messages.remove(place);
         }
         for add in &effect.adds {
@@ -131,7 +136,7 @@ impl<'a> Mover<'a> {
             self.is_written = true;
         }
         let words = match step {
-            Move::Take(place) => [TAKE, place as u64, 0],
+            Move::Take(kind, place) => [kind, place as u64, 0],
             Move::Do(at) => self.plan.actions[at],
         };
         self.asked += 1;
@@ -157,7 +162,8 @@ impl<'a> Mover<'a> {
         let mut olds = self.file[behind..].chunks_exact(MESSAGE).zip(&state.messages).enumerate();
         for record in out[behind..].chunks_exact(MESSAGE) {
             let mut old = olds.next();
-            if old.as_ref().is_some_and(|(place, _)| step == Move::Take(*place)) {
+            if old.as_ref().is_some_and(|(place, _)| matches!(step, Move::Take(_, taken) if taken == *place))
+            {
                 old = olds.next();
             }
             let number = match old {
@@ -170,10 +176,18 @@ impl<'a> Mover<'a> {
         after.messages.dedup();
     }
 
+    /// The number of a move's action.
+    fn number(&self, step: Move) -> u64 {
+        match step {
+            Move::Take(kind, _) => kind,
+            Move::Do(at) => self.plan.actions[at][0],
+        }
+    }
+
     /// The slot whose node the step looks at and writes.
     fn acting(&self, records: &Records, state: &State, step: Move) -> usize {
         match step {
-            Move::Take(place) => records.message(state.messages[place]).to() as usize,
+            Move::Take(_, place) => records.message(state.messages[place]).to() as usize,
             Move::Do(at) => self.plan.actions[at][1] as usize,
         }
     }
@@ -183,7 +197,7 @@ impl<'a> Mover<'a> {
         let slot = self.acting(records, state, step);
         let node = u64::from(state.nodes[slot]);
         let handed = match step {
-            Move::Take(place) => [TAKE << 32 | u64::from(state.messages[place]), node, self.dead],
+            Move::Take(kind, place) => [kind << 32 | u64::from(state.messages[place]), node, self.dead],
             Move::Do(at) => {
                 let [number, _, y] = self.plan.actions[at];
                 let other = if number == LOOKUP { 0 } else { u64::from(state.nodes[y as usize]) };
@@ -226,7 +240,7 @@ impl<'a> Mover<'a> {
         slot: usize,
     ) -> Result<Effect, Trouble> {
         let (words, messages): (Words, Vec<u32>) = match step {
-            Move::Take(place) => ([TAKE, 0, 0], vec![state.messages[place]]),
+            Move::Take(kind, place) => ([kind, 0, 0], vec![state.messages[place]]),
             Move::Do(at) => (self.plan.actions[at], self.same(records, state, at).collect()),
         };
         records.write(&state.nodes, &messages, &mut self.part);

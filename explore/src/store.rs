@@ -13,11 +13,12 @@ pub struct Store {
     parents: Vec<u32>,
     /// The high half of a hash, and a number and 1; 0 for an empty place.
     places: Vec<u64>,
+    hash: fn(&[u8]) -> u64,
 }
 
 impl Default for Store {
     fn default() -> Self {
-        Store { pieces: Vec::new(), begins: Vec::new(), parents: Vec::new(), places: vec![0; 1 << 12] }
+        Store::with_hash(hash)
     }
 }
 
@@ -34,6 +35,11 @@ fn hash(bytes: &[u8]) -> u64 {
 }
 
 impl Store {
+    /// A store whose states are found by this hash.
+    pub fn with_hash(hash: fn(&[u8]) -> u64) -> Store {
+        Store { pieces: Vec::new(), begins: Vec::new(), parents: Vec::new(), places: vec![0; 1 << 12], hash }
+    }
+
     pub fn len(&self) -> usize {
         self.begins.len()
     }
@@ -60,7 +66,7 @@ impl Store {
 
     /// The number of a state, and whether it is new.
     pub fn insert(&mut self, state: &[u8], parent: u32) -> (u32, bool) {
-        let hash = hash(state);
+        let hash = (self.hash)(state);
         let mut at = hash as usize & (self.places.len() - 1);
         while self.places[at] != 0 {
             let number = self.places[at] as u32 - 1;
@@ -95,7 +101,7 @@ impl Store {
         let size = 2 * self.places.len();
         let mut places = vec![0; size];
         for number in 0..self.len() as u32 {
-            let hash = hash(self.state(number));
+            let hash = (self.hash)(self.state(number));
             let mut at = hash as usize & (size - 1);
             while places[at] != 0 {
                 at = (at + 1) & (size - 1);

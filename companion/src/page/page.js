@@ -134,14 +134,16 @@ function drawScale(svg, outside) {
   for (const quarter of [0, 0.25, 0.5, 0.75]) {
     const p = round(quarter, outside + 16);
     const anchor = quarter === 0.25 ? "end" : quarter === 0.75 ? "start" : "middle";
-    make("text", { x: p.x, y: p.y, dy: "0.35em", "text-anchor": anchor, "font-size": 12, fill: "#6b7280" }, svg, Math.round(SIZE * quarter));
+    const look = { x: p.x, y: p.y, dy: "0.35em", "text-anchor": anchor, "font-size": 12, fill: "#6b7280" };
+    make("text", look, svg, Math.round(SIZE * quarter));
   }
 }
 
 /* From one node to another by way of the inside, as a path. */
 function bent(from, to) {
   const a = place(from), b = place(to), middle = { x: (a.x + b.x) / 2, y: (a.y + b.y) / 2 };
-  const far = Math.hypot(middle.x, middle.y) || 1, deep = Math.max(0.35, 1 - (0.35 * Math.hypot(a.x - b.x, a.y - b.y) + 40) / far);
+  const far = Math.hypot(middle.x, middle.y) || 1;
+  const deep = Math.max(0.35, 1 - (0.35 * Math.hypot(a.x - b.x, a.y - b.y) + 40) / far);
   const control = { x: middle.x * deep + (b.y - a.y) * 0.08, y: middle.y * deep - (b.x - a.x) * 0.08 };
   return { d: `M${pair(edge(a, control))} Q${pair(control)} ${pair(edge(b, control))}`, a, b, control };
 }
@@ -159,7 +161,7 @@ function arrow(svg, tip, from, fill) {
 }
 
 /* The path of one lookup: an arrow for each routing, dots from who delivers it to its key. */
-function drawLookup(svg, lookup, strong, outside) {
+function drawLookup(svg, lookup, strong, outside, far) {
   const [key, path, delivered] = lookup, red = strong ? "#b3123f" : "#e7a8b8";
   const group = make("g", { class: strong ? "path followed" : "path" }, svg);
   for (let hop = 0; hop + 1 < path.length; hop++) {
@@ -174,9 +176,10 @@ function drawLookup(svg, lookup, strong, outside) {
   }
   if (strong) {
     const turn = key / SIZE, side = Math.sin(turn * 2 * Math.PI);
+    line(group, round(turn, outside + 8), round(turn, far + 12), red, 1.5);
     arrow(group, round(turn, outside), round(turn, outside + 12), red);
     const anchor = Math.abs(side) < 0.3 ? "middle" : side > 0 ? "end" : "start";
-    halo(group, round(turn, outside + 22), String(key), { "font-weight": "bold", fill: red, "font-size": 15, "text-anchor": anchor });
+    halo(group, round(turn, far + 22), String(key), { "font-weight": "bold", fill: red, "font-size": 15, "text-anchor": anchor });
   }
   return group;
 }
@@ -200,7 +203,8 @@ function drawMessages(svg, state) {
       return;
     }
     if (from >= 0 && from !== to) line(svg, edge(place(from), p), p, KIND_COLOURS[kind], 1, { opacity: 0.55 });
-    const box = { x: p.x - side / 2, y: p.y - side / 2, width: side, height: side, fill: KIND_COLOURS[kind], stroke: "white", class: "message" };
+    const box = { x: p.x - side / 2, y: p.y - side / 2, width: side, height: side, fill: KIND_COLOURS[kind] };
+    Object.assign(box, { stroke: "white", class: "message" });
     make("title", {}, make("rect", box, svg), `place ${nth}: ${words}`);
   });
 }
@@ -210,17 +214,22 @@ function drawNodes(svg, state, outside) {
     const { status } = state.nodes[slot], p = place(slot), tint = status === 0 ? "#9ca3af" : colour(slot);
     line(svg, p, round(id / SIZE, BAND - WIDE / 2), tint, 1.5);
     line(svg, round(id / SIZE, BAND - WIDE / 2), round(id / SIZE, BAND + WIDE / 2), "#1f2937", 1.5);
-    const group = make("g", { class: "node " + STATUSES[status], tabindex: 0, role: "button", "data-slot": slot, "aria-label": `node ${id}, ${STATUSES[status]}` }, svg);
-    const ready = status === 3;
-    const look = { cx: p.x, cy: p.y, r: OWN, class: "body", "stroke-width": slot === chosen ? 5 : 2.5, stroke: slot === chosen ? "#000" : tint };
-    make("circle", { ...look, fill: ready ? tint : status === 0 ? "#f3f4f6" : "white", ...(status === 1 ? { "stroke-dasharray": "4 3" } : {}) }, group);
+    const ready = status === 3, look = { class: "node " + STATUSES[status], tabindex: 0, role: "button", "data-slot": slot };
+    const group = make("g", { ...look, "aria-label": `node ${id}, ${STATUSES[status]}` }, svg);
+    const body = { cx: p.x, cy: p.y, r: OWN, class: "body", fill: ready ? tint : status === 0 ? "#f3f4f6" : "white" };
+    const rim = { stroke: slot === chosen ? "#000" : tint, "stroke-width": slot === chosen ? 5 : 2.5 };
+    make("circle", { ...body, ...rim, ...(status === 1 ? { "stroke-dasharray": "4 3" } : {}) }, group);
     make("title", {}, group, `${id} is ${STATUSES[status]}`);
     const inside = MANY ? String(slot) : name(slot).length < 4 ? name(slot) : "";
-    const words = { x: p.x, y: p.y, dy: "0.36em", "text-anchor": "middle", "font-weight": "bold", "font-size": MANY ? 10.5 : 14, fill: ready ? "white" : tint };
-    make("text", words, group, inside);
+    const words = { x: p.x, y: p.y, dy: "0.36em", "text-anchor": "middle", "font-weight": "bold" };
+    make("text", { ...words, "font-size": MANY ? 10.5 : 14, fill: ready ? "white" : tint }, group, inside);
     if (!inside) spoke(group, turns[slot], outside, name(slot), tint);
     group.addEventListener("click", () => choose(slot));
-    group.addEventListener("keydown", (event) => { if (event.key === "Enter" || event.key === " ") { event.preventDefault(); choose(slot); } });
+    group.addEventListener("keydown", (event) => {
+      if (event.key !== "Enter" && event.key !== " ") return;
+      event.preventDefault();
+      choose(slot);
+    });
   });
 }
 
@@ -246,15 +255,15 @@ function draw(state) {
   const outside = drawCovers(svg, state);
   const digits = String(SIZE - 1).length, long = !MANY && name(COUNT - 1).length > 3 ? 10 + 8.5 * name(COUNT - 1).length : 0;
   drawScale(svg, outside + long);
-  const high = outside + Math.max(long + 12, 22) + 18, wide = outside + Math.max(long, 22) + 9 * digits + 14;
+  const high = outside + long + 40, wide = outside + long + 36 + 9 * digits;
   svg.setAttribute("viewBox", `${-wide} ${-high} ${2 * wide} ${2 * high}`);
   drawChosen(svg, state);
   const few = state.lookups.length <= 6;
-  state.lookups.forEach((lookup, nth) => { if (few && nth !== followed) drawLookup(svg, lookup, false, outside); });
+  state.lookups.forEach((lookup, nth) => { if (few && nth !== followed) drawLookup(svg, lookup, false, outside, outside + long); });
   drawMessages(svg, state);
   drawNodes(svg, state, outside);
   const lookup = state.lookups[followed];
-  move(lookup ? drawLookup(svg, lookup, true, outside) : null);
+  move(lookup ? drawLookup(svg, lookup, true, outside, outside + long) : null);
 }
 
 /* A dot that goes the way of the followed lookup, again and again. */
@@ -295,7 +304,8 @@ function tellNode(state) {
     return;
   }
   const { status, sets } = state.nodes[chosen], table = put("table", box), arc = state.covers[chosen];
-  const rows = [["id", name(chosen)], ["slot", chosen], ["status", STATUSES[status]], ["covers", arc ? `${arc[0]} to ${arc[1]}` : "nothing"]];
+  const rows = [["id", name(chosen)], ["slot", chosen], ["status", STATUSES[status]]];
+  rows.push(["covers", arc ? `${arc[0]} to ${arc[1]}` : "nothing"]);
   SETS.forEach((set, nth) => rows.push([set, names(sets[nth]) || "-"]));
   for (const [head, words] of rows) {
     const row = put("tr", table);
@@ -324,6 +334,7 @@ function tellCovers(state) {
   const box = part("covers").lastElementChild;
   box.replaceChildren();
   const rows = put("div", box, undefined, MANY ? "rows many" : "rows");
+  rows.style.setProperty("--width", name(COUNT - 1).length + 2 * String(SIZE - 1).length + 12 + "ch");
   rows.style.setProperty("--columns", data.m > 16 ? (MANY ? 3 : 2) : COUNT > 24 ? 5 : COUNT > 12 ? 4 : 3);
   data.ids.forEach((id, slot) => {
     const { status } = state.nodes[slot], arc = state.covers[slot];
@@ -360,9 +371,13 @@ function tellListing(state) {
 function tellLegend() {
   const legend = part("legend");
   const shape = (look) => `<svg width="16" height="16" viewBox="-8 -8 16 16">${look}</svg>`;
-  const looks = ['fill="#f3f4f6" stroke="#9ca3af"', 'fill="white" stroke="#5c677d" stroke-dasharray="3 2"', 'fill="white" stroke="#5c677d"', 'fill="#5c677d"'];
-  let html = STATUSES.map((word, nth) => `<span>${shape(`<circle r="6" stroke-width="2" ${looks[nth]}/>`)} ${word}</span>`).join("");
-  html += KINDS.slice(1).map((word, nth) => `<span>${shape(`<rect x="-5" y="-5" width="10" height="10" fill="${KIND_COLOURS[nth + 1]}"/>`)} ${word}</span>`).join("");
+  const wait = 'fill="white" stroke="#5c677d"';
+  const looks = ['fill="#f3f4f6" stroke="#9ca3af"', wait + ' stroke-dasharray="3 2"', wait, 'fill="#5c677d"'];
+  const entry = (look, word) => `<span>${shape(look)} ${word}</span>`;
+  const statuses = STATUSES.map((word, nth) => entry(`<circle r="6" stroke-width="2" ${looks[nth]}/>`, word));
+  const square = (nth) => `<rect x="-5" y="-5" width="10" height="10" fill="${KIND_COLOURS[nth]}"/>`;
+  const kinds = KINDS.slice(1).map((word, nth) => entry(square(nth + 1), word));
+  const html = statuses.concat(kinds).join("");
   legend.innerHTML = html;
 }
 
@@ -370,7 +385,8 @@ function show() {
   const state = states[at];
   if (followed >= state.lookups.length) followed = 0;
   const settled = state.settled ? "settled" : "not settled";
-  part("where").textContent = `Step ${at} of ${states.length - 1}` + (state.line ? `: ${state.line}` : "") + (state.words && state.words !== state.line ? `: ${state.words}` : "");
+  const words = state.words === state.line ? "" : state.words;
+  part("where").textContent = [`Step ${at} of ${states.length - 1}`, state.line, words].filter(Boolean).join(": ");
   part("sentence").textContent = state.sentence;
   part("refused").textContent = state.refused;
   part("settled").textContent = settled;
@@ -383,7 +399,8 @@ function show() {
   tellCovers(state);
   tellListing(state);
   part("slider").value = at;
-  for (const [id, off] of [["go-first", at === 0], ["go-back", at === 0], ["go-forward", at === states.length - 1], ["go-last", at === states.length - 1]]) part(id).disabled = off;
+  for (const id of ["go-first", "go-back"]) part(id).disabled = at === 0;
+  for (const id of ["go-forward", "go-last"]) part(id).disabled = at === states.length - 1;
 }
 
 function go(to) {
@@ -401,7 +418,10 @@ function begin() {
   part("title").textContent = data.name;
   const count = `${COUNT} node${COUNT === 1 ? "" : "s"}`;
   part("about").title = data.plan.join(", ");
-  part("about").textContent = `M = ${data.m}, L = ${data.l}, ${count}` + (data.plan.length ? `; plan: ${data.plan.join(", ")}` : "") + (MANY ? "; numbers on the ring are slots" : "");
+  const about = [`M = ${data.m}, L = ${data.l}, ${count}`];
+  if (MANY) about.push("numbers on the ring are slots");
+  if (data.plan.length) about.push(`plan: ${data.plan.join(", ")}`);
+  part("about").textContent = about.join("; ");
   const sums = [`sha256 of the table file ${data.before}`];
   if (data.after !== data.before) sums.push(`after the plan ${data.after}`);
   part("checksum").textContent = sums.concat(data.version).join("; ");

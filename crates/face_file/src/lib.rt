@@ -21,7 +21,12 @@ pub fn no_table() -> Table
 pub fn loaded(file: &[u8]) -> Stepped
     ensures { λ r. ⌜ r ≡ loadedOf (now (file .entry)) ⌝ }
 {
-    file_read::load(file, table_parts::no_table(), table_parts::no_messages(), 256)
+    file_read::load(
+        file,
+        table_parts::no_table(),
+        table_parts::no_messages(),
+        256,
+    )
 }
 
 // The step, where what came before it was done.

@@ -3,26 +3,21 @@
 // 255, where it is taken, has a lookup.
 ghost use mathlib.Core.Path.{_≡_};
 ghost use Rattle.face_lent.specs.Lent.{lentStep, replyOf};
+use face_c::Asked;
 use face_lent::Reply;
 use file::Wrote;
 use rules::Action;
 use rules::Message;
 use rules::Node;
 use rules::Pool;
-use rules::Refusal;
 use table_type::Stepped;
 use table_type::Table;
 
+// The action of a number, with its two words; a Take where the number is no action's.
 fn action_of(kind: u64, x: u64, y: u64) -> Action {
-    let i = x as usize;
-    let j = y as usize;
-    match kind {
-        1 => Action::Lookup(i, y),
-        2 => Action::Join(i, j),
-        3 => Action::RequestLease(i),
-        4 => Action::LeaseExpired(i, j),
-        5 => Action::GrantExpired(i, j),
-        _ => Action::Take(i),
+    match face_c::action_of(kind, x, y) {
+        Asked::Is(a) => a,
+        Asked::None => Action::Take(x as usize),
     }
 }
 
@@ -39,8 +34,12 @@ fn turned_message(m: Message) -> Message {
 }
 
 fn loaded(file: &[u8]) -> Stepped {
-    let none = table_type::not_started(Refusal::Invalid);
-    file_read::load(file, none.table, face_table::no_messages(), 256)
+    file_read::load(
+        file,
+        table_parts::no_table(),
+        table_parts::no_messages(),
+        256,
+    )
 }
 
 fn steps(s: Stepped, a: Action, times: u32) -> u64 {

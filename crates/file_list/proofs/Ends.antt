@@ -42,9 +42,9 @@ abbrev Lists : List ℕ → List ℕ → Wrote → List ℕ → Type 0
 Lists file out r new = (r ≡ listOf file out) × (new ≡ listedOf file out)
 
 module _ (file out : List ℕ) where
-  pub lists-none : length out < room → Lists file out (notWritten no.NoRoom) out
+  pub lists-none : length out < room → (r : Wrote) → r ≡ notWritten no.NoRoom → Lists file out r out
   unfolding listOf listedOf
-  lists-none h = let l = lt-ltb (length out) room h in (rw l, rw l)
+  lists-none h r e = let l = lt-ltb (length out) room h in (rw (l, e), rw l)
 
   pub lists-done : room ≤ length out → {t : Table} {p : Pool} (s : Stepped) → t ≡ noTable → p ≡ laid [] → s ≡ loadOf file t p 256
       → {n : ℕ} {new : List ℕ} → Prints out 0 (printOf s) n new → Lists file out (record { answer = Done; count = n }) new

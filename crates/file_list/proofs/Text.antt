@@ -113,7 +113,11 @@ pub lines-short : (t : Table) (p : Pool) → validOf t p ≡ true → (q : ℕ) 
     → length (linesOf t (take q (p .places))) ≤ 36 * q
 lines-short t p v q h =
     let few = length-take q (p .places) in
-    omega (arith, few, all-short t (take q (p .places)) (λ i l k.
-    let j : i < q = omega (arith, few) in
-    let same = getD-take q (p .places) i blank j in
-    rw same (lone t p v i (omega arith) (rw same at k))))
+    omega (
+      arith,
+      few,
+      all-short t (take q (p .places)) (λ i l k.
+          let j : i < q = omega (arith, few) in
+          let same = getD-take q (p .places) i blank j in
+          rw same (lone t p v i (omega arith) (rw same at k))),
+    )

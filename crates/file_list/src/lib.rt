@@ -169,7 +169,12 @@ pub fn list(file: &[u8], out: &mut [u8]) -> Wrote
     if out.len() < 16384 {
         return file_write::not_written(Refusal::NoRoom);
     }
-    let s = file_read::load(file, table_parts::no_table(), table_parts::no_messages(), 256);
+    let s = file_read::load(
+        file,
+        table_parts::no_table(),
+        table_parts::no_messages(),
+        256,
+    );
     let count = put_loaded(out, s);
     Wrote {
         answer: Answer::Done,

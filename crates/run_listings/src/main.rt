@@ -9,10 +9,6 @@ fn title(number: u64) {
     io::write_all(STDOUT_FILENO, b"\n");
 }
 
-fn wide(x: u8) -> usize {
-    x as usize
-}
-
 // The next length, or one that no file has where the input ends.
 fn next_length() -> usize {
     let mut head = [0u8; 4];
@@ -20,10 +16,7 @@ fn next_length() -> usize {
     if got < 4 {
         return usize::MAX;
     }
-    wide(head[0]) % 256
-        + wide(head[1]) % 256 * 256
-        + wide(head[2]) % 256 * 65536
-        + wide(head[3]) % 256 * 16777216
+    words::read32(&head, 0) as usize
 }
 
 // Lists the next file: whether there was one.

@@ -82,6 +82,11 @@ impl Outcome {
         sorted(&file)
     }
 
+    /// A state as the store holds it.
+    pub fn packed(&self, number: usize) -> &[u8] {
+        self.store.state(number as u32)
+    }
+
     pub fn states(&self) -> States {
         (0..self.count()).map(|number| self.file(number)).collect()
     }
@@ -180,7 +185,9 @@ fn successors(case: &Case, plan: &Plan, state: &[u8]) -> Vec<Vec<u8>> {
     let (mut table, mut pool) = (model::Table::BLANK, model::EMPTY_POOL);
     model::load(state, &mut table, &mut pool).expect("a table file");
     let takes = (0..table.count).map(|place| model::Action::Take { place });
-    let allowed = |action: &&[u64; 3]| action[0] != 2 || may_join(case, &table, action[1] as usize);
+    let joins: Vec<usize> =
+        plan.actions.iter().filter(|action| action[0] == 2).map(|action| action[1] as usize).collect();
+    let allowed = |action: &&[u64; 3]| action[0] != 2 || may_join(case, &table, &joins, action[1] as usize);
     let actions = takes.chain(plan.actions.iter().filter(allowed).map(|action| model_action(*action)));
     let actions: Vec<model::Action> = actions.collect();
     let made = |action| {
@@ -190,11 +197,13 @@ fn successors(case: &Case, plan: &Plan, state: &[u8]) -> Vec<Vec<u8>> {
     actions.into_iter().filter_map(made).collect()
 }
 
-fn may_join(case: &Case, table: &model::Table, slot: usize) -> bool {
+fn may_join(case: &Case, table: &model::Table, joins: &[usize], slot: usize) -> bool {
     let with = |status| table.listed().iter().filter(|node| node.status == status).count();
     let wait = with(model::Status::Wait);
-    assert!(!case.limits.in_order && slot < table.n);
-    case.limits.waiting.is_none_or(|most| wait < most)
+    let before = joins.iter().position(|&join| join == slot).unwrap_or(0);
+    let begun = joins[..before].iter().all(|&join| table.nodes[join].status != model::Status::Dead);
+    (begun || !case.limits.in_order)
+        && case.limits.waiting.is_none_or(|most| wait < most)
         && case.limits.joining.is_none_or(|most| wait + with(model::Status::Ok) < most)
 }
 

@@ -2,13 +2,12 @@
 
 use crate::common::{engine, search, search_from, Case, How};
 use explore::engine::{room, Engine};
-use explore::file::{self, READY};
+use explore::file::{self, READY, WAIT};
 use explore::plan::Limits;
 use explore::question::{Question, PROPERTIES, QUESTIONS};
 use explore::ring::Ring;
 use explore::rows::{IDS, L, M, ROWS};
 use explore::search::End;
-use explore::state::Key;
 
 fn question(name: &str) -> &'static Question {
     QUESTIONS.iter().chain(&PROPERTIES).find(|question| question.name == name).expect("a question")
@@ -107,24 +106,46 @@ fn a_node_that_is_lost_never_becomes_ready_and_one_that_is_not_does() {
     assert_eq!(whole.nodes.iter().map(|answer| answer.slot).collect::<Vec<_>>(), [2, 3]);
 }
 
+/// A table file of 1 and 2 on a ring of 2^16 ids, both ready but for what `change` does, with these messages.
+fn pair(change: impl Fn(&mut file::Table), messages: impl Iterator<Item = file::Message>) -> Vec<u8> {
+    let mut table = file::read(&PAIR.start(engine().as_mut()));
+    change(&mut table);
+    let mut file = Vec::new();
+    file::write(&table.frame, table.nodes.into_iter(), messages, &mut file);
+    file
+}
+
+const PAIR: Case = Case::new(16, 1, 3, &[1, 2], "lookup 7 at 1\n");
+
 #[test]
-fn stuck_and_full_are_told() {
-    // With L = 2 and one node ready the one that joins has short sides: its broadcasts are refused for ever.
-    let case = Case::new(8, 2, 1, &[17, 18], "join 18 17\n");
-    let questions = [question("ready"), question("stuck"), question("full")];
-    let outcome = search(&case, How::REMEMBERED, &questions).expect("a search");
+fn stuck_is_told() {
+    // 2 waits, knows nobody, and no message is on its way.
+    let stuck = pair(
+        |table| table.nodes[1] = file::Node([2 | u64::from(WAIT) << 32, 0, 0, 0, 0, 2, 0, 0]),
+        std::iter::empty(),
+    );
+    let frame = file::read(&stuck).frame;
+    let none = Case { plan: "", ..PAIR }.plan(&frame);
+    let questions = [question("stuck"), question("ready")];
+    let outcome =
+        search_from(engine().as_mut(), &stuck, &none, How::REMEMBERED, &questions).expect("a search");
+    assert_eq!((outcome.end, outcome.count(), outcome.found[0]), (End::Searched, 1, Some(0)));
     assert_eq!(outcome.nodes.len(), 1);
     assert!(outcome.nodes[0].ready.is_none() && outcome.nodes[0].lost == Some(0));
-    assert!(outcome.found[2].is_none());
-    // A pool of 256 lookups is full.
-    let mut engine = engine();
-    let start = Case::new(16, 1, 3, &[1, 2], "").start(engine.as_mut());
-    let table = file::read(&start);
-    let waiting = (0..256).map(|key| file::Message([1, 40_000 + key, 0, 0, 0, 0, 0]));
-    let mut full = Vec::new();
-    file::write(&table.frame, table.nodes.into_iter(), waiting, &mut full);
-    let plan = Case::new(16, 1, 3, &[1, 2], "lookup 7 at 1\n").plan(&table.frame);
-    let bound = How { audit: 1, key: Key::WHOLE, remember: true };
-    let outcome = search_from(engine.as_mut(), &full, &plan, bound, &[question("full")]).expect("a search");
-    assert_eq!(outcome.found[0], Some(0));
+    // With a lookup to be made something goes on.
+    let outcome = search_from(engine().as_mut(), &stuck, &PAIR.plan(&frame), How::REMEMBERED, &questions);
+    assert_eq!(outcome.expect("a search").found[0], None);
+}
+
+#[test]
+fn a_full_pool_is_told() {
+    let waiting = |count: u64| (0..count).map(|key| file::Message([1, 40_000 + key, 0, 0, 0, 0, 0]));
+    for (count, after) in [(256, Some(0)), (255, Some(1))] {
+        let full = pair(|_| (), waiting(count));
+        let plan = Case { plan: "lookup 7 at 1\nlookup 8 at 1\n", ..PAIR }.plan(&file::read(&full).frame);
+        let how = How { audit: 1, ..How::REMEMBERED };
+        let outcome =
+            search_from(engine().as_mut(), &full, &plan, how, &[question("full")]).expect("a search");
+        assert_eq!(outcome.found[0], after);
+    }
 }

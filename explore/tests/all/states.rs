@@ -6,6 +6,7 @@ use explore::file::{self, Message, Node};
 use explore::plan::Limits;
 use explore::search::End;
 use explore::state::{Key, State};
+use explore::store::Store;
 use explore::trouble::Trouble;
 
 const THREE: &[u32] = &[17, 18, 65];
@@ -13,7 +14,7 @@ const FOUR: &[u32] = &[17, 18, 65, 95];
 const FIVE: &[u32] = &[0, 1, 2, 9, 14];
 const BOTH: &str = "join 17 any\njoin 65 any\n";
 
-const CASES: [Case; 9] = [
+const CASES: [Case; 10] = [
     Case::new(8, 1, 2, FOUR, "join 95 18\n"),
     Case::new(8, 1, 2, THREE, BOTH),
     Case::new(8, 2, 2, THREE, BOTH),
@@ -27,6 +28,10 @@ const CASES: [Case; 9] = [
     Case {
         limits: Limits { joining: None, waiting: Some(1), in_order: false },
         ..Case::new(8, 1, 2, THREE, BOTH)
+    },
+    Case {
+        limits: Limits { joining: None, waiting: None, in_order: true },
+        ..Case::new(8, 1, 2, THREE, "join 65 18\njoin 17 any\n")
     },
     Case::new(32, 2, 7, &[1, 2_000_000_000, 3_000_000_000, 4_294_967_295], "join 4294967295 1\n"),
 ];
@@ -53,7 +58,7 @@ fn remembered_steps_lead_to_the_models_states() {
 
 #[test]
 fn steps_asked_every_time_lead_to_the_models_states() {
-    for case in [&CASES[0], &CASES[4], &CASES[5], &CASES[8]] {
+    for case in [&CASES[0], &CASES[4], &CASES[5], &CASES[9]] {
         assert!(agrees(case, &search(case, How::EVERY, &[]).expect("a search")));
     }
 }
@@ -65,6 +70,24 @@ fn a_state_is_packed_and_unpacked() {
     state.pack(&mut bytes);
     back.unpack(4, &bytes);
     assert_eq!(state, back);
+}
+
+#[test]
+fn a_hash_that_drops_a_field_costs_time_and_no_state() {
+    let whole = search(&CASES[1], How::REMEMBERED, &[]).expect("a search");
+    // Hashes that look at nothing, and at no more than the nodes.
+    let hashes: [fn(&[u8]) -> u64; 2] = [|_| 7, |bytes| bytes[..3].iter().map(|&byte| u64::from(byte)).sum()];
+    for hash in hashes {
+        let mut store = Store::with_hash(hash);
+        for number in 0..whole.count() {
+            let (met, is_new) = store.insert(whole.packed(number), 0);
+            assert!(is_new && met as usize == number);
+        }
+        for number in 0..whole.count() {
+            assert_eq!(store.insert(whole.packed(number), 0), (number as u32, false));
+            assert_eq!(store.state(number as u32), whole.packed(number));
+        }
+    }
 }
 
 /// A step that is wrong where `wrong` says so of the file, the action and the message taken.

@@ -19,9 +19,9 @@ module _ (s : Stepped) (out : List ℕ) where
   unfolding wroteBy leftBy
   written-done e r new k = (rw e (k .0), rw e (k .1))
 
-  written-refused : (why : Refusal) → s .answer ≡ Refused why → (notWritten why ≡ wroteBy s out) × (out ≡ leftBy s out)
+  written-refused : (why : Refusal) → s .answer ≡ Refused why → (r : Wrote) → r ≡ notWritten why → (r ≡ wroteBy s out) × (out ≡ leftBy s out)
   unfolding wroteBy leftBy
-  written-refused why e = (rw e, rw e)
+  written-refused why e r k = (rw (e, k), rw e)
 
 enum-told : tie.Need-enum-told
 enum-told c = search needs
@@ -44,7 +44,7 @@ returns c =
     written-done _ _ (write .before .before .enum-told .given .1) _ _ (write .write .ensures)
 
 returns-2 : tie.Need-returns-2
-returns-2 c = written-refused _ _ _ (c .before .answer .given .1)
+returns-2 c = written-refused _ _ _ (c .before .before .answer .given .1) _ (c .not-written .ensures)
 
 pub written-spec : {M : Type 1} → statement M
 written-spec = tie.close (tie.spec enum-told write-requires enum-known-answer not-written-requires same-length returns returns-2)

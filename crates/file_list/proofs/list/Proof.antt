@@ -10,8 +10,9 @@ not-written-requires c κs = search needs
 
 returns : tie.Need-returns
 returns c =
-    let a = c .before .before .before .args in
-    lists-none (a .file .now) (a .out .now) (c .if1 .taken)
+    let if1 = c .before in
+    let a = if1 .before .before .before .args in
+    lists-none (a .file .now) (a .out .now) (if1 .if1 .taken) _ (c .not-written .ensures)
 
 no-table-requires : tie.Need-no-table-requires
 no-table-requires c κs = search needs

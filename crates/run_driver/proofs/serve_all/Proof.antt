@@ -36,8 +36,8 @@ same-length-2 c = search needs
 returns : tie.Need-returns Inv-loop μ-loop
 returns c = search needs
 
-kind-of-requires : tie.Need-kind-of-requires Inv-loop μ-loop
-kind-of-requires c κs = search needs
+kind-in-requires : tie.Need-kind-in-requires Inv-loop μ-loop
+kind-in-requires c κs = search needs
 
 rehearse-requires : tie.Need-rehearse-requires Inv-loop μ-loop
 rehearse-requires c κs = search needs
@@ -112,7 +112,7 @@ serve-all-spec =
     same-length
     same-length-2
     returns
-    kind-of-requires
+    kind-in-requires
     rehearse-requires
     same-length-3
     same-length-4

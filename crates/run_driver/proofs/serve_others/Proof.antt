@@ -32,8 +32,8 @@ same-length-2 c = search needs
 returns : tie.Need-returns Inv-loop μ-loop
 returns c = search needs
 
-kind-of-requires : tie.Need-kind-of-requires Inv-loop μ-loop
-kind-of-requires c κs = search needs
+kind-in-requires : tie.Need-kind-in-requires Inv-loop μ-loop
+kind-in-requires c κs = search needs
 
 is-held-requires : tie.Need-is-held-requires Inv-loop μ-loop
 is-held-requires c κs = search needs
@@ -90,7 +90,7 @@ serve-others-spec =
     same-length
     same-length-2
     returns
-    kind-of-requires
+    kind-in-requires
     is-held-requires
     same-length-3
     same-length-4

@@ -1,7 +1,7 @@
--- `driver::bits_of` meets its contract: told from the sign. Assumes nothing.
+-- `told::bits_of` meets its contract: told from the sign. Assumes nothing.
 use Rattle.run_driver.proofs.Signed.{below, from-0, lack-fits, lack-cast, lack-low, below-bits, size-cast, from-0-bits}
-use Rattle.run_driver.proofs.bits_of.Statement.{statement}
-use Rattle.run_driver.proofs.bits_of.Tie as tie
+use Rattle.run_driver.proofs.told.bits_of.Statement.{statement}
+use Rattle.run_driver.proofs.told.bits_of.Tie as tie
 
 sub-result : tie.Need-sub-result
 sub-result c = lack-fits _ (below _ (c .before .fits .x) (c .if1 .taken))

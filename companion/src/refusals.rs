@@ -1,0 +1,208 @@
+//! Why an action is refused: for each action 01's conditions in their order, as they are read here. Where the number that they
+//! give is not the proved code's, no reason is given. A new action asks for a line in `rule`; without one its refusals are told
+//! by their number alone.
+
+use crate::driver::ActionWords;
+use crate::table::{Message, Node};
+use crate::why::Why;
+
+/// A number and why it is answered.
+type Reason = Option<(u32, String)>;
+
+impl Why<'_> {
+    /// Why an action is refused with this number; empty where the rules as read here say otherwise.
+    pub fn refused(&self, action: ActionWords, number: u32) -> String {
+        if number == 6 {
+            return format!("{} messages wait; a step leaves 256 at most", self.table().messages.len());
+        }
+        match self.rule(action) {
+            Some((rule, reason)) if rule == number => reason,
+            _ => String::new(),
+        }
+    }
+
+    fn rule(&self, action: ActionWords) -> Reason {
+        let [number, x, y] = action;
+        match number {
+            1 => self.slot(x).or_else(|| self.key(y)).or_else(|| self.lookup(x as u32, y as u32)),
+            2 => self.slot(x).or_else(|| self.slot(y)).or_else(|| self.join(x as u32, y as u32)),
+            3 => self.slot(x).or_else(|| self.request_lease(x as u32)),
+            4 => self.slot(x).or_else(|| self.slot(y)).or_else(|| self.lease_expired(x as u32, y as u32)),
+            5 => self.slot(x).or_else(|| self.slot(y)).or_else(|| self.grant_expired(x as u32, y as u32)),
+            6 => self.place(x).or_else(|| self.take(&self.table().messages[x as usize])),
+            _ => None,
+        }
+    }
+
+    fn slot(&self, slot: u64) -> Reason {
+        let count = self.table().nodes.len() as u64;
+        (slot >= count).then(|| {
+            (1, format!("slot {slot} is not listed; the slots are 0 to {}", count.saturating_sub(1)))
+        })
+    }
+
+    fn key(&self, key: u64) -> Reason {
+        let last = self.rules.last();
+        (key > last.into()).then(|| (1, format!("key {key} is out of range; keys are 0 to {last}")))
+    }
+
+    fn place(&self, place: u64) -> Reason {
+        let count = self.table().messages.len() as u64;
+        let are = match count {
+            0 => "no message waits".to_string(),
+            _ => format!("the places are 0 to {}", count - 1),
+        };
+        (place >= count).then(|| (1, format!("no message at place {place}; {are}")))
+    }
+
+    /// 2, unless the status is one of these.
+    fn asks(&self, slot: u32, wanted: &[u32], by: &str) -> Reason {
+        let status = self.rules.node(slot).status;
+        let words: Vec<&str> = wanted.iter().map(|status| Node::STATUSES[*status as usize]).collect();
+        let reason = || {
+            format!(
+                "{} is {}; {by} asks for a node that is {}",
+                self.name(slot),
+                self.status(slot),
+                words.join(" or ")
+            )
+        };
+        (!wanted.contains(&status)).then(|| (2, reason()))
+    }
+
+    fn not_empty(&self, slot: u32, by: &str) -> Reason {
+        let reason = || format!("{} has an empty leaf set; {by} asks for one that is not", self.name(slot));
+        self.rules.is_empty(slot).then(|| (4, reason()))
+    }
+
+    fn lookup(&self, slot: u32, key: u32) -> Reason {
+        let equal = self.found(|m| *m == Message::lookup(key, slot));
+        equal.first().map(|equal| (3, format!("{equal} waits (01, Lookup)")))
+    }
+
+    fn join(&self, slot: u32, seed: u32) -> Reason {
+        let asked = || self.found(|m| m.kind == Message::JOIN_REQUEST && m.word == slot);
+        let asked = || asked().first().map(|asked| (3, format!("{asked} waits (01, Join)")));
+        let full = || {
+            let reason =
+                || format!("{}: {}; Join asks for an empty one", self.name(slot), self.leaf_set(slot));
+            (!self.rules.is_empty(slot)).then(|| (4, reason()))
+        };
+        self.asks(slot, &[Node::DEAD], "Join")
+            .or_else(|| self.asks(seed, &[Node::READY], "Join's seed"))
+            .or_else(asked)
+            .or_else(full)
+    }
+
+    fn request_lease(&self, slot: u32) -> Reason {
+        self.asks(slot, &[Node::OK], "RequestLease").or_else(|| self.not_empty(slot, "RequestLease"))
+    }
+
+    fn lease_expired(&self, slot: u32, other: u32) -> Reason {
+        let by = "LeaseExpired";
+        self.asks(slot, &[Node::OK, Node::READY], by).or_else(|| self.differ(slot, other, by)).or_else(|| {
+            let held = self.rules.node(slot).lease() >> other & 1 == 1;
+            (!held).then(|| (5, format!("{} holds no lease of {} ({by})", self.name(slot), self.name(other))))
+        })
+    }
+
+    fn grant_expired(&self, slot: u32, other: u32) -> Reason {
+        let by = "GrantExpired";
+        let pair = (self.name(slot), self.name(other));
+        let given = self.rules.node(slot).grant() >> other & 1 == 1;
+        let held = self.rules.node(other).lease() >> slot & 1 == 1;
+        let reason = match (given, held) {
+            (false, _) => Some(format!("{} gave {} no grant ({by})", pair.0, pair.1)),
+            (true, true) => {
+                Some(format!("{} still holds the lease of {}; that ends first ({by})", pair.1, pair.0))
+            }
+            (true, false) => None,
+        };
+        self.asks(slot, &[Node::OK, Node::READY], by)
+            .or_else(|| self.differ(slot, other, by))
+            .or(reason.map(|reason| (5, reason)))
+    }
+
+    fn differ(&self, slot: u32, other: u32, by: &str) -> Reason {
+        (slot == other).then(|| (5, format!("{by} asks for two nodes that differ")))
+    }
+
+    pub fn take(&self, message: &Message) -> Reason {
+        let (at, from) = (message.at, message.word);
+        let own = |from: u32| (from == at).then(|| (5, format!("it comes from {} itself", self.name(at))));
+        match message.kind {
+            Message::LOOKUP => self.asks(at, &[Node::READY], "a Lookup (01, Take 1)"),
+            Message::JOIN_REQUEST => {
+                self.asks(at, &[Node::READY], "a JoinRequest (01, Take 2)").or_else(|| self.known(at, from))
+            }
+            Message::JOIN_REPLY => self.take_reply(at),
+            Message::PROBE => {
+                self.alive(at, "an LSProbe (01, Take 4)").or_else(|| self.probed(at)).or_else(|| own(from))
+            }
+            Message::PROBE_REPLY => {
+                let heard = || self.heard(at, from);
+                self.alive(at, "an LSProbeReply (01, Take 5)")
+                    .or_else(|| self.probed(at))
+                    .or_else(|| own(from))
+                    .or_else(heard)
+            }
+            Message::NO_LEGAL_ROUTE => Some((5, "a NoLegalRoute is never taken (01, Take 6)".to_string())),
+            Message::LEASE_REQUEST => {
+                let by = "a LeaseRequest (01, Take 7)";
+                self.asks(at, &[Node::OK, Node::READY], by).or_else(|| self.not_empty(at, by))
+            }
+            _ => self.take_broadcast(at, message.owner),
+        }
+    }
+
+    fn alive(&self, slot: u32, by: &str) -> Reason {
+        self.asks(slot, &[Node::WAIT, Node::OK, Node::READY], by)
+    }
+
+    fn known(&self, slot: u32, from: u32) -> Reason {
+        let known = self.rules.content(slot) >> from & 1 == 1;
+        known.then(|| {
+            (5, format!("{} is in the leaf set of {} (01, Take 2)", self.name(from), self.name(slot)))
+        })
+    }
+
+    fn probed(&self, slot: u32) -> Reason {
+        let waits = self.rules.node(slot).status == Node::WAIT && self.rules.is_empty(slot);
+        waits.then(|| (4, format!("{} waits with an empty leaf set (01, Take 4)", self.name(slot))))
+    }
+
+    fn heard(&self, slot: u32, from: u32) -> Reason {
+        let probed = self.rules.node(slot).probing() >> from & 1 == 1;
+        (!probed).then(|| (5, format!("{} does not probe {} (01, Take 5)", self.name(slot), self.name(from))))
+    }
+
+    fn take_reply(&self, at: u32) -> Reason {
+        let full = || {
+            format!(
+                "{}: {}; a JoinReply asks for an empty one (01, Take 3)",
+                self.name(at),
+                self.leaf_set(at)
+            )
+        };
+        let probes = || format!("{} probes already (01, Take 3)", self.name(at));
+        self.alive(at, "a JoinReply (01, Take 3)")
+            .or_else(|| (!self.rules.is_empty(at)).then(|| (4, full())))
+            .or_else(|| (self.rules.node(at).probing() != 0).then(|| (5, probes())))
+    }
+
+    fn take_broadcast(&self, at: u32, owner: u32) -> Reason {
+        let by = "a BroadcastLSet (01, Take 8)";
+        let short = || {
+            format!(
+                "{} is {}: {}; {by} asks for {} a side",
+                self.name(at),
+                self.status(at),
+                self.leaf_set(at),
+                self.table().l
+            )
+        };
+        self.asks(at, &[Node::OK, Node::READY], by)
+            .or_else(|| (!self.rules.complete(at)).then(|| (4, short())))
+            .or_else(|| (owner == at).then(|| (5, format!("it is {}'s own (01, Take 8)", self.name(at)))))
+    }
+}
