@@ -2,6 +2,7 @@
 
 use crate::args::{self, Given};
 use crate::change;
+use crate::desk::Desk;
 use crate::file;
 use crate::files;
 use crate::listing;
@@ -10,7 +11,6 @@ use crate::plan::{self, Ask};
 use crate::play::Play;
 use crate::print;
 use crate::rules::Rules;
-use crate::session::Session;
 use crate::survey::{unshared, Survey};
 use crate::table::{Names, Node, Table};
 use crate::trouble::{Fault, Trouble};
@@ -18,24 +18,24 @@ use crate::why::Why;
 use crate::words::number;
 use std::ffi::OsString;
 
-pub fn list(session: &mut Session, given: &Given) -> Result<(), Trouble> {
+pub fn list(desk: &mut Desk, given: &Given) -> Result<(), Trouble> {
     let [path] = given.exactly(["TABLE"])?;
-    let table = session.table(path)?;
-    files::print(listing::listing(session.driver()?, &table)?.as_bytes())
+    let table = desk.table(path)?;
+    files::print(listing::listing(desk.driver()?, &table)?.as_bytes())
 }
 
-pub fn who(session: &mut Session, given: &Given) -> Result<(), Trouble> {
+pub fn who(desk: &mut Desk, given: &Given) -> Result<(), Trouble> {
     let ([path], words) = given.take(["TABLE"])?;
     let keys: Vec<u64> = words.iter().map(|word| key(given, word)).collect::<Result<_, _>>()?;
-    let table = session.table(path)?;
+    let table = desk.table(path)?;
     if keys.is_empty() {
-        return files::print(covers(session, &table)?.as_bytes());
+        return files::print(covers(desk, &table)?.as_bytes());
     }
     let names = Names::new(table.ids());
     let mut text = String::new();
     for key in keys {
-        in_range(session, &table, key)?;
-        let holders = Survey::new(session.driver()?).holders(&table, key as u32)?;
+        in_range(desk, &table, key)?;
+        let holders = Survey::new(desk.driver()?).holders(&table, key as u32)?;
         let holders: Vec<String> = holders.into_iter().map(|slot| names.of(slot)).collect();
         text += &match holders.as_slice() {
             [] => format!("{key}: nobody covers it\n"),
@@ -53,18 +53,18 @@ fn key(given: &Given, word: &OsString) -> Result<u64, Trouble> {
 }
 
 /// Whether a Lookup of the key may begin: asked of the proved code.
-fn in_range(session: &mut Session, table: &Table, key: u64) -> Result<(), Trouble> {
+fn in_range(desk: &mut Desk, table: &Table, key: u64) -> Result<(), Trouble> {
     let action = [1, 0, key];
     let quiet = Table { messages: vec![], ..table.clone() };
-    let reply = session.driver()?.step(action, &file::write(&quiet))?;
+    let reply = desk.driver()?.step(action, &file::write(&quiet))?;
     let reason = |number| Why::new(&quiet).refused(action, number);
     reply.done().map(|_| ()).map_err(|trouble| trouble.of(&key.to_string(), reason))
 }
 
 /// What each ready node covers, and the keys that nobody or several cover.
-fn covers(session: &mut Session, table: &Table) -> Result<String, Trouble> {
+fn covers(desk: &mut Desk, table: &Table) -> Result<String, Trouble> {
     let names = Names::new(table.ids());
-    let arcs = Survey::new(session.driver()?).arcs(table)?;
+    let arcs = Survey::new(desk.driver()?).arcs(table)?;
     let mut text = String::new();
     for (arc, slot) in arcs.iter().zip(0..) {
         if let Some(arc) = arc {
@@ -80,20 +80,20 @@ fn covers(session: &mut Session, table: &Table) -> Result<String, Trouble> {
     Ok(text)
 }
 
-pub fn why(session: &mut Session, given: &Given) -> Result<(), Trouble> {
+pub fn why(desk: &mut Desk, given: &Given) -> Result<(), Trouble> {
     let ([path], words) = given.take(["TABLE"])?;
-    let table = session.table(path)?;
+    let table = desk.table(path)?;
     let text = args::text(words);
     let first = text.split_whitespace().next().unwrap_or_default();
     match first {
-        "" => why_table(session, table),
-        word if plan::begins(word) => why_action(session, given, &text, table),
+        "" => why_table(desk, table),
+        word if plan::begins(word) => why_action(desk, given, &text, table),
         _ => why_node(given, &text, &table),
     }
 }
 
-fn why_table(session: &mut Session, table: Table) -> Result<(), Trouble> {
-    let reasons = Play::new(session.driver()?, table).not_settled()?;
+fn why_table(desk: &mut Desk, table: Table) -> Result<(), Trouble> {
+    let reasons = Play::new(desk.driver()?, table).not_settled()?;
     if reasons.is_empty() {
         return files::print(b"settled\n");
     }
@@ -112,13 +112,13 @@ fn why_node(given: &Given, text: &str, table: &Table) -> Result<(), Trouble> {
     }
 }
 
-fn why_action(session: &mut Session, given: &Given, text: &str, table: Table) -> Result<(), Trouble> {
+fn why_action(desk: &mut Desk, given: &Given, text: &str, table: Table) -> Result<(), Trouble> {
     let names = Names::new(table.ids());
     let asked = plan::asked(args::line(text), &names).map_err(|fault| given.bad(fault))?;
     let Ask::Step(words) = asked.ask else {
         return Err(given.misuse(&format!("{text}: one action is expected, or a node")));
     };
-    let step = Play::new(session.driver()?, table).step(words)?;
+    let step = Play::new(desk.driver()?, table).step(words)?;
     match step.refusal {
         None => files::print(format!("{text}: would be done: {}\n", step.sentence).as_bytes()),
         Some(refusal) => {
@@ -128,9 +128,9 @@ fn why_action(session: &mut Session, given: &Given, text: &str, table: Table) ->
     }
 }
 
-pub fn diff(session: &mut Session, given: &Given) -> Result<(), Trouble> {
+pub fn diff(desk: &mut Desk, given: &Given) -> Result<(), Trouble> {
     let [one, other] = given.exactly(["TABLE", "TABLE"])?;
-    let (one, other) = (session.table(one)?, session.table(other)?);
+    let (one, other) = (desk.table(one)?, desk.table(other)?);
     let lines = change::between(&one, &other);
     if lines.is_empty() {
         return files::print(b"no difference\n");
@@ -139,9 +139,9 @@ pub fn diff(session: &mut Session, given: &Given) -> Result<(), Trouble> {
     Err(Trouble::No(String::new()))
 }
 
-pub fn waiting(session: &mut Session, given: &Given) -> Result<(), Trouble> {
+pub fn waiting(desk: &mut Desk, given: &Given) -> Result<(), Trouble> {
     let ([path], words) = given.take(["TABLE"])?;
-    let table = session.table(path)?;
+    let table = desk.table(path)?;
     let names = Names::new(table.ids());
     let text = args::text(words);
     let mut line = args::line(&text);
@@ -156,7 +156,7 @@ pub fn waiting(session: &mut Session, given: &Given) -> Result<(), Trouble> {
     let mut text = String::new();
     for slot in slots {
         let reason = |_| format!("slot {slot} is not listed; the slots are 0 to {}", table.nodes.len() - 1);
-        let first = session.driver()?.waiting(slot.into(), &file);
+        let first = desk.driver()?.waiting(slot.into(), &file);
         let first = first.map_err(|trouble| trouble.of(&names.of(slot), reason))?;
         let told = first.and_then(|place| Some((place, table.messages.get(place as usize)?)));
         text += &match told {

@@ -5,12 +5,12 @@
 
 use crate::args::Given;
 use crate::change;
+use crate::desk::Desk;
 use crate::driver::{ActionWords, Verdict};
 use crate::faults;
 use crate::file;
 use crate::files;
 use crate::plan::{self, Ask};
-use crate::session::Session;
 use crate::table::{Names, Table};
 use crate::trouble::{Fault, Refusal, Trouble};
 use crate::why::Why;
@@ -24,14 +24,14 @@ struct Claim<'a> {
     stated: OsString,
 }
 
-pub fn check(session: &mut Session, given: &Given) -> Result<(), Trouble> {
+pub fn check(desk: &mut Desk, given: &Given) -> Result<(), Trouble> {
     let [path] = given.exactly(["REHEARSAL"])?;
     let text = files::text(path, &files::read(path)?)?;
     let bad = |fault: Fault| Trouble::Bad(files::name(path), fault);
     let (start, claims) = claims(&text, path).map_err(bad)?;
-    let mut good = session.bytes(&start)?;
-    if session.driver()?.begin_rehearsal(&good)? != Verdict::Accepted {
-        let number = session.driver()?.load(&good)?.number;
+    let mut good = desk.bytes(&start)?;
+    if desk.driver()?.begin_rehearsal(&good)? != Verdict::Accepted {
+        let number = desk.driver()?.load(&good)?.number;
         let refusal = Refusal { number, of: files::name(&start), reason: faults::of_file(&good, number) };
         return Err(Trouble::No(format!("bad start\n   {refusal}")));
     }
@@ -39,11 +39,11 @@ pub fn check(session: &mut Session, given: &Given) -> Result<(), Trouble> {
     let steps =
         claims.into_iter().map(|claim| step(claim, &names)).collect::<Result<Vec<_>, _>>().map_err(bad)?;
     for (nth, (said, action, path)) in steps.iter().enumerate() {
-        let stated = session.bytes(path)?;
-        let verdict = session.driver()?.next_of_rehearsal(*action, &stated);
+        let stated = desk.bytes(path)?;
+        let verdict = desk.driver()?.next_of_rehearsal(*action, &stated);
         let reason = |_| format!("step {} is one too many; 1,000 are looked at", nth + 1);
         if let Verdict::Bad(number) = verdict.map_err(|trouble| trouble.of(said, reason))? {
-            let what = what_is_wrong(session, &good, *action, &stated, path)?;
+            let what = what_is_wrong(desk, &good, *action, &stated, path)?;
             return Err(Trouble::No(format!("bad step {number}: {said}\n   {what}")));
         }
         good = stated;
@@ -87,20 +87,20 @@ fn step(claim: Claim, names: &Names) -> Result<(String, ActionWords, OsString), 
 
 /// The refusal of a bad step, or how the stated table differs from the one that results.
 fn what_is_wrong(
-    session: &mut Session,
+    desk: &mut Desk,
     good: &[u8],
     action: ActionWords,
     stated: &[u8],
     path: &OsStr,
 ) -> Result<String, Trouble> {
     let name = files::name(path);
-    let reply = session.driver()?.step(action, good)?;
+    let reply = desk.driver()?.step(action, good)?;
     if reply.number != 0 {
         let reason = Why::new(&file::known(good)?).refused(action, reply.number);
         return Ok(Refusal { number: reply.number, of: String::new(), reason }.to_string());
     }
     let result = file::known(&reply.result)?;
-    let load = session.driver()?.load(stated)?;
+    let load = desk.driver()?.load(stated)?;
     if load.number != 0 {
         let reason = faults::of_file(stated, load.number);
         return Ok(format!("it is done, but {}", Refusal { number: load.number, of: name, reason }));

@@ -1,7 +1,7 @@
 //! The commands, one row each: name, words, what it says, help, options, and what runs it.
 
 use crate::args::{Given, Opt};
-use crate::session::Session;
+use crate::desk::Desk;
 use crate::trouble::Trouble;
 use crate::{ask, check, page, sheet, table_commands, try_commands, water};
 
@@ -11,7 +11,7 @@ pub struct Command {
     pub says: &'static str,
     pub help: &'static str,
     pub options: &'static [Opt],
-    pub run: fn(&mut Session, &Given) -> Result<(), Trouble>,
+    pub run: fn(&mut Desk, &Given) -> Result<(), Trouble>,
 }
 
 /// `-o` of every command.

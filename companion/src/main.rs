@@ -8,6 +8,7 @@ mod change;
 mod check;
 mod command;
 mod csv;
+mod desk;
 mod draw;
 mod driver;
 mod faults;
@@ -28,7 +29,6 @@ mod play;
 mod print;
 mod refusals;
 mod rules;
-mod session;
 mod sha256;
 mod sheet;
 mod store;
@@ -45,7 +45,7 @@ mod why;
 mod words;
 
 use args::Given;
-use session::Session;
+use desk::Desk;
 use std::ffi::OsString;
 use std::io::{self, Write};
 use std::process::ExitCode;
@@ -59,7 +59,7 @@ fn main() -> ExitCode {
     };
     let rest = words.split_off(1 + count);
     words.remove(0);
-    ended(run(Session::new(words), &rest))
+    ended(run(Desk::new(words), &rest))
 }
 
 /// Says what went wrong, and gives the status.
@@ -76,7 +76,7 @@ fn ended(outcome: Result<(), Trouble>) -> ExitCode {
     }
 }
 
-fn run(mut session: Session, words: &[OsString]) -> Result<(), Trouble> {
+fn run(mut desk: Desk, words: &[OsString]) -> Result<(), Trouble> {
     let Some((first, rest)) = words.split_first() else {
         return Err(Trouble::Misuse("", "a command is missing".to_string()));
     };
@@ -94,5 +94,5 @@ fn run(mut session: Session, words: &[OsString]) -> Result<(), Trouble> {
         return Err(Trouble::Misuse("", format!("{name}: no command")));
     };
     let given = Given::read(command.name, command.options, rest)?;
-    (command.run)(&mut session, &given)
+    (command.run)(&mut desk, &given)
 }

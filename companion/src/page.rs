@@ -1,13 +1,13 @@
 //! `page`: a plan as one page, to open in a browser and to print.
 
 use crate::args::Given;
+use crate::desk::Desk;
 use crate::file;
 use crate::files;
 use crate::frames;
 use crate::help::VERSION;
 use crate::json::{list, object, text, texts};
 use crate::play::{Play, Played};
-use crate::session::Session;
 use crate::sha256;
 use crate::survey::Survey;
 use crate::table::{Names, Table};
@@ -18,12 +18,12 @@ const PAGE: &str = include_str!("page/page.html");
 const STYLE: &str = include_str!("page/page.css");
 const SCRIPT: &str = include_str!("page/page.js");
 
-pub fn page(session: &mut Session, given: &Given) -> Result<(), Trouble> {
+pub fn page(desk: &mut Desk, given: &Given) -> Result<(), Trouble> {
     let ([path], words) = given.take(["TABLE"])?;
-    let table = session.table(path)?;
+    let table = desk.table(path)?;
     let names = Names::new(table.ids());
     let plan = if words.is_empty() { vec![] } else { plan_of(given, words, &names)? };
-    let driver = session.driver()?;
+    let driver = desk.driver()?;
     let mut play = Play::new(driver, table.clone());
     let played = play.run(&plan, given.has("-k"))?;
     let after = play.table.clone();

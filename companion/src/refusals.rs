@@ -193,13 +193,8 @@ impl Why<'_> {
     fn take_broadcast(&self, at: u32, owner: u32) -> Reason {
         let by = "a BroadcastLSet (01, Take 8)";
         let short = || {
-            format!(
-                "{} is {}: {}; {by} asks for {} a side",
-                self.name(at),
-                self.status(at),
-                self.leaf_set(at),
-                self.table().l
-            )
+            let (name, status, leaf_set) = (self.name(at), self.status(at), self.leaf_set(at));
+            format!("{name} is {status}: {leaf_set}; {by} asks for a complete one")
         };
         self.asks(at, &[Node::OK, Node::READY], by)
             .or_else(|| (!self.rules.complete(at)).then(|| (4, short())))

@@ -11,12 +11,12 @@ use std::os::unix::fs::MetadataExt;
 use std::path::{Path, PathBuf};
 use std::process::{self, Command, Stdio};
 
-use crate::session::Session;
+use crate::desk::Desk;
 
 /// Browsers that print without a screen.
 const BROWSERS: [&str; 3] = ["chromium", "chromium-browser", "google-chrome"];
 
-pub fn print(_: &mut Session, given: &Given) -> Result<(), Trouble> {
+pub fn print(_: &mut Desk, given: &Given) -> Result<(), Trouble> {
     let [page] = given.exactly(["PAGE"])?;
     let step = given.value("--step").unwrap_or("last".as_ref());
     if step != "last" && !step.as_bytes().iter().all(u8::is_ascii_digit) {

@@ -1,24 +1,24 @@
 //! `do`: a plan tried and told.
 
 use crate::args::{self, Given};
+use crate::desk::{put, Desk};
 use crate::files;
 use crate::plan::{self, Asked};
 use crate::play::{End, Play, Played};
 use crate::print;
-use crate::session::{put, Session};
 use crate::table::{Names, Node, Table};
 use crate::trouble::{Fault, Trouble};
 use std::ffi::OsString;
 
-pub fn play(session: &mut Session, given: &Given) -> Result<(), Trouble> {
+pub fn play(desk: &mut Desk, given: &Given) -> Result<(), Trouble> {
     let ([path], words) = given.take(["TABLE"])?;
     if words.is_empty() {
         return Err(given.misuse("ACTIONS are missing: a file of them, or actions with commas between them"));
     }
-    let table = session.table(path)?;
+    let table = desk.table(path)?;
     let plan = plan_of(given, words, &Names::new(table.ids()))?;
     let before = format!("before: {}\n", summary(&table));
-    let mut play = Play::new(session.driver()?, table);
+    let mut play = Play::new(desk.driver()?, table);
     let played = play.run(&plan, given.has("-k"))?;
     let refused = played.iter().any(Played::refused);
     let out = given.value("-o");

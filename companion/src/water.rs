@@ -2,10 +2,10 @@
 
 use crate::args::Given;
 use crate::csv;
+use crate::desk::Desk;
 use crate::driver::Placed;
 use crate::file;
 use crate::files;
-use crate::session::Session;
 use crate::store::{Held, Store};
 use crate::table::{Names, Table};
 use crate::trouble::{Refusal, Trouble};
@@ -15,21 +15,21 @@ use std::path::Path;
 /// The most of rain, evapotranspiration and runoff, in tenths of a millimetre.
 const MOST: u64 = 100_000;
 
-pub fn water(session: &mut Session, given: &Given) -> Result<(), Trouble> {
+pub fn water(desk: &mut Desk, given: &Given) -> Result<(), Trouble> {
     let path = given.value("--store");
     let mut store = match path {
         Some(path) if Path::new(path).exists() => Store::read(path, &files::read(path)?)?,
         _ => Store::default(),
     };
-    refill(session, &mut store, path)?;
+    refill(desk, &mut store, path)?;
     let text = match given.words.as_slice() {
         [] if path.is_some_and(|path| Path::new(path).exists()) => held(&store),
-        [table, records] => place(session, &mut store, table, records)?,
+        [table, records] => place(desk, &mut store, table, records)?,
         _ => {
             return Err(given.misuse("TABLE and RECORDS are expected, or --store with a store that is there"))
         }
     };
-    let (count, sum) = session.driver()?.sum()?;
+    let (count, sum) = desk.driver()?.sum()?;
     if let (Some(path), false) = (path, given.words.is_empty()) {
         files::write(path, store.text().as_bytes())?;
     }
@@ -38,9 +38,9 @@ pub fn water(session: &mut Session, given: &Given) -> Result<(), Trouble> {
 }
 
 /// Places what is held again, each record on the table that it was placed on, and holds it to what was said then.
-fn refill(session: &mut Session, store: &mut Store, path: Option<&OsStr>) -> Result<(), Trouble> {
+fn refill(desk: &mut Desk, store: &mut Store, path: Option<&OsStr>) -> Result<(), Trouble> {
     for Held { record, table, placed } in &store.held {
-        let again = session.driver()?.place_record(*record, &store.tables[*table])?;
+        let again = desk.driver()?.place_record(*record, &store.tables[*table])?;
         if again != *placed {
             let name = files::name(path.unwrap_or_default());
             let [key, month, ..] = record;
@@ -59,20 +59,15 @@ fn held(store: &Store) -> String {
 }
 
 /// Places the records of a file, all or none of them.
-fn place(
-    session: &mut Session,
-    store: &mut Store,
-    table: &OsStr,
-    records: &OsStr,
-) -> Result<String, Trouble> {
+fn place(desk: &mut Desk, store: &mut Store, table: &OsStr, records: &OsStr) -> Result<String, Trouble> {
     let name = files::name(records);
-    let table = session.table(table)?;
+    let table = desk.table(table)?;
     let bytes = file::write(&table);
     let rows = csv::records(&files::text(records, &files::read(records)?)?);
     let rows = rows.map_err(|fault| Trouble::Bad(name.clone(), fault))?;
     let mut text = String::new();
     for (line, record) in rows {
-        let placed = session.driver()?.place_record(record, &bytes);
+        let placed = desk.driver()?.place_record(record, &bytes);
         let of = format!("{name}:{line}");
         let placed = placed.map_err(|trouble| trouble.of(&of, |number| reason(number, record, &table)))?;
         text += &told(&record, &placed, &table);

@@ -109,8 +109,9 @@ impl<'a> Why<'a> {
     fn is_ok(&self, slot: u32) -> String {
         let leaf_set = self.leaf_set(slot);
         if !self.rules.complete(slot) {
-            let rule = "a BroadcastLSet, which brings the lease, is taken only with";
-            return format!("{leaf_set}; {rule} {} a side (01, Take 8)", self.table().l);
+            let rule =
+                "a BroadcastLSet, which brings the lease, is taken only with a complete one (01, Take 8)";
+            return format!("{leaf_set}; {rule}");
         }
         let asked = |m: &Message| m.kind == Message::LEASE_REQUEST && m.word == slot;
         let granted = |m: &Message| m.kind == Message::BROADCAST && m.at == slot;
@@ -123,7 +124,8 @@ impl<'a> Why<'a> {
             return format!("it holds both leases, and {rule}; {on_way}");
         }
         let them: Vec<String> = members(lacking).map(|side| self.name(side)).collect();
-        format!("{leaf_set}, no lease of its neighbour {} (01, Take 8); {on_way}", them.join(" and "))
+        let plural = if them.len() > 1 { "s" } else { "" };
+        format!("{leaf_set}, no lease of its neighbour{plural} {} (01, Take 8); {on_way}", them.join(" and "))
     }
 
     /// The rules of a settled table that this one breaks.
@@ -188,7 +190,7 @@ mod tests {
         let said = Why::new(&full).node(3);
         assert!(
             said.starts_with(
-                "120 is ok: leaf set 3 of 3 a side, no lease of its neighbour 17 and 95 (01, Take 8); none"
+                "120 is ok: leaf set 3 of 3 a side, no lease of its neighbours 17 and 95 (01, Take 8); none"
             ),
             "{said}"
         );

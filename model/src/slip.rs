@@ -121,8 +121,6 @@ slips! {
     CompleteOnlyOverlap,
     /// Complete means that neither side is empty: short sides that share nothing too.
     CompleteNotEmpty,
-    /// Complete means that the sides together hold 2L, or overlap.
-    CompleteTogether,
     /// Empty means that one side holds none.
     EmptyOneSide,
     /// Empty means that left holds none.

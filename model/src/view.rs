@@ -145,9 +145,6 @@ impl<'a, R: Reading> View<'a, R> {
         if self.r.takes(Slip::CompleteNotEmpty) {
             return sides.left != 0 && sides.right != 0;
         }
-        if self.r.takes(Slip::CompleteTogether) {
-            return (sides.left | sides.right).count_ones() == 2 * l || sides.overlap();
-        }
         sides.is_complete(l)
     }
 

@@ -19,7 +19,7 @@ use Rattle.rules.specs.declared.Pool.{Pool}
 use Rattle.rules.specs.Pool.{messageAt, laid}
 use Rattle.rules.specs.Pick.{best}
 use Rattle.rules.specs.Closest.{closest}
-use Rattle.rules.specs.Leaf.{contentOf, seenFrom, leafWith, leafWithOne, overlaps, isComplete, isEmpty, coversOf}
+use Rattle.rules.specs.Leaf.{contentOf, seenFrom, leafWith, leafWithOne, overlaps, isFull, isComplete, isEmpty, coversOf}
 use Rattle.rules.specs.Hop.{leafCandidates, routeCandidates, byLeaf, leafHop, routeHop, nextHop}
 use Rattle.rules.specs.Mail.{alike, allDifferent, firstFrom, firstEqual, added, removedAt, sentTo}
 use Rattle.rules.specs.Fits.{numbersFit, idFits, sideFits, leafFits, othersFit, nodeFits, isBlank, slotFits}
@@ -171,7 +171,7 @@ allReady r = (r .done && r .turns) && eqb (readySet (r .left .table)) 15
 
 computed : ((let r = ran atOnce begun in shows r (ran inTurn (r .left))) ≡ true) × (allReady (ran oneByOne alone) ≡ true)
 unfolding fallOf signedOf absDistOf risesTo nearer leftCoverOf rightCoverOf coversKey has gather tally firstTo allTo single union meet
-    without addOf removeOf sizeOf lowestOf listed best closest contentOf seenFrom leafWith leafWithOne overlaps isComplete isEmpty
+    without addOf removeOf sizeOf lowestOf listed best closest contentOf seenFrom leafWith leafWithOne overlaps isFull isComplete isEmpty
     coversOf leafCandidates routeCandidates byLeaf leafHop routeHop nextHop alike allDifferent firstFrom firstEqual added removedAt
     sentTo numbersFit idFits sideFits leafFits othersFit nodeFits isBlank slotFits wordFits flagFits carriedFits ownerFits routingFits
     failedFits fieldsFit messageFits mailed waits joinWaits planJoin leasePlan planRequestLease isNeighbour planTakeLookup

@@ -11,15 +11,15 @@ use crate::trouble::Trouble;
 use std::ffi::{OsStr, OsString};
 use std::path::Path;
 
-pub struct Session {
+pub struct Desk {
     words: Vec<OsString>,
     driver: Option<Driver>,
 }
 
-impl Session {
+impl Desk {
     /// With the words that run the driver.
-    pub fn new(words: Vec<OsString>) -> Session {
-        Session { words, driver: None }
+    pub fn new(words: Vec<OsString>) -> Desk {
+        Desk { words, driver: None }
     }
 
     pub fn driver(&mut self) -> Result<&mut Driver, Trouble> {
