@@ -3,7 +3,7 @@ ghost use mathlib.Core.Path.{_≡_};
 ghost use mathlib.Core.List.{[], _∷_};
 ghost use Prim.Native.Nat.{_^_};
 ghost use lib.Dec.{ltb};
-ghost use Rattle.face_dist.specs.Dist.{allInside, askFall, askSigned, askAbsDist, askNearer, askCovers, toldOf};
+ghost use Rattle.face_dist.specs.Dist.{allInside, askFall, askSigned, askAbsDist, askNearer, askCovers, toldOf, measuredNumber, toldNumber};
 
 // A distance, if all was in range.
 pub enum Measured {
@@ -109,5 +109,25 @@ pub fn does_cover(m: u32, i: u32, l: u32, r: u32, k: u32) -> Told
         answered(dist::covers(m, i, l, r, k))
     } else {
         Told::OutOfRange
+    }
+}
+
+// 01's number of an answer: 0, or 1 for what is out of range.
+pub fn measured_number(a: Measured) -> u32
+    ensures { λ r. ⌜ r ≡ measuredNumber a ⌝ }
+{
+    match a {
+        Measured::Is(_) => 0,
+        Measured::OutOfRange => 1,
+    }
+}
+
+pub fn told_number(a: Told) -> u32
+    ensures { λ r. ⌜ r ≡ toldNumber a ⌝ }
+{
+    match a {
+        Told::OutOfRange => 1,
+        Told::Yes => 0,
+        Told::No => 0,
     }
 }

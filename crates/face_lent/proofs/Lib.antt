@@ -9,3 +9,4 @@ pub mod Shape
 pub mod Calls
 pub mod Counts
 pub mod Faces
+pub mod Cases
