@@ -1,1 +1,1 @@
-// How far one holder while nodes join in turn reaches: two that join at once, computed by the checker in specs/Edges; no code.
+// How far one holder while nodes join in turn reaches: two that join at once, computed by the checker in proofs/Cases; and joins that come to ready, in proofs/Joins; no code.

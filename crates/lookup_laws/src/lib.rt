@@ -1,1 +1,1 @@
-// Demand 3, proved of the real step: statements in specs/Demand, the words they use in specs/Journey and specs/Fates, by name in specs/Proved; no code.
+// Demand 3, proved of the real step: statements in specs/Claims, the words they use in specs/Journey and specs/Fates, by name in proofs/Proved; no code.
