@@ -10,6 +10,8 @@ pub enum Form {
     Node,
     /// `WORDS NODE NODE`
     Pair,
+    /// `WORDS NODE at NODE`
+    At,
     /// `lookup KEY at NODE`
     Lookup,
     /// `take PLACE`
@@ -36,7 +38,7 @@ pub const TAKE: u64 = 6;
 /// Every kind that the proved step knows.
 pub const KINDS: [Kind; 6] = [
     Kind { number: LOOKUP, words: "lookup", form: Form::Lookup, local: true },
-    Kind { number: JOIN, words: "join", form: Form::Pair, local: true },
+    Kind { number: JOIN, words: "join", form: Form::At, local: true },
     Kind { number: REQUEST_LEASE, words: "request lease", form: Form::Node, local: true },
     Kind { number: LEASE_EXPIRED, words: "lease expired", form: Form::Pair, local: true },
     Kind { number: GRANT_EXPIRED, words: "grant expired", form: Form::Pair, local: true },
@@ -50,19 +52,20 @@ pub fn kind(number: u64) -> &'static Kind {
     KINDS.iter().find(|kind| kind.number == number).expect("a kind of the table")
 }
 
-/// An action in the companion's words.
+/// An action in the words of `bin/ring`.
 pub fn words(frame: &Frame, [number, x, y]: Words) -> String {
     let kind = kind(number);
     let id = |slot: u64| frame.ids[slot as usize];
     match kind.form {
         Form::Node => format!("{} {}", kind.words, id(x)),
         Form::Pair => format!("{} {} {}", kind.words, id(x), id(y)),
+        Form::At => format!("{} {} at {}", kind.words, id(x), id(y)),
         Form::Lookup => format!("{} {y} at {}", kind.words, id(x)),
         Form::Place => format!("{} {x}", kind.words),
     }
 }
 
-/// The actions that a line of a plan stands for: an action in the companion's words. `any` for a second node is each other node.
+/// The actions that a line of a plan stands for: an action in the words of `bin/ring`. `any` for a second node is each other node.
 pub fn parse(line: &str, frame: &Frame) -> Result<Vec<Words>, String> {
     let words: Vec<&str> = line.split_whitespace().collect();
     for kind in &KINDS {
@@ -82,12 +85,12 @@ fn arguments(kind: &Kind, rest: &[&str], frame: &Frame) -> Result<Vec<Words>, St
     };
     match (kind.form, rest) {
         (Form::Node, [node]) => Ok(vec![[kind.number, slot(node)?, 0]]),
-        (Form::Pair, [node, "any"]) => {
+        (Form::Pair, [node, "any"]) | (Form::At, [node, "at", "any"]) => {
             let node = slot(node)?;
             let others = (0..frame.ids.len() as u64).filter(|other| *other != node);
             Ok(others.map(|other| [kind.number, node, other]).collect())
         }
-        (Form::Pair, [node, other]) => Ok(vec![[kind.number, slot(node)?, slot(other)?]]),
+        (Form::Pair, [node, other]) | (Form::At, [node, "at", other]) => Ok(vec![[kind.number, slot(node)?, slot(other)?]]),
         (Form::Lookup, [key, "at", node]) => {
             let key = key.parse().map_err(|_| format!("{key}: a key is expected"))?;
             Ok(vec![[kind.number, slot(node)?, key]])

@@ -1,6 +1,6 @@
 //! What was found as a rehearsal: actions from the start, each with the table file after it, for the proved checker.
 
-use crate::action::{self, Form, TAKE};
+use crate::action::{self, TAKE};
 use crate::engine::{room, Driver, Engine, Words};
 use crate::file::{self, Frame, Message};
 use crate::moves::Move;
@@ -107,20 +107,20 @@ impl Rehearsal {
         Ok(accepted)
     }
 
-    /// Writes the table files, the actions in the companion's words, and the words for `bin/table rehearsal`.
+    /// Writes the table files, the actions in the words of `bin/ring do`, and the rehearsal for `bin/ring check`.
     pub fn write(&self, folder: &Path) -> Result<(), Trouble> {
         let failed = |error| Trouble::io(&folder.display().to_string(), &error);
         fs::create_dir_all(folder).map_err(failed)?;
-        let (mut actions, mut claims) = (String::new(), String::new());
+        let (mut actions, mut claims) = (String::new(), "from start.table\n".to_string());
         fs::write(folder.join("start.table"), &self.start).map_err(failed)?;
         for (step, nth) in self.steps.iter().zip(1..) {
-            let name = folder.join(format!("{nth}.table"));
-            fs::write(&name, &step.file).map_err(failed)?;
-            actions += &format!("{:20} # {nth}. {}\n", action::words(&self.frame, step.action), step.words);
-            claims += &format!("{}={}\n", claim(step.action), name.display());
+            let (name, words) = (format!("{nth}.table"), action::words(&self.frame, step.action));
+            fs::write(folder.join(&name), &step.file).map_err(failed)?;
+            actions += &format!("{words:20} # {nth}. {}\n", step.words);
+            claims += &format!("{words} => {name}\n");
         }
         fs::write(folder.join("actions"), actions).map_err(failed)?;
-        fs::write(folder.join("claims"), claims).map_err(failed)
+        fs::write(folder.join("rehearsal"), claims).map_err(failed)
     }
 }
 
@@ -136,14 +136,4 @@ fn taken(frame: &Frame, message: &Message) -> String {
         _ => format!("from {}", id(message.word())),
     };
     format!("{} takes {name} {about}", id(message.to()))
-}
-
-/// An action as `bin/table` reads it.
-fn claim([number, x, y]: Words) -> String {
-    let kind = action::kind(number);
-    let name = kind.words.replace(' ', "-");
-    match kind.form {
-        Form::Node | Form::Place => format!("{name}:{x}"),
-        Form::Pair | Form::Lookup => format!("{name}:{x}:{y}"),
-    }
 }

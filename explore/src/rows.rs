@@ -26,10 +26,10 @@ const ONE: u64 = 2;
 const TWO: u64 = 3;
 const THREE: u64 = 7;
 
-const TWO_JOIN: &str = "join 95 18\njoin 17 18\n";
-const TWO_JOIN_LOOKUP: &str = "join 95 18\njoin 17 18\nlookup 65 at 95\n";
-const THREE_JOIN: &str = "join 95 18\njoin 17 18\njoin 65 95\n";
-const FACING: &str = "join 95 17\njoin 65 18\n";
+const TWO_JOIN: &str = "join 95 at 18\njoin 17 18\n";
+const TWO_JOIN_LOOKUP: &str = "join 95 at 18\njoin 17 18\nlookup 65 at 95\n";
+const THREE_JOIN: &str = "join 95 at 18\njoin 17 18\njoin 65 95\n";
+const FACING: &str = "join 95 at 17\njoin 65 18\n";
 
 const fn row(
     name: &'static str,
@@ -43,7 +43,7 @@ const fn row(
 
 pub const ROWS: [Row; 8] = [
     row("NeverDeliver", "1\"", 5, 101, (THREE, "lookup 95 at 18\n")),
-    row("NeverJoin", "1\"", 9, 19, (ONE, "join 95 18\n")),
+    row("NeverJoin", "1\"", 9, 19, (ONE, "join 95 at 18\n")),
     row("ConcurrentJoin", "3'53\"", 21, 212_719, (ONE, TWO_JOIN)),
     row("CcJoinDeliver", "23'16\"", 23, 1_141_123, (ONE, TWO_JOIN_LOOKUP)),
     row("Symmetry", "17\"", 17, 19_828, (ONE, THREE_JOIN)),

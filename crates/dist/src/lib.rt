@@ -1,4 +1,4 @@
-// Distances between ids of at most 32 digits. Each function is the definition of the same name, for ids below 2^m; `ask` answers callers who may be out of range.
+// Distances between ids of at most 32 digits. Each function is the definition of the same name, for ids below 2^m; `face_dist` answers callers who may be out of range.
 ghost use mathlib.Core.Path.{_≡_};
 ghost use Prim.Native.Nat.{_^_};
 ghost use Rattle.ring.specs.Distance.{fallOf, signedOf, absDistOf, leftCoverOf, rightCoverOf, coversKey};

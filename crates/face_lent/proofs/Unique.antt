@@ -1,5 +1,5 @@
 -- Each public function has one reply for every input, and leaves one content of the list or buffer lent to it: any two that its contract allows are
--- equal. The same of the functions by value that these call, `step::step`, `reader::load` and `writer::write`. Assumes nothing.
+-- equal. The same of the functions by value that these call, `table_step::step`, `file_read::load` and `file_write::write`. Assumes nothing.
 use mathlib.Core.Path.{_≡_, sym, _∙_}
 use mathlib.Core.List.{List}
 use Prim.Native.Nat.{ℕ}

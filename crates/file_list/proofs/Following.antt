@@ -2,7 +2,7 @@
 -- (`trip-is`). The idea: a valid table with the one lookup is valid, its Take is one of four (`does`), and each leaves the table as it was.
 -- What a listing says is then tied to the steps made: `Travels` is a journey of real Takes, `follow-travels` says that the listing's numbers
 -- are those of one, and `travels-follow` that no other numbers are. The measure: how many listed nodes are nearer to the key than the holder
--- (crate demand). Assumes nothing.
+-- (crate lookup_laws). Assumes nothing.
 use mathlib.Core.Path.{_≡_, refl, sym, _∙_}
 use mathlib.Core.Bool.{Bool, true, false, cond, not}
 use mathlib.Core.List.{[], _∷_}

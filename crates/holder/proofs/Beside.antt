@@ -1,5 +1,5 @@
 -- The copies of a key in a settled table. The idea: both neighbours of a ready node are ready, and with two ready nodes or more neither is
--- the node itself (settled-beside and settled-flanked of crate demand), so what is left is to count. Were both the same with a third ready
+-- the node itself (settled-beside and settled-flanked of crate lookup_laws), so what is left is to count. Were both the same with a third ready
 -- node about, that one would be no closer either way round, and the two ways make one round: it would be that neighbour. Assumes nothing.
 use mathlib.Core.Path.{_≡_, sym, _∙_}
 use mathlib.Core.Logic.{_⊎_, inl, inr, _↔_, ⊎-elim}

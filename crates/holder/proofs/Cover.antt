@@ -1,4 +1,4 @@
--- The slot that holds a key of a settled table. The idea: some ready node covers the key (settled-held of crate demand) and no two do
+-- The slot that holds a key of a settled table. The idea: some ready node covers the key (settled-held of crate lookup_laws) and no two do
 -- (one-holder), so the first slot that passes the test is that node. Assumes nothing.
 use mathlib.Core.Path.{_≡_, refl, sym, _∙_}
 use mathlib.Core.Bool.{true}

@@ -1,4 +1,4 @@
--- The at most l nearest of some slots by a distance. Definition only; its laws are in crate laws. Assumes nothing.
+-- The at most l nearest of some slots by a distance. Definition only; its laws are in crate rules. Assumes nothing.
 use mathlib.Core.Bool.{Bool, _&&_}
 use Prim.Native.Nat.{ℕ}
 use lib.Dec.{ltb}

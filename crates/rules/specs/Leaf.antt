@@ -1,5 +1,5 @@
 -- Leaf sets: content, neighbours, ends, adding, overlap, complete, empty, cover. Definitions only, each under 01's sentence; i is the owner's slot,
--- ids are the ids by slot. Their laws are in crate laws. Assumes nothing.
+-- ids are the ids by slot. Their laws are in crate rules. Assumes nothing.
 use mathlib.Core.Bool.{Bool, cond, _&&_, _||_, not}
 use mathlib.Core.List.{List}
 use Prim.Native.Nat.{ℕ, _^_}

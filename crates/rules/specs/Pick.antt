@@ -1,4 +1,4 @@
--- The best slot of a set: nearest to a key, or of least or greatest Fall. Definitions only; their laws are in crate laws. Assumes nothing.
+-- The best slot of a set: nearest to a key, or of least or greatest Fall. Definitions only; their laws are in crate rules. Assumes nothing.
 use mathlib.Core.Bool.{Bool, cond}
 use mathlib.Core.List.{List}
 use Prim.Native.Nat.{ℕ, zero, suc}

@@ -1,4 +1,4 @@
--- `abi::action_of` meets its contract: the number that was matched decides the tests of the definition. Assumes nothing.
+-- `face_c::action_of` meets its contract: the number that was matched decides the tests of the definition. Assumes nothing.
 use borrow.Author.Tests.{ne-eqb}
 use Rattle.face_c.specs.Words.{askedOf}
 use Rattle.face_c.proofs.action_of.Statement.{statement}

@@ -1,4 +1,4 @@
--- `abi::tarpudhriv_load` meets its contract: it is the file written back, packed. Assumes nothing.
+-- `face_c::tarpudhriv_load` meets its contract: it is the file written back, packed. Assumes nothing.
 use borrow.Author.Needs.{needs}
 use mathlib.Core.Path.{_≡_, ap, _∙_}
 use Rattle.face_c.specs.Words.{packOf}

@@ -1,4 +1,4 @@
--- `abi::tarpudhriv_settled` meets its contract: it is what was said of the file, as a word. Assumes nothing.
+-- `face_c::tarpudhriv_settled` meets its contract: it is what was said of the file, as a word. Assumes nothing.
 use borrow.Author.Needs.{needs}
 use mathlib.Core.Path.{_≡_, ap, _∙_}
 use Rattle.face_c.specs.Words.{restWord}

@@ -1,4 +1,4 @@
--- `abi::tarpudhriv_start` meets its contract: it is the start written, packed. Assumes nothing.
+-- `face_c::tarpudhriv_start` meets its contract: it is the start written, packed. Assumes nothing.
 use borrow.Author.Needs.{needs}
 use mathlib.Core.Path.{_≡_, ap, _∙_}
 use Rattle.face_c.specs.Words.{packOf}

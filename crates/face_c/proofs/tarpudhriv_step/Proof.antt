@@ -1,4 +1,4 @@
--- `abi::tarpudhriv_step` meets its contract: the number that was asked decides the definition's case. Assumes nothing.
+-- `face_c::tarpudhriv_step` meets its contract: the number that was asked decides the definition's case. Assumes nothing.
 use borrow.Author.Needs.{needs}
 use mathlib.Core.Path.{_≡_, refl, sym, ap, _∙_}
 use mathlib.Core.List.{List}

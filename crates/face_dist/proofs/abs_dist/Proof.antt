@@ -1,4 +1,4 @@
--- `ask::abs_dist` meets its contract. Assumes nothing.
+-- `face_dist::abs_dist` meets its contract. Assumes nothing.
 use mathlib.Core.Path.{_∙_, sym}
 use Prim.Native.Nat.{_^_, _<_}
 use native.Mathlib.Omega.{arith}

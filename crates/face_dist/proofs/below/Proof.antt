@@ -1,4 +1,4 @@
--- `ask::below` meets its contract: from m = 32 on every x is below 2^m. Assumes nothing.
+-- `face_dist::below` meets its contract: from m = 32 on every x is below 2^m. Assumes nothing.
 use mathlib.Core.Path.{sym}
 use native.Mathlib.Nat.{one-mul, mod-eq-of-lt, lt-of-lt-of-le}
 use lib.Pow.{pow-lt, pow-mono}

@@ -1,4 +1,4 @@
--- `ask::does_cover` meets its contract. Assumes nothing.
+-- `face_dist::does_cover` meets its contract. Assumes nothing.
 use mathlib.Core.Path.{_∙_, sym}
 use borrow.Author.Needs.{needs}
 use Rattle.face_dist.proofs.Laws.{four}

@@ -1,4 +1,4 @@
--- `ask::fall` meets its contract. Assumes nothing.
+-- `face_dist::fall` meets its contract. Assumes nothing.
 use mathlib.Core.Path.{_∙_, sym}
 use Prim.Native.Nat.{_^_, _<_}
 use native.Mathlib.Omega.{arith}

@@ -1,4 +1,4 @@
--- `ask::four_inside` meets its contract. Assumes nothing.
+-- `face_dist::four_inside` meets its contract. Assumes nothing.
 use borrow.Author.Needs.{needs}
 use Rattle.face_dist.proofs.four_inside.Statement.{statement}
 use Rattle.face_dist.proofs.four_inside.Tie as tie

@@ -1,4 +1,4 @@
--- `ask::is_nearer` meets its contract. Assumes nothing.
+-- `face_dist::is_nearer` meets its contract. Assumes nothing.
 use mathlib.Core.Path.{_∙_, sym}
 use borrow.Author.Needs.{needs}
 use Rattle.face_dist.proofs.Laws.{three}

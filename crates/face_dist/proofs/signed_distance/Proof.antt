@@ -1,4 +1,4 @@
--- `ask::signed_distance` meets its contract. Assumes nothing.
+-- `face_dist::signed_distance` meets its contract. Assumes nothing.
 use mathlib.Core.Path.{_∙_, sym}
 use mir.Syntax.{w64}
 use mir.Facts.{toZ-ofZ}

@@ -1,4 +1,4 @@
--- `ask::three_inside` meets its contract. Assumes nothing.
+-- `face_dist::three_inside` meets its contract. Assumes nothing.
 use borrow.Author.Needs.{needs}
 use Rattle.face_dist.proofs.three_inside.Statement.{statement}
 use Rattle.face_dist.proofs.three_inside.Tie as tie

@@ -1,4 +1,4 @@
--- `ask::two_inside` meets its contract. Assumes nothing.
+-- `face_dist::two_inside` meets its contract. Assumes nothing.
 use borrow.Author.Needs.{needs}
 use Rattle.face_dist.proofs.two_inside.Statement.{statement}
 use Rattle.face_dist.proofs.two_inside.Tie as tie

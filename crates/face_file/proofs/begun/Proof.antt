@@ -1,4 +1,4 @@
--- `wire::begun` meets its contract: its two tests are the definition's. Assumes nothing.
+-- `face_file::begun` meets its contract: its two tests are the definition's. Assumes nothing.
 use borrow.Author.Needs.{needs}
 use borrow.Author.Tests.{lt-ltb, le-ltb}
 use mathlib.Core.Path.{_≡_, _∙_}

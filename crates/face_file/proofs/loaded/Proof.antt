@@ -1,4 +1,4 @@
--- `wire::loaded` meets its contract: the file is read over no table and no messages. Assumes nothing.
+-- `face_file::loaded` meets its contract: the file is read over no table and no messages. Assumes nothing.
 use borrow.Author.Needs.{needs}
 use mathlib.Core.Path.{_≡_, _∙_}
 use mathlib.Core.List.{List, []}

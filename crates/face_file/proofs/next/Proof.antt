@@ -1,4 +1,4 @@
--- `wire::next` meets its contract: the answer before the step decides the definition's case. Assumes nothing.
+-- `face_file::next` meets its contract: the answer before the step decides the definition's case. Assumes nothing.
 use borrow.Author.Needs.{needs}
 use mathlib.Core.Path.{_≡_, _∙_}
 use Rattle.rules.specs.declared.Action.{Action}

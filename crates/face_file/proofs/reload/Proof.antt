@@ -1,4 +1,4 @@
--- `wire::reload` meets its contract: it is the file written back. Assumes nothing.
+-- `face_file::reload` meets its contract: it is the file written back. Assumes nothing.
 use borrow.Author.Needs.{needs}
 use Rattle.face_file.proofs.reload.Statement.{statement}
 use Rattle.face_file.proofs.reload.Tie as tie

@@ -1,4 +1,4 @@
--- `wire::settled_file` meets its contract: the answer of the load decides the definition's case. Assumes nothing.
+-- `face_file::settled_file` meets its contract: the answer of the load decides the definition's case. Assumes nothing.
 use borrow.Author.Needs.{needs}
 use mathlib.Core.Path.{_≡_, _∙_}
 use Rattle.rules.specs.declared.Answer.the-variants.{Done, Refused}

@@ -1,4 +1,4 @@
--- `wire::start_file` meets its contract: it is the start written. Assumes nothing.
+-- `face_file::start_file` meets its contract: it is the start written. Assumes nothing.
 use borrow.Author.Needs.{needs}
 use Rattle.face_file.proofs.start_file.Statement.{statement}
 use Rattle.face_file.proofs.start_file.Tie as tie

@@ -1,4 +1,4 @@
--- `wire::step_file` meets its contract: it is the step written. Assumes nothing.
+-- `face_file::step_file` meets its contract: it is the step written. Assumes nothing.
 use borrow.Author.Needs.{needs}
 use Rattle.face_file.proofs.step_file.Statement.{statement}
 use Rattle.face_file.proofs.step_file.Tie as tie

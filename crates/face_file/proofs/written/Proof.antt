@@ -1,4 +1,4 @@
--- `wire::written` meets its contract: the answer before the write decides the definition's case. Assumes nothing.
+-- `face_file::written` meets its contract: the answer before the write decides the definition's case. Assumes nothing.
 use borrow.Author.Needs.{needs}
 use mathlib.Core.Path.{_≡_}
 use mathlib.Core.List.{List}

@@ -1,4 +1,4 @@
--- `bench::blank_pool` meets its contract: every place is blank, whatever the count. Assumes nothing.
+-- `face_lent::blank_pool` meets its contract: every place is blank, whatever the count. Assumes nothing.
 use borrow.Author.Needs.{needs}
 use Rattle.face_lent.proofs.blank_pool.Statement.{statement}
 use Rattle.face_lent.proofs.blank_pool.Tie as tie

@@ -1,4 +1,4 @@
--- `bench::give_back` meets its contract: a walk of its MIR, by hand. Each turn reads one message of the local pool, opens the borrow, stores the message
+-- `face_lent::give_back` meets its contract: a walk of its MIR, by hand. Each turn reads one message of the local pool, opens the borrow, stores the message
 -- and closes the borrow. The loop's invariant: the first i messages of the list are those of the pool. The measure is what is left of the places.
 -- Assumes nothing.
 use mathlib.Core.Path.{_≡_, refl, sym, _∙_, ap, subst}

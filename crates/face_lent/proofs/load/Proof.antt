@@ -1,4 +1,4 @@
--- `bench::load` meets its contract: a walk of its MIR, by hand. It goes as `step` does; the core is given the caller's file too, at its own lifetime.
+-- `face_lent::load` meets its contract: a walk of its MIR, by hand. It goes as `step` does; the core is given the caller's file too, at its own lifetime.
 -- Assumes nothing.
 use mathlib.Core.Path.{_≡_, refl}
 use mathlib.Core.Option.{some as with}

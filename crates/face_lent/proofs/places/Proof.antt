@@ -1,4 +1,4 @@
--- `bench::places` meets its contract: its test is the definition's. Assumes nothing.
+-- `face_lent::places` meets its contract: its test is the definition's. Assumes nothing.
 use borrow.Author.Tests.{eq-eqb, ne-eqb}
 use Rattle.face_lent.proofs.places.Statement.{statement}
 use Rattle.face_lent.proofs.places.Tie as tie

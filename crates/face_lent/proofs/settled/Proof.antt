@@ -1,4 +1,4 @@
--- `bench::settled` meets its contract: a walk of its MIR, by hand. The list is taken in, and the core answers. Assumes nothing.
+-- `face_lent::settled` meets its contract: a walk of its MIR, by hand. The list is taken in, and the core answers. Assumes nothing.
 use mathlib.Core.Path.{_≡_, refl, _∙_, ap}
 use mathlib.Core.Option.{some as with}
 use Prim.Native.Nat.{ℕ, _<_, _^_}

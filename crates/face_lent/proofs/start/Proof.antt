@@ -1,4 +1,4 @@
--- `bench::start` meets its contract: a walk of its MIR, by hand. It goes as `step` does; the core is given the caller's ids too, at their own lifetime.
+-- `face_lent::start` meets its contract: a walk of its MIR, by hand. It goes as `step` does; the core is given the caller's ids too, at their own lifetime.
 -- Assumes nothing.
 use mathlib.Core.Path.{_≡_, refl}
 use mathlib.Core.Option.{some as with}

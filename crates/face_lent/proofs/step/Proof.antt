@@ -1,4 +1,4 @@
--- `bench::step` meets its contract: a walk of its MIR, by hand. A straight line: the list is taken in, the core does the work on values, the list is
+-- `face_lent::step` meets its contract: a walk of its MIR, by hand. A straight line: the list is taken in, the core does the work on values, the list is
 -- given back, and the reply is made. Assumes nothing.
 use mathlib.Core.Path.{_≡_, refl}
 use mathlib.Core.Option.{some as with}

@@ -1,4 +1,4 @@
--- `bench::take_in` meets its contract: a walk of its MIR, by hand. For a list without 256 places blank ones are returned at once, and the borrow is not looked into.
+-- `face_lent::take_in` meets its contract: a walk of its MIR, by hand. For a list without 256 places blank ones are returned at once, and the borrow is not looked into.
 -- For one that has them each turn looks into the borrow for one message and stores it in the local pool, in place.
 -- The loop's invariant: the first i places of the pool are those of the list. The measure is what is left of the places. Assumes nothing.
 use mathlib.Core.Path.{_≡_, refl, sym, _∙_, ap}

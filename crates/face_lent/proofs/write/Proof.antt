@@ -1,4 +1,4 @@
--- `bench::write` meets its contract: a walk of its MIR, by hand. The list is taken in, and the buffer is lent again to the writer, which does the work.
+-- `face_lent::write` meets its contract: a walk of its MIR, by hand. The list is taken in, and the buffer is lent again to the writer, which does the work.
 -- Assumes nothing.
 use mathlib.Core.Path.{_≡_, refl, subst}
 use mathlib.Core.Option.{some as with}

@@ -1,4 +1,4 @@
--- `entry::settled` meets its contract: its three tests are the definition's, and a valid table is listed as the last one asks. Assumes nothing.
+-- `face_table::settled` meets its contract: its three tests are the definition's, and a valid table is listed as the last one asks. Assumes nothing.
 use borrow.Author.Needs.{needs}
 use borrow.Author.Tests.{eq-eqb, ne-eqb, not-true, not-false}
 use mathlib.Core.Path.{_≡_, sym, _∙_}

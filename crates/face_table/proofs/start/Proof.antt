@@ -1,4 +1,4 @@
--- `entry::start` meets its contract: the length and the answer of the table's own start decide the definition's case. Assumes nothing.
+-- `face_table::start` meets its contract: the length and the answer of the table's own start decide the definition's case. Assumes nothing.
 use borrow.Author.Needs.{needs}
 use borrow.Author.Tests.{eq-eqb, ne-eqb}
 use mathlib.Core.Path.{_≡_, _∙_}

@@ -1,4 +1,4 @@
--- `timing::lent_step` meets its contract: a walk of its MIR, by hand. A local array of messages is lent for the call, and comes back as room.
+-- `face_timing::lent_step` meets its contract: a walk of its MIR, by hand. A local array of messages is lent for the call, and comes back as room.
 -- Assumes nothing.
 use mathlib.Core.Path.{_≡_, refl, sym, subst}
 use mathlib.Core.Option.{none, some as with}

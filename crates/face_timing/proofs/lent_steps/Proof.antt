@@ -1,4 +1,4 @@
--- `timing::lent_steps` is safe and ends: the measure is the rounds left. Assumes nothing.
+-- `face_timing::lent_steps` is safe and ends: the measure is the rounds left. Assumes nothing.
 use borrow.Author.Needs.{needs}
 use Prim.Native.Nat.{_-_, _<_, _≤_}
 use Rattle.face_timing.proofs.lent_steps.Statement.{statement}

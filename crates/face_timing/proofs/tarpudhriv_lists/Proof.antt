@@ -1,4 +1,4 @@
--- `timing::tarpudhriv_lists` is safe and ends: the measure is the rounds left. Assumes nothing.
+-- `face_timing::tarpudhriv_lists` is safe and ends: the measure is the rounds left. Assumes nothing.
 use borrow.Author.Needs.{needs}
 use Prim.Native.Nat.{_-_, _<_, _≤_}
 use lib.ListN.{length}

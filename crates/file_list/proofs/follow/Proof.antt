@@ -1,4 +1,4 @@
--- `listing::follow` meets its contract. The invariants: the lines of the messages passed stand in the buffer; what remains of a lookup's way
+-- `file_list::follow` meets its contract. The invariants: the lines of the messages passed stand in the buffer; what remains of a lookup's way
 -- gives its trip (Underway). The measures: the messages left, and the takes left. Assumes nothing.
 use borrow.Author.Needs.{needs}
 use mathlib.Core.Path.{_≡_, sym, _∙_}

@@ -1,4 +1,4 @@
--- `listing::list` meets its contract: no room, or the listing of what the load left. Assumes nothing.
+-- `file_list::list` meets its contract: no room, or the listing of what the load left. Assumes nothing.
 use borrow.Author.Needs.{needs}
 use native.Mathlib.Omega.{arith}
 use Rattle.file_list.proofs.Ends.{loaded-by, lists-none, lists-done}

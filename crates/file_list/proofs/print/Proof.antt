@@ -1,4 +1,4 @@
--- `listing::print` meets its contract: the header line, then the lines of the lookups. Assumes nothing.
+-- `file_list::print` meets its contract: the header line, then the lines of the lookups. Assumes nothing.
 use borrow.Author.Needs.{needs}
 use Rattle.text.proofs.Runs.{then}
 use Rattle.file_list.proofs.print.Statement.{statement}

@@ -1,4 +1,4 @@
--- `listing::put_end` meets its contract: the id of the slot, or `-`. Assumes nothing.
+-- `file_list::put_end` meets its contract: the id of the slot, or `-`. Assumes nothing.
 use borrow.Author.Needs.{needs}
 use Prim.Native.Nat.{_<_}
 use native.Mathlib.Omega.{arith}

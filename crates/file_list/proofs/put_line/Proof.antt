@@ -1,4 +1,4 @@
--- `listing::put_line` meets its contract: four fields, one after the other. Assumes nothing.
+-- `file_list::put_line` meets its contract: four fields, one after the other. Assumes nothing.
 use borrow.Author.Needs.{needs}
 use Prim.Native.Nat.{_+_, _≤_}
 use native.Mathlib.Omega.{arith}

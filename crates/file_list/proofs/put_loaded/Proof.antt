@@ -1,4 +1,4 @@
--- `listing::put_loaded` meets its contract, by the answer of the load. Assumes nothing.
+-- `file_list::put_loaded` meets its contract, by the answer of the load. Assumes nothing.
 use borrow.Author.Needs.{needs}
 use Rattle.file_list.proofs.Ends.{loaded-done, loaded-refused}
 use Rattle.file_list.proofs.put_loaded.Statement.{statement}

@@ -1,4 +1,4 @@
--- `listing::put_refused` meets its contract: the word, then the number. Assumes nothing.
+-- `file_list::put_refused` meets its contract: the word, then the number. Assumes nothing.
 use borrow.Author.Needs.{needs}
 use native.Mathlib.Omega.{arith}
 use Rattle.text.proofs.Digits.{decimal-word}

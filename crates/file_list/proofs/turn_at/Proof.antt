@@ -1,4 +1,4 @@
--- `listing::turn_at` meets its contract: its tests are the definition's, in the same order. Assumes nothing.
+-- `file_list::turn_at` meets its contract: its tests are the definition's, in the same order. Assumes nothing.
 use borrow.Author.Needs.{needs}
 use Rattle.file_list.specs.InnerFollow.{turnOf}
 use Rattle.file_list.proofs.turn_at.Statement.{statement}

@@ -1,4 +1,4 @@
--- `reader::header_fits` meets its contract: the definition's tests, on the words that were read. Assumes nothing.
+-- `file_read::header_fits` meets its contract: the definition's tests, on the words that were read. Assumes nothing.
 use borrow.Author.Needs.{needs}
 use Rattle.file.specs.Load.{headerFits}
 use Rattle.file_read.proofs.header_fits.Statement.{statement}

@@ -1,4 +1,4 @@
--- `reader::load` meets its contract: each of its five returns is one of the ways in which a load ends. Assumes nothing.
+-- `file_read::load` meets its contract: each of its five returns is one of the ways in which a load ends. Assumes nothing.
 use borrow.Author.Needs.{needs}
 use borrow.Author.Tests.{not-true, not-false}
 use mathlib.Core.Path.{sym, _∙_}

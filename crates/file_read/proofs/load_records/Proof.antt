@@ -1,4 +1,4 @@
--- `reader::load_records` meets its contract: each of its three returns is one of the ways in which the records end. Assumes nothing.
+-- `file_read::load_records` meets its contract: each of its three returns is one of the ways in which the records end. Assumes nothing.
 use borrow.Author.Needs.{needs}
 use borrow.Author.Tests.{not-true, not-false}
 use mathlib.Core.Path.{sym, _∙_}

@@ -1,4 +1,4 @@
--- `reader::offsets_fit` meets its contract: the definition's tests, on the words that were read. Assumes nothing.
+-- `file_read::offsets_fit` meets its contract: the definition's tests, on the words that were read. Assumes nothing.
 use borrow.Author.Needs.{needs}
 use Rattle.file.specs.Load.{offsetsFit}
 use Rattle.file_read.proofs.offsets_fit.Statement.{statement}

@@ -1,4 +1,4 @@
--- `reader::read_messages` meets its contract: the message offset is where the definition's part begins, and the length leaves room for
+-- `file_read::read_messages` meets its contract: the message offset is where the definition's part begins, and the length leaves room for
 -- the messages. Assumes nothing.
 use borrow.Author.Needs.{needs}
 use mathlib.Core.Path.{_≡_}

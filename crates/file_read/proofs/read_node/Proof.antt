@@ -1,4 +1,4 @@
--- `reader::read_node` meets its contract: each field stands behind the one before it. Assumes nothing.
+-- `file_read::read_node` meets its contract: each field stands behind the one before it. Assumes nothing.
 use borrow.Author.Needs.{needs}
 use mathlib.Core.Path.{sym}
 use Rattle.file_read.proofs.Laws.{node-read}

@@ -1,4 +1,4 @@
--- `reader::read_pool` meets its contract. The invariant: the first q places hold the messages passed, and the others are blank. The
+-- `file_read::read_pool` meets its contract. The invariant: the first q places hold the messages passed, and the others are blank. The
 -- measure: the messages left. Assumes nothing.
 use borrow.Author.Needs.{needs}
 use mathlib.Core.Path.{_≡_, sym}

@@ -1,4 +1,4 @@
--- `reader::read_table` meets its contract. The invariant: the first s slots hold the nodes passed, and the others no node. The measure: the
+-- `file_read::read_table` meets its contract. The invariant: the first s slots hold the nodes passed, and the others no node. The measure: the
 -- nodes left. Assumes nothing.
 use borrow.Author.Needs.{needs}
 use mathlib.Core.Path.{_≡_, sym}

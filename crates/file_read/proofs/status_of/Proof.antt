@@ -1,4 +1,4 @@
--- `reader::status_of` meets its contract: the number that was matched decides the tests of the definition. Assumes nothing.
+-- `file_read::status_of` meets its contract: the number that was matched decides the tests of the definition. Assumes nothing.
 use mathlib.Core.Path.{sym, ap}
 use borrow.Author.Tests.{ne-eqb}
 use Rattle.file.specs.Format.{statusOf}

@@ -1,4 +1,4 @@
--- `reader::statuses_fit` meets its contract. The invariant: the statuses passed are each one of 0 to 3. The measure: the nodes left.
+-- `file_read::statuses_fit` meets its contract. The invariant: the statuses passed are each one of 0 to 3. The measure: the nodes left.
 -- Assumes nothing.
 use mathlib.Core.Path.{_≡_, refl, sym, _∙_}
 use mathlib.Core.Bool.{Bool, true}

@@ -1,4 +1,4 @@
--- `reader::word` meets its contract: word i begins at 4 i. Assumes nothing.
+-- `file_read::word` meets its contract: word i begins at 4 i. Assumes nothing.
 use borrow.Author.Needs.{needs}
 use mathlib.Core.Path.{sym, _∙_}
 use Rattle.file_read.proofs.Laws.{header-word}

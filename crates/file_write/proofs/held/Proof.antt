@@ -1,4 +1,4 @@
--- `writer::held` meets its contract: the types hold it of every value. Assumes nothing.
+-- `file_write::held` meets its contract: the types hold it of every value. Assumes nothing.
 use Rattle.file_write.proofs.Values.{held-of}
 use Rattle.file_write.proofs.held.Statement.{statement}
 use Rattle.file_write.proofs.held.Tie as tie

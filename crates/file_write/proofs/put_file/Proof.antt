@@ -1,4 +1,4 @@
--- `writer::put_file` meets its contract: the header, the nodes and the messages, one after the other, are the file. Assumes nothing.
+-- `file_write::put_file` meets its contract: the header, the nodes and the messages, one after the other, are the file. Assumes nothing.
 use borrow.Author.Needs.{needs}
 use Rattle.file_write.proofs.Laws.{file-run}
 use Rattle.file_write.proofs.put_file.Statement.{statement}

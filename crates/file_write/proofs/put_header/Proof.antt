@@ -1,4 +1,4 @@
--- `writer::put_header` meets its contract: eight words one after the other are the header. Assumes nothing.
+-- `file_write::put_header` meets its contract: eight words one after the other are the header. Assumes nothing.
 use borrow.Author.Needs.{needs}
 use Rattle.file_write.proofs.Laws.{header-run}
 use Rattle.file_write.proofs.put_header.Statement.{statement}

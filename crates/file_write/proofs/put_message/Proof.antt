@@ -1,4 +1,4 @@
--- `writer::put_message` meets its contract: ten numbers one after the other are the record. Assumes nothing.
+-- `file_write::put_message` meets its contract: ten numbers one after the other are the record. Assumes nothing.
 use borrow.Author.Needs.{needs}
 use Rattle.file_write.proofs.Laws.{message-run}
 use Rattle.file_write.proofs.put_message.Statement.{statement}

@@ -1,4 +1,4 @@
--- `writer::put_node` meets its contract: nine numbers one after the other are the record. Assumes nothing.
+-- `file_write::put_node` meets its contract: nine numbers one after the other are the record. Assumes nothing.
 use borrow.Author.Needs.{needs}
 use Rattle.file_write.proofs.Laws.{node-run}
 use Rattle.file_write.proofs.put_node.Statement.{statement}

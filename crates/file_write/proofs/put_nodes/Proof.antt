@@ -1,4 +1,4 @@
--- `writer::put_nodes` meets its contract. The invariant: the records passed stand in the buffer, one after the other. The measure: the
+-- `file_write::put_nodes` meets its contract. The invariant: the records passed stand in the buffer, one after the other. The measure: the
 -- slots left. Assumes nothing.
 use borrow.Author.Needs.{needs}
 use mathlib.Core.Path.{_≡_}

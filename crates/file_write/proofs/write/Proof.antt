@@ -1,4 +1,4 @@
--- `writer::write` meets its contract: each of its four returns is one of the ways in which a write ends. Assumes nothing.
+-- `file_write::write` meets its contract: each of its four returns is one of the ways in which a write ends. Assumes nothing.
 use borrow.Author.Needs.{needs}
 use borrow.Author.Tests.{not-true, not-false}
 use mathlib.Core.Path.{_≡_, sym, _∙_}

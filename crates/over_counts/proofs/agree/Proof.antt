@@ -1,4 +1,4 @@
--- `counts::agree` meets its contract: its own counts are compared with those given. Assumes nothing.
+-- `over_counts::agree` meets its contract: its own counts are compared with those given. Assumes nothing.
 use mathlib.Core.Path.{_∙_, ap}
 use Rattle.rules.specs.Mail.{sameTo}
 use Rattle.counts.proofs.ByCase.{same-agrees}

@@ -1,4 +1,4 @@
--- `counts::count_one` meets its contract: one store, and none for what is no slot. Assumes nothing.
+-- `over_counts::count_one` meets its contract: one store, and none for what is no slot. Assumes nothing.
 use borrow.Author.Needs.{needs}
 use borrow.Author.Tests.{lt-ltb, le-ltb}
 use native.Mathlib.Omega.{arith}

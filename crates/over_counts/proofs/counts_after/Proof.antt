@@ -1,4 +1,4 @@
--- `counts::counts_after` meets its contract: the answer decides the definition's case. Assumes nothing.
+-- `over_counts::counts_after` meets its contract: the answer decides the definition's case. Assumes nothing.
 use borrow.Author.Needs.{needs}
 use Rattle.over_counts.proofs.counts_after.Statement.{statement}
 use Rattle.over_counts.proofs.counts_after.Tie as tie

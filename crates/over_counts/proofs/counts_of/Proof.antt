@@ -1,4 +1,4 @@
--- `counts::counts_of` meets its contract. The invariant: the messages passed are counted. The measure: those left. Assumes nothing.
+-- `over_counts::counts_of` meets its contract. The invariant: the messages passed are counted. The measure: those left. Assumes nothing.
 use borrow.Author.Needs.{needs}
 use mathlib.Core.Path.{_≡_, sym, subst}
 use Prim.Native.Nat.{ℕ, _-_, _<_, _≤_}

@@ -1,4 +1,4 @@
--- `counts::first_for` meets its contract. The invariant: no message passed is for node i. The measure: those left. Assumes nothing.
+-- `over_counts::first_for` meets its contract. The invariant: no message passed is for node i. The measure: those left. Assumes nothing.
 use borrow.Author.Tests.{eq-eqb, ne-eqb}
 use mathlib.Core.Path.{_≡_, sym, _∙_, ap}
 use mathlib.Core.Bool.{Bool}

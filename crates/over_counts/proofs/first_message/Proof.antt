@@ -1,4 +1,4 @@
--- `counts::first_message` meets its contract: the definition's tests, in its order. A valid table has at most 64 slots, and a valid pool at most 256
+-- `over_counts::first_message` meets its contract: the definition's tests, in its order. A valid table has at most 64 slots, and a valid pool at most 256
 -- messages. Assumes nothing.
 use mathlib.Core.Path.{_≡_, sym, _∙_}
 use borrow.Author.Tests.{not-true, not-false}

@@ -1,4 +1,4 @@
--- `counts::first_said` meets its contract: what was found decides the definition's case. Assumes nothing.
+-- `over_counts::first_said` meets its contract: what was found decides the definition's case. Assumes nothing.
 use mathlib.Core.Path.{sym, _∙_, ap}
 use Rattle.counts.specs.Counts.{firstSaid}
 use borrow.Author.Needs.{needs}

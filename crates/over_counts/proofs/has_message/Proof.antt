@@ -1,4 +1,4 @@
--- `counts::has_message` meets its contract: the definition's tests, in its order; a valid table has at most 64 slots. Assumes nothing.
+-- `over_counts::has_message` meets its contract: the definition's tests, in its order; a valid table has at most 64 slots. Assumes nothing.
 use mathlib.Core.Path.{_≡_, sym, _∙_}
 use borrow.Author.Tests.{not-true, not-false}
 use mathlib.Core.Bool.{true}

@@ -1,4 +1,4 @@
--- `counts::is_sound` meets its contract: the definition's three tests, in its order. Assumes nothing.
+-- `over_counts::is_sound` meets its contract: the definition's three tests, in its order. Assumes nothing.
 use mathlib.Core.Path.{sym, _∙_}
 use borrow.Author.Tests.{not-true, not-false}
 use Rattle.counts.proofs.ByCase.{other-length, not-valid, then-agrees}

@@ -1,4 +1,4 @@
--- `counts::load` meets its contract: the counts are made of what the load leaves. Assumes nothing.
+-- `over_counts::load` meets its contract: the counts are made of what the load leaves. Assumes nothing.
 use mathlib.Core.Path.{_∙_, ap}
 use Rattle.counts.specs.Counts.{afterBy, loadWith}
 use borrow.Author.Needs.{needs}

@@ -1,4 +1,4 @@
--- `counts::nodes_counted` meets its contract. The invariant: the nodes below i whose count is not 0 are gathered. The measure: the slots left.
+-- `over_counts::nodes_counted` meets its contract. The invariant: the nodes below i whose count is not 0 are gathered. The measure: the slots left.
 -- Assumes nothing.
 use borrow.Author.Needs.{needs}
 use borrow.Author.Tests.{lt-ltb, le-ltb}

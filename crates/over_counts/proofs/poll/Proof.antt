@@ -1,4 +1,4 @@
--- `counts::poll` meets its contract: the definition's test; a valid table has at most 64 slots. Assumes nothing.
+-- `over_counts::poll` meets its contract: the definition's test; a valid table has at most 64 slots. Assumes nothing.
 use mathlib.Core.Path.{_≡_, sym, _∙_, ap}
 use borrow.Author.Tests.{not-true, not-false}
 use mathlib.Core.Bool.{true}

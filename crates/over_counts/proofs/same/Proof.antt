@@ -1,4 +1,4 @@
--- `counts::same` meets its contract. The invariant: the numbers passed are the same. The measure: those left. Assumes nothing.
+-- `over_counts::same` meets its contract. The invariant: the numbers passed are the same. The measure: those left. Assumes nothing.
 use borrow.Author.Tests.{eq-eqb, ne-eqb}
 use mathlib.Core.Path.{_≡_, refl, sym}
 use mathlib.Core.Bool.{Bool, true}

@@ -1,4 +1,4 @@
--- `counts::start` meets its contract: the counts are made of what the start leaves. Assumes nothing.
+-- `over_counts::start` meets its contract: the counts are made of what the start leaves. Assumes nothing.
 use mathlib.Core.Path.{_∙_, ap}
 use Rattle.counts.specs.Counts.{afterBy, startWith}
 use borrow.Author.Needs.{needs}

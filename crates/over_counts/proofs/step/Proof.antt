@@ -1,4 +1,4 @@
--- `counts::step` meets its contract: whether the counts agree decides the definition's case. Assumes nothing.
+-- `over_counts::step` meets its contract: whether the counts agree decides the definition's case. Assumes nothing.
 use mathlib.Core.Path.{sym, _∙_, ap}
 use borrow.Author.Tests.{not-true, not-false}
 use Rattle.counts.specs.Counts.{afterBy}

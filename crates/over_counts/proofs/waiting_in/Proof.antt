@@ -1,4 +1,4 @@
--- `counts::waiting_in` meets its contract: its test is the definition's. Assumes nothing.
+-- `over_counts::waiting_in` meets its contract: its test is the definition's. Assumes nothing.
 use borrow.Author.Tests.{lt-ltb, le-ltb}
 use native.Mathlib.Omega.{arith}
 use Rattle.over_counts.specs.InnerWalk.{waitingIn}

@@ -1,4 +1,4 @@
--- `counts::with_counts` meets its contract: the counts after the call beside what the call leaves. Assumes nothing.
+-- `over_counts::with_counts` meets its contract: the counts after the call beside what the call leaves. Assumes nothing.
 use Rattle.counts.specs.Counts.{afterBy}
 use borrow.Author.Needs.{needs}
 use Rattle.over_counts.proofs.with_counts.Statement.{statement}

@@ -1,4 +1,4 @@
--- `counts::write` meets its contract: whether the counts agree decides the definition's case. Assumes nothing.
+-- `over_counts::write` meets its contract: whether the counts agree decides the definition's case. Assumes nothing.
 use mathlib.Core.Path.{sym, _∙_}
 use borrow.Author.Tests.{not-true, not-false}
 use Rattle.counts.proofs.CountLaws.{wrote-agreed, wrote-disagreed, written-agreed, written-disagreed}

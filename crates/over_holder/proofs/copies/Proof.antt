@@ -1,4 +1,4 @@
--- `holder::copies` meets its contract: it makes the set as the definition does. Assumes nothing.
+-- `over_holder::copies` meets its contract: it makes the set as the definition does. Assumes nothing.
 use borrow.Author.Needs.{needs}
 use mathlib.Core.Path.{_∙_}
 use Rattle.holder.specs.Holder.{copiesOf}

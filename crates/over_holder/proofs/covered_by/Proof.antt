@@ -1,4 +1,4 @@
--- `holder::covered_by` meets its contract. The invariant: no slot below s is ready and covers k. The measure: the slots left.
+-- `over_holder::covered_by` meets its contract. The invariant: no slot below s is ready and covers k. The measure: the slots left.
 -- Assumes nothing.
 use borrow.Author.Needs.{needs}
 use mathlib.Core.Path.{_≡_, sym, _∙_}

@@ -1,4 +1,4 @@
--- `holder::covers_at` meets its contract: a node that is not ready is not asked what it covers. Assumes nothing.
+-- `over_holder::covers_at` meets its contract: a node that is not ready is not asked what it covers. Assumes nothing.
 use borrow.Author.Needs.{needs}
 use Rattle.over_holder.proofs.covers_at.Statement.{statement}
 use Rattle.over_holder.proofs.covers_at.Tie as tie

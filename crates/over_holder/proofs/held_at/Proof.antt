@@ -1,4 +1,4 @@
--- `holder::held_at` meets its contract: what was found is a slot below n. Assumes nothing.
+-- `over_holder::held_at` meets its contract: what was found is a slot below n. Assumes nothing.
 use borrow.Author.Needs.{needs}
 use mathlib.Core.Path.{_≡_, sym, _∙_}
 use Prim.Native.Nat.{ℕ, _<_, _≤_}

@@ -1,4 +1,4 @@
--- `holder::held_by` meets its contract: what was said of the table's rest decides the definition's first and last test, and a table of
+-- `over_holder::held_by` meets its contract: what was said of the table's rest decides the definition's first and last test, and a table of
 -- which it was said is listed. Assumes nothing.
 use borrow.Author.Needs.{needs}
 use mathlib.Core.Path.{_≡_, refl, sym, _∙_, ap}

@@ -1,4 +1,4 @@
--- `holder::looked_for` meets its contract: 1 shifted by M is 2^M, and a key below it has 32 bits. Assumes nothing.
+-- `over_holder::looked_for` meets its contract: 1 shifted by M is 2^M, and a key below it has 32 bits. Assumes nothing.
 use borrow.Author.Needs.{needs}
 use borrow.Author.Tests.{lt-ltb, le-ltb}
 use mathlib.Core.Path.{_≡_, _∙_}

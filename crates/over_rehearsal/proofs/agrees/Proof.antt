@@ -1,4 +1,4 @@
--- `rehearsal::agrees` meets its contract. Assumes nothing.
+-- `over_rehearsal::agrees` meets its contract. Assumes nothing.
 use borrow.Author.Needs.{needs}
 use mathlib.Core.Path.{_∙_}
 use Rattle.rehearsal.specs.Rehearsal.{agreesWith}

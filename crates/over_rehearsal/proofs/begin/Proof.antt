@@ -1,4 +1,4 @@
--- `rehearsal::begin` meets its contract: the file as it loads, with the verdict of its start. Assumes nothing.
+-- `over_rehearsal::begin` meets its contract: the file as it loads, with the verdict of its start. Assumes nothing.
 use borrow.Author.Needs.{needs}
 use Rattle.rehearsal.specs.Rehearsal.{beginOf}
 use Rattle.over_rehearsal.proofs.begin.Statement.{statement}

@@ -1,4 +1,4 @@
--- `rehearsal::checked` meets its contract. Assumes nothing.
+-- `over_rehearsal::checked` meets its contract. Assumes nothing.
 use borrow.Author.Needs.{needs}
 use mathlib.Core.Path.{sym, _∙_, ap}
 use Prim.Native.Nat.{ℕ}

@@ -1,4 +1,4 @@
--- `rehearsal::gives_in` meets its contract: a valid table is written whole, so the bytes that are counted are its file. Assumes nothing.
+-- `over_rehearsal::gives_in` meets its contract: a valid table is written whole, so the bytes that are counted are its file. Assumes nothing.
 use borrow.Author.Needs.{needs}
 use mathlib.Core.Path.{_≡_, sym, _∙_}
 use Prim.Native.Nat.{_≤_}

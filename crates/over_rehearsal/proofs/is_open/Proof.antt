@@ -1,4 +1,4 @@
--- `rehearsal::is_open` meets its contract. Assumes nothing.
+-- `over_rehearsal::is_open` meets its contract. Assumes nothing.
 use borrow.Author.Needs.{needs}
 use Rattle.over_rehearsal.proofs.is_open.Statement.{statement}
 use Rattle.over_rehearsal.proofs.is_open.Tie as tie

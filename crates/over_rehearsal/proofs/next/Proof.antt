@@ -1,4 +1,4 @@
--- `rehearsal::next` meets its contract: a done step leaves a valid table. Assumes nothing.
+-- `over_rehearsal::next` meets its contract: a done step leaves a valid table. Assumes nothing.
 use borrow.Author.Needs.{needs}
 use borrow.Author.Tests.{not-true, not-false}
 use mathlib.Core.Path.{sym, _∙_}

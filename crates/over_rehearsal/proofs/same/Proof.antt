@@ -1,4 +1,4 @@
--- `rehearsal::same` meets its contract. The invariant: what is behind the bytes passed decides. The measure: the bytes left. Assumes nothing.
+-- `over_rehearsal::same` meets its contract. The invariant: what is behind the bytes passed decides. The measure: the bytes left. Assumes nothing.
 use mathlib.Core.Path.{_≡_, refl, sym, _∙_}
 use Prim.Native.Nat.{_-_, _≤_}
 use native.Mathlib.Omega.{arith}

@@ -1,4 +1,4 @@
--- `water::difference` meets its contract: each amount has 32 bits, so every difference is read back as the number meant. Assumes nothing.
+-- `over_water::difference` meets its contract: each amount has 32 bits, so every difference is read back as the number meant. Assumes nothing.
 use borrow.Author.Needs.{needs}
 use mir.Syntax.{w32}
 use mir.Val.{Fits}

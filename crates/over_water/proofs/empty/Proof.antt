@@ -1,4 +1,4 @@
--- `water::empty` meets its contract: every place is blank. Assumes nothing.
+-- `over_water::empty` meets its contract: every place is blank. Assumes nothing.
 use mathlib.Core.Path.{refl}
 use Rattle.water.specs.Water.{emptyStore}
 use Rattle.over_water.proofs.empty.Statement.{statement}

@@ -1,4 +1,4 @@
--- `water::held_count` meets its contract. Assumes nothing.
+-- `over_water::held_count` meets its contract. Assumes nothing.
 use borrow.Author.Tests.{lt-ltb, le-ltb}
 use Rattle.over_water.proofs.held_count.Statement.{statement}
 use Rattle.over_water.proofs.held_count.Tie as tie

@@ -1,4 +1,4 @@
--- `water::kept` meets its contract: the count grows where the place is behind the last. Assumes nothing.
+-- `over_water::kept` meets its contract: the count grows where the place is behind the last. Assumes nothing.
 use borrow.Author.Needs.{needs}
 use borrow.Author.Tests.{le-leb, lt-leb}
 use native.Mathlib.Numerals.{add-one}

@@ -1,4 +1,4 @@
--- `water::look_up` meets its contract: what is held of a key and month is at its seat, where that is not behind the last. Assumes nothing.
+-- `over_water::look_up` meets its contract: what is held of a key and month is at its seat, where that is not behind the last. Assumes nothing.
 use borrow.Author.Needs.{needs}
 use mathlib.Core.Path.{_≡_, sym, _∙_, ap}
 use Prim.Native.Nat.{ℕ, _<_, _≤_}

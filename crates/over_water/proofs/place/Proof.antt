@@ -1,4 +1,4 @@
--- `water::place` meets its contract: it asks who holds the key, and goes by the answer. Assumes nothing.
+-- `over_water::place` meets its contract: it asks who holds the key, and goes by the answer. Assumes nothing.
 use borrow.Author.Needs.{needs}
 use mathlib.Core.Path.{_∙_}
 use Rattle.water.specs.Water.{placeOf}

@@ -1,4 +1,4 @@
--- `water::place_by` meets its contract: the holding that was matched decides the definition's case, and the test of the record its
+-- `over_water::place_by` meets its contract: the holding that was matched decides the definition's case, and the test of the record its
 -- answer. Assumes nothing.
 use borrow.Author.Needs.{needs}
 use mathlib.Core.Path.{_≡_, sym, _∙_}

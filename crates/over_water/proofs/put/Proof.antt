@@ -1,4 +1,4 @@
--- `water::put` meets its contract: there is room exactly if the seat is one of the 512 places. Assumes nothing.
+-- `over_water::put` meets its contract: there is room exactly if the seat is one of the 512 places. Assumes nothing.
 use borrow.Author.Needs.{needs}
 use borrow.Author.Tests.{lt-ltb, le-ltb}
 use mathlib.Core.Path.{_≡_, _∙_}

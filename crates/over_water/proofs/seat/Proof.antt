@@ -1,4 +1,4 @@
--- `water::seat` meets its contract. The invariant: none of the first i is alike, so the seat is behind them. The measure: the places
+-- `over_water::seat` meets its contract. The invariant: none of the first i is alike, so the seat is behind them. The measure: the places
 -- left. Assumes nothing.
 use borrow.Author.Needs.{needs}
 use mathlib.Core.Path.{_≡_, sym, _∙_}

@@ -1,4 +1,4 @@
--- `water::sum` meets its contract. The invariant: the sum of the first i changes, each of them at most 2^34 in size. The measure: the
+-- `over_water::sum` meets its contract. The invariant: the sum of the first i changes, each of them at most 2^34 in size. The measure: the
 -- places left. Assumes nothing.
 use borrow.Author.Needs.{needs}
 use Prim.Native.Nat.{_+_, _-_, _^_, _≤_}

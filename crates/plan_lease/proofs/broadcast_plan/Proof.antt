@@ -1,4 +1,4 @@
--- `lease::broadcast_plan` meets its contract. Assumes nothing.
+-- `plan_lease::broadcast_plan` meets its contract. Assumes nothing.
 use borrow.Author.Needs.{needs}
 use Rattle.rules.specs.Take.{broadcastPlan}
 use Rattle.plan_lease.proofs.broadcast_plan.Statement.{statement}

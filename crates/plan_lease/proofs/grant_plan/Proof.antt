@@ -1,4 +1,4 @@
--- `lease::grant_plan` meets its contract: one arm for a neighbour, one for any other node. Assumes nothing.
+-- `plan_lease::grant_plan` meets its contract: one arm for a neighbour, one for any other node. Assumes nothing.
 use borrow.Author.Needs.{needs}
 use Rattle.plan_lease.proofs.grant_plan.Statement.{statement}
 use Rattle.plan_lease.proofs.grant_plan.Tie as tie

@@ -1,4 +1,4 @@
--- `lease::is_next` meets its contract. Assumes nothing.
+-- `plan_lease::is_next` meets its contract. Assumes nothing.
 use borrow.Author.Needs.{needs}
 use Rattle.plan_lease.proofs.is_next.Statement.{statement}
 use Rattle.plan_lease.proofs.is_next.Tie as tie

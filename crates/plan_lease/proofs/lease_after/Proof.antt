@@ -1,4 +1,4 @@
--- `lease::lease_after` meets its contract: the test of the code is the definition's. Assumes nothing.
+-- `plan_lease::lease_after` meets its contract: the test of the code is the definition's. Assumes nothing.
 use borrow.Author.Needs.{needs}
 use Rattle.plan_lease.proofs.lease_after.Statement.{statement}
 use Rattle.plan_lease.proofs.lease_after.Tie as tie

@@ -1,4 +1,4 @@
--- `lease::lease_plan` meets its contract. Assumes nothing.
+-- `plan_lease::lease_plan` meets its contract. Assumes nothing.
 use borrow.Author.Needs.{needs}
 use Rattle.rules.specs.Actions.{leasePlan}
 use Rattle.plan_lease.proofs.lease_plan.Statement.{statement}

@@ -1,4 +1,4 @@
--- `lease::lease_request` meets its contract. Assumes nothing.
+-- `plan_lease::lease_request` meets its contract. Assumes nothing.
 use borrow.Author.Needs.{needs}
 use Rattle.plan_lease.proofs.lease_request.Statement.{statement}
 use Rattle.plan_lease.proofs.lease_request.Tie as tie

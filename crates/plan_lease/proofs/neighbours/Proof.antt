@@ -1,4 +1,4 @@
--- `lease::neighbours` meets its contract. Assumes nothing.
+-- `plan_lease::neighbours` meets its contract. Assumes nothing.
 use borrow.Author.Needs.{needs}
 use Rattle.rules.specs.Actions.{isNeighbour}
 use Rattle.plan_lease.proofs.neighbours.Statement.{statement}

@@ -1,4 +1,4 @@
--- `lease::plan_lease_expired` meets its contract: its tests are the definition's, in the same order, and the status afterwards is decided
+-- `plan_lease::plan_lease_expired` meets its contract: its tests are the definition's, in the same order, and the status afterwards is decided
 -- last. Assumes nothing.
 use borrow.Author.Needs.{needs}
 use mathlib.Core.Path.{_≡_}

@@ -1,4 +1,4 @@
--- `lease::plan_request_lease` meets its contract: its tests are the definition's, in the same order. Assumes nothing.
+-- `plan_lease::plan_request_lease` meets its contract: its tests are the definition's, in the same order. Assumes nothing.
 use borrow.Author.Needs.{needs}
 use Rattle.rules.specs.Actions.{planRequestLease}
 use Rattle.plan_lease.proofs.plan_request_lease.Statement.{statement}

@@ -1,4 +1,4 @@
--- `lease::plan_take_broadcast` meets its contract: its tests are the definition's, in the same order. Assumes nothing.
+-- `plan_lease::plan_take_broadcast` meets its contract: its tests are the definition's, in the same order. Assumes nothing.
 use borrow.Author.Needs.{needs}
 use borrow.Author.Tests.{eq-eqb, ne-eqb}
 use Rattle.rules.specs.Take.{planTakeBroadcast}

@@ -1,4 +1,4 @@
--- `lease::status_after` meets its contract: the test of the code is the definition's. Assumes nothing.
+-- `plan_lease::status_after` meets its contract: the test of the code is the definition's. Assumes nothing.
 use borrow.Author.Needs.{needs}
 use mathlib.Core.Path.{_≡_}
 use mathlib.Core.Bool.{_&&_}

@@ -1,4 +1,4 @@
--- `lease::unless_in` meets its contract. Assumes nothing.
+-- `plan_lease::unless_in` meets its contract. Assumes nothing.
 use borrow.Author.Needs.{needs}
 use Rattle.plan_lease.proofs.unless_in.Statement.{statement}
 use Rattle.plan_lease.proofs.unless_in.Tie as tie

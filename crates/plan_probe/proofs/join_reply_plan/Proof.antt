@@ -1,4 +1,4 @@
--- `probe::join_reply_plan` meets its contract. Assumes nothing.
+-- `plan_probe::join_reply_plan` meets its contract. Assumes nothing.
 use borrow.Author.Needs.{needs}
 use Rattle.plan_probe.proofs.join_reply_plan.Statement.{statement}
 use Rattle.plan_probe.proofs.join_reply_plan.Tie as tie

@@ -1,4 +1,4 @@
--- `probe::learnt` meets its contract. Assumes nothing.
+-- `plan_probe::learnt` meets its contract. Assumes nothing.
 use borrow.Author.Needs.{needs}
 use Rattle.plan_probe.proofs.learnt.Statement.{statement}
 use Rattle.plan_probe.proofs.learnt.Tie as tie

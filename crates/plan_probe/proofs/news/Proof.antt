@@ -1,4 +1,4 @@
--- `probe::news` meets its contract. Assumes nothing.
+-- `plan_probe::news` meets its contract. Assumes nothing.
 use borrow.Author.Needs.{needs}
 use Rattle.rules.specs.Take.{probes2}
 use Rattle.plan_probe.proofs.news.Statement.{statement}

@@ -1,4 +1,4 @@
--- `probe::probe_plan` meets its contract. Assumes nothing.
+-- `plan_probe::probe_plan` meets its contract. Assumes nothing.
 use borrow.Author.Needs.{needs}
 use Rattle.rules.specs.Take.{probePlanOf}
 use Rattle.plan_probe.proofs.probe_plan.Statement.{statement}

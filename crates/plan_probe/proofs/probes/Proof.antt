@@ -1,4 +1,4 @@
--- `probe::probes` meets its contract. Assumes nothing.
+-- `plan_probe::probes` meets its contract. Assumes nothing.
 use borrow.Author.Needs.{needs}
 use Rattle.rules.specs.Take.{probesOf}
 use Rattle.plan_probe.proofs.probes.Statement.{statement}

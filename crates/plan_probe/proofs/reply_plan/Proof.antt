@@ -1,4 +1,4 @@
--- `probe::reply_plan` meets its contract. Assumes nothing.
+-- `plan_probe::reply_plan` meets its contract. Assumes nothing.
 use borrow.Author.Needs.{needs}
 use Rattle.rules.specs.Take.{replyPlanOf}
 use Rattle.plan_probe.proofs.reply_plan.Statement.{statement}

@@ -1,4 +1,4 @@
--- `probe::still` meets its contract. Assumes nothing.
+-- `plan_probe::still` meets its contract. Assumes nothing.
 use borrow.Author.Needs.{needs}
 use Rattle.plan_probe.proofs.still.Statement.{statement}
 use Rattle.plan_probe.proofs.still.Tie as tie

@@ -1,4 +1,4 @@
--- `probe::told` meets its contract. Assumes nothing.
+-- `plan_probe::told` meets its contract. Assumes nothing.
 use borrow.Author.Needs.{needs}
 use Rattle.plan_probe.proofs.told.Statement.{statement}
 use Rattle.plan_probe.proofs.told.Tie as tie

@@ -1,4 +1,4 @@
--- `probe::waits_empty` meets its contract. Assumes nothing.
+-- `plan_probe::waits_empty` meets its contract. Assumes nothing.
 use borrow.Author.Needs.{needs}
 use Rattle.plan_probe.proofs.waits_empty.Statement.{statement}
 use Rattle.plan_probe.proofs.waits_empty.Tie as tie

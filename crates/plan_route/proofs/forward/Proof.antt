@@ -1,4 +1,4 @@
--- `route::forward` meets its contract: one arm of the definition for each kind of hop. Assumes nothing.
+-- `plan_route::forward` meets its contract: one arm of the definition for each kind of hop. Assumes nothing.
 use borrow.Author.Needs.{needs}
 use Rattle.plan_route.proofs.forward.Statement.{statement}
 use Rattle.plan_route.proofs.forward.Tie as tie

@@ -1,4 +1,4 @@
--- `route::join_request` meets its contract. Assumes nothing.
+-- `plan_route::join_request` meets its contract. Assumes nothing.
 use borrow.Author.Needs.{needs}
 use Rattle.plan_route.proofs.join_request.Statement.{statement}
 use Rattle.plan_route.proofs.join_request.Tie as tie

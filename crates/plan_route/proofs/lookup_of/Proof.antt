@@ -1,4 +1,4 @@
--- `route::lookup_of` meets its contract. Assumes nothing.
+-- `plan_route::lookup_of` meets its contract. Assumes nothing.
 use borrow.Author.Needs.{needs}
 use Rattle.plan_route.proofs.lookup_of.Statement.{statement}
 use Rattle.plan_route.proofs.lookup_of.Tie as tie

@@ -1,4 +1,4 @@
--- `route::no_legal_route` meets its contract. Assumes nothing.
+-- `plan_route::no_legal_route` meets its contract. Assumes nothing.
 use borrow.Author.Needs.{needs}
 use Rattle.plan_route.proofs.no_legal_route.Statement.{statement}
 use Rattle.plan_route.proofs.no_legal_route.Tie as tie

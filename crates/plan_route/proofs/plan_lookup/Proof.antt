@@ -1,4 +1,4 @@
--- `route::plan_lookup` meets its contract. Assumes nothing.
+-- `plan_route::plan_lookup` meets its contract. Assumes nothing.
 use borrow.Author.Needs.{needs}
 use Rattle.rules.specs.Actions.{planLookup}
 use Rattle.plan_route.proofs.plan_lookup.Statement.{statement}

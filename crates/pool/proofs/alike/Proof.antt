@@ -1,4 +1,4 @@
--- `mail::alike` meets its contract: the nine tests are those of the definition. Assumes nothing.
+-- `pool::alike` meets its contract: the nine tests are those of the definition. Assumes nothing.
 use mathlib.Core.Path.{refl}
 use Rattle.marks.specs.Marks.{allTo}
 use Rattle.rules.specs.Mail.{alike}

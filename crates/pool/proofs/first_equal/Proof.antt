@@ -1,4 +1,4 @@
--- `mail::first_equal` meets its contract. At a place of what is left: none before it has m's fields (Passed). At a field: those before it
+-- `pool::first_equal` meets its contract. At a place of what is left: none before it has m's fields (Passed). At a field: those before it
 -- are equal. The measures: the places and the fields left. Assumes nothing.
 use Prim.Native.Nat.{_<_, _≤_, _-_}
 use mathlib.Core.Path.{_≡_, refl, sym, _∙_, ap}

@@ -1,4 +1,4 @@
--- `mail::held` meets its contract. The invariant: the set is that of the messages before `at` of what is left. The measure: the messages
+-- `pool::held` meets its contract. The invariant: the set is that of the messages before `at` of what is left. The measure: the messages
 -- left. Assumes nothing.
 use borrow.Author.Needs.{needs}
 use mathlib.Core.Path.{_≡_, sym, _∙_, ap}

@@ -1,4 +1,4 @@
--- `mail::held_with` meets its contract. Assumes nothing.
+-- `pool::held_with` meets its contract. Assumes nothing.
 use borrow.Author.Needs.{needs}
 use mathlib.Core.Path.{sym, _∙_, ap}
 use Rattle.rules.specs.Mail.{alike}

@@ -1,4 +1,4 @@
--- `mail::join_waits` meets its contract. The invariant: no place below `at` has a JoinRequest of i. The measure: the messages left.
+-- `pool::join_waits` meets its contract. The invariant: no place below `at` has a JoinRequest of i. The measure: the messages left.
 -- Assumes nothing.
 use borrow.Author.Needs.{needs}
 use mathlib.Core.Path.{sym}

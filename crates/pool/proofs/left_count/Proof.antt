@@ -1,4 +1,4 @@
--- `mail::left_count` meets its contract. Assumes nothing.
+-- `pool::left_count` meets its contract. Assumes nothing.
 use borrow.Author.Needs.{needs}
 use borrow.Author.Tests.{lt-ltb, le-ltb}
 use Rattle.pool.specs.InnerSending.{leftCount}

@@ -1,4 +1,4 @@
--- `mail::mix` meets its contract. Assumes nothing.
+-- `pool::mix` meets its contract. Assumes nothing.
 use mathlib.Core.Path.{refl}
 use borrow.Author.Needs.{needs}
 use Rattle.pool.specs.InnerMix.{mixOf}

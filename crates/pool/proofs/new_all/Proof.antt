@@ -1,4 +1,4 @@
--- `mail::new_all` meets its contract: nothing to send, no first message, or one that counts too. Assumes nothing.
+-- `pool::new_all` meets its contract: nothing to send, no first message, or one that counts too. Assumes nothing.
 use borrow.Author.Needs.{needs}
 use native.Mathlib.Omega.{arith}
 use Rattle.pool.specs.InnerSending.{leftOf}

@@ -1,4 +1,4 @@
--- `mail::new_one` meets its contract: no slot, an equal that is left, or a new message. Assumes nothing.
+-- `pool::new_one` meets its contract: no slot, an equal that is left, or a new message. Assumes nothing.
 use borrow.Author.Needs.{needs}
 use mathlib.Core.Path.{sym, _∙_, ap}
 use native.Mathlib.Omega.{arith}

@@ -1,4 +1,4 @@
--- `mail::news` meets its contract. Assumes nothing.
+-- `pool::news` meets its contract. Assumes nothing.
 use borrow.Author.Needs.{needs}
 use Rattle.pool.specs.InnerSending.{leftOf}
 use Rattle.pool.proofs.NewOnes.{new-slotted}

@@ -1,4 +1,4 @@
--- `mail::place_of` meets its contract. Assumes nothing.
+-- `pool::place_of` meets its contract. Assumes nothing.
 use borrow.Author.Needs.{needs}
 use borrow.Author.Tests.{lt-ltb, le-ltb}
 use Rattle.pool.specs.InnerSending.{placeOf}

@@ -1,4 +1,4 @@
--- `mail::room` meets its contract. Assumes nothing.
+-- `pool::room` meets its contract. Assumes nothing.
 use borrow.Author.Needs.{needs}
 use mathlib.Core.Path.{_≡_, sym, _∙_, ap}
 use mathlib.Core.Logic.{⊎-elim}

@@ -1,4 +1,4 @@
--- `mail::sends` meets its contract: where the first message goes decides the definition's case. Assumes nothing.
+-- `pool::sends` meets its contract: where the first message goes decides the definition's case. Assumes nothing.
 use borrow.Author.Needs.{needs}
 use mathlib.Core.Path.{sym, ap}
 use Rattle.marks.specs.declared.Found.{Found}

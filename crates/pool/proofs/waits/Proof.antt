@@ -1,4 +1,4 @@
--- `mail::waits` meets its contract: an equal waits exactly if the search met one. Assumes nothing.
+-- `pool::waits` meets its contract: an equal waits exactly if the search met one. Assumes nothing.
 use borrow.Author.Needs.{needs}
 use mathlib.Core.Path.{sym, _∙_, ap}
 use Rattle.rules.specs.Actions.{isFound, waits}

@@ -1,4 +1,4 @@
--- `driver::fill` is safe, and keeps the length of the buffer. Assumes nothing.
+-- `run_driver::fill` is safe, and keeps the length of the buffer. Assumes nothing.
 use lib.Seq.{length-take-le}
 use borrow.Author.Needs.{needs}
 use Rattle.run_driver.proofs.fill.Statement.{statement}

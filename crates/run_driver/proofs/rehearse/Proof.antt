@@ -1,4 +1,4 @@
--- `driver::rehearse` is safe. Assumes nothing.
+-- `run_driver::rehearse` is safe. Assumes nothing.
 use lib.Seq.{length-take-le}
 use borrow.Author.Needs.{needs}
 use Rattle.run_driver.proofs.rehearse.Statement.{statement}

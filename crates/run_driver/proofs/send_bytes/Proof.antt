@@ -1,4 +1,4 @@
--- `driver::send_bytes` is safe. Assumes nothing.
+-- `run_driver::send_bytes` is safe. Assumes nothing.
 use lib.Seq.{length-take-le}
 use borrow.Author.Needs.{needs}
 use Rattle.run_driver.proofs.send_bytes.Statement.{statement}

@@ -1,4 +1,4 @@
--- `driver::serve_all` is safe and ends: the measure is the turns that are left. Assumes nothing.
+-- `run_driver::serve_all` is safe and ends: the measure is the turns that are left. Assumes nothing.
 use borrow.Author.Needs.{needs}
 use lib.ListN.{length}
 use mathlib.Core.Path.{_≡_, _∙_}

@@ -1,4 +1,4 @@
--- `driver::skip` is safe and ends: what is left to skip falls by the length of the buffer, which is not 0. Assumes nothing.
+-- `run_driver::skip` is safe and ends: what is left to skip falls by the length of the buffer, which is not 0. Assumes nothing.
 use borrow.Author.Needs.{needs}
 use lib.ListN.{length}
 use mathlib.Core.Path.{_≡_}

@@ -1,4 +1,4 @@
--- `joins::drained` is safe and ends: at most 64 turns. Assumes nothing.
+-- `run_joins::drained` is safe and ends: at most 64 turns. Assumes nothing.
 use borrow.Author.Needs.{needs}
 use Prim.Native.Nat.{_-_, _≤_}
 use Rattle.run_joins.proofs.drained.Statement.{statement}

@@ -1,4 +1,4 @@
--- `joins::show` is safe and ends: the loop runs over four slots. Assumes nothing.
+-- `run_joins::show` is safe and ends: the loop runs over four slots. Assumes nothing.
 use borrow.Author.Needs.{needs}
 use Prim.Native.Nat.{_-_, _≤_}
 use Rattle.run_joins.proofs.show.Statement.{statement}

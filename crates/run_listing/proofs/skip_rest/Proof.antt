@@ -1,4 +1,4 @@
--- `lister::skip_rest` is safe and ends. The measure is the number of turns that are left; nothing has to hold from turn to turn.
+-- `run_listing::skip_rest` is safe and ends. The measure is the number of turns that are left; nothing has to hold from turn to turn.
 -- Assumes nothing.
 use native.Mathlib.Omega.{arith}
 use Rattle.run_listing.proofs.skip_rest.Statement.{statement}

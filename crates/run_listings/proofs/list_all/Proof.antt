@@ -1,4 +1,4 @@
--- `lists::list_all` is safe and ends: the measure is the numbers that are left. Assumes nothing.
+-- `run_listings::list_all` is safe and ends: the measure is the numbers that are left. Assumes nothing.
 use borrow.Author.Needs.{needs}
 use lib.ListN.{length}
 use mathlib.Core.Path.{_≡_}

@@ -1,4 +1,4 @@
--- `lists::list_next` is safe: no more is read than the buffer holds. Assumes nothing.
+-- `run_listings::list_next` is safe: no more is read than the buffer holds. Assumes nothing.
 use lib.Seq.{length-take-le}
 use mathlib.Core.Path.{sym}
 use borrow.Author.Needs.{needs}

@@ -1,4 +1,4 @@
--- `shown::show` is safe: the listing's bytes lie within the buffer. Assumes nothing.
+-- `run_parts::show` is safe: the listing's bytes lie within the buffer. Assumes nothing.
 use borrow.Author.Needs.{needs}
 use mathlib.Core.Path.{sym}
 use Prim.Native.Nat.{_≤_}

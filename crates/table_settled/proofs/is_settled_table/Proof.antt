@@ -1,4 +1,4 @@
--- `settled::is_settled_table` meets its contract. The invariant: the nodes below i are calm (Laws). The measure: the slots left.
+-- `table_settled::is_settled_table` meets its contract. The invariant: the nodes below i are calm (Laws). The measure: the slots left.
 -- A turn decides whether a node is calm by its status. Assumes nothing.
 use borrow.Author.Needs.{needs}
 use borrow.Author.Tests.{not-true, not-false}

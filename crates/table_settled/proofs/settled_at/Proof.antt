@@ -1,4 +1,4 @@
--- `settled::settled_at` meets its contract: it makes the definition's three tests. Assumes nothing.
+-- `table_settled::settled_at` meets its contract: it makes the definition's three tests. Assumes nothing.
 use borrow.Author.Needs.{needs}
 use Rattle.table.specs.Settled.{settledAt}
 use Rattle.table_settled.proofs.settled_at.Statement.{statement}

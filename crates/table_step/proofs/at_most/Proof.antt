@@ -1,4 +1,4 @@
--- `step::at_most` meets its contract. Assumes nothing.
+-- `table_step::at_most` meets its contract. Assumes nothing.
 use borrow.Author.Tests.{lt-ltb, le-ltb}
 use Rattle.table_step.proofs.at_most.Statement.{statement}
 use Rattle.table_step.proofs.at_most.Tie as tie

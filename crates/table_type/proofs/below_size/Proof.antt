@@ -1,4 +1,4 @@
--- `table::below_size` meets its contract: 1 << m is 2^m. Assumes nothing.
+-- `table_type::below_size` meets its contract: 1 << m is 2^m. Assumes nothing.
 use borrow.Author.Needs.{needs}
 use mathlib.Core.Path.{_≡_, _∙_}
 use Prim.Native.Nat.{ℕ, _*_, _%_, _^_, _≤_}

@@ -1,4 +1,4 @@
--- `table::id_rises` meets its contract: the first slot has no id before it. Assumes nothing.
+-- `table_type::id_rises` meets its contract: the first slot has no id before it. Assumes nothing.
 use borrow.Author.Needs.{needs}
 use borrow.Author.Tests.{eq-eqb, ne-eqb}
 use mathlib.Core.Bool.{and-true}

@@ -1,4 +1,4 @@
--- `table::ids` meets its contract. The invariant: the first s ids are written. The measure: the slots left. Assumes nothing.
+-- `table_type::ids` meets its contract. The invariant: the first s ids are written. The measure: the slots left. Assumes nothing.
 use borrow.Author.Needs.{needs}
 use mathlib.Core.Path.{_≡_, refl, _∙_}
 use mathlib.Core.List.{List, map}

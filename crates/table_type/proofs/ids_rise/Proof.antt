@@ -1,4 +1,4 @@
--- `table::ids_rise` meets its contract. The invariant: the first s ids are below 2^m and rise. The measure: the ids left. Assumes nothing.
+-- `table_type::ids_rise` meets its contract. The invariant: the first s ids are below 2^m and rise. The measure: the ids left. Assumes nothing.
 use borrow.Author.Tests.{not-true, not-false}
 use mathlib.Core.Path.{_≡_, refl, sym, _∙_}
 use mathlib.Core.Bool.{true}

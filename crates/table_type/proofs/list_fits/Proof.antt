@@ -1,4 +1,4 @@
--- `table::list_fits` meets its contract: it makes the definition's tests in the definition's order. Assumes nothing.
+-- `table_type::list_fits` meets its contract: it makes the definition's tests in the definition's order. Assumes nothing.
 use borrow.Author.Needs.{needs}
 use borrow.Author.Tests.{not-true, not-false}
 use Rattle.table_type.specs.Start.{listFits}

@@ -1,4 +1,4 @@
--- `table::not_started` meets its contract: every slot is the node of no slot. Assumes nothing.
+-- `table_type::not_started` meets its contract: every slot is the node of no slot. Assumes nothing.
 use borrow.Author.Needs.{needs}
 use Rattle.table_type.proofs.not_started.Statement.{statement}
 use Rattle.table_type.proofs.not_started.Tie as tie

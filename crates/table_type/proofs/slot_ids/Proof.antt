@@ -1,4 +1,4 @@
--- `table::slot_ids` meets its contract. The invariant: the first s ids are written, and the slots past them hold 0.
+-- `table_type::slot_ids` meets its contract. The invariant: the first s ids are written, and the slots past them hold 0.
 -- The measure: the ids left. Assumes nothing.
 use borrow.Author.Needs.{needs}
 use mathlib.Core.Path.{refl}

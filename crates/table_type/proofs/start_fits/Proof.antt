@@ -1,4 +1,4 @@
--- `table::start_fits` meets its contract: it makes the definition's tests in the definition's order. Assumes nothing.
+-- `table_type::start_fits` meets its contract: it makes the definition's tests in the definition's order. Assumes nothing.
 use mathlib.Core.Path.{refl}
 use Rattle.table_type.specs.Start.{startFits}
 use Rattle.table_type.proofs.start_fits.Statement.{statement}

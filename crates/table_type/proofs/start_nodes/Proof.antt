@@ -1,4 +1,4 @@
--- `table::start_nodes` meets its contract. The invariant: the first s nodes are written, and the slots past them are blank.
+-- `table_type::start_nodes` meets its contract. The invariant: the first s nodes are written, and the slots past them are blank.
 -- The measure: the nodes left. Assumes nothing.
 use borrow.Author.Needs.{needs}
 use Prim.Native.Nat.{_-_, _≤_}

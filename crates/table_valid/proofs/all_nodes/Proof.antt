@@ -1,4 +1,4 @@
--- `valid::all_nodes` meets its contract: 1 << n is 2^n, and one less is the number with n ones. Assumes nothing.
+-- `table_valid::all_nodes` meets its contract: 1 << n is 2^n, and one less is the number with n ones. Assumes nothing.
 use borrow.Author.Needs.{needs}
 use mathlib.Core.Path.{_≡_, _∙_}
 use Prim.Native.Nat.{ℕ, _*_, _%_, _^_, _<_}

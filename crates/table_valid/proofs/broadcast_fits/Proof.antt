@@ -1,4 +1,4 @@
--- `valid::broadcast_fits` meets its contract: what the definition asks of kind 8. Assumes nothing.
+-- `table_valid::broadcast_fits` meets its contract: what the definition asks of kind 8. Assumes nothing.
 use borrow.Author.Needs.{needs}
 use Rattle.rules.specs.Fits.{fieldsFit, wordFits, flagFits, carriedFits, ownerFits, routingFits, failedFits}
 use Rattle.table_valid.proofs.broadcast_fits.Statement.{statement}

@@ -1,4 +1,4 @@
--- `valid::carried_fits` meets its contract: the leaf set by its callee. Assumes nothing.
+-- `table_valid::carried_fits` meets its contract: the leaf set by its callee. Assumes nothing.
 use borrow.Author.Needs.{needs}
 use Rattle.table_valid.proofs.carried_fits.Statement.{statement}
 use Rattle.table_valid.proofs.carried_fits.Tie as tie

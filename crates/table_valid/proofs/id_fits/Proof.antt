@@ -1,4 +1,4 @@
--- `valid::id_fits` meets its contract: the code is the definition. Assumes nothing.
+-- `table_valid::id_fits` meets its contract: the code is the definition. Assumes nothing.
 use borrow.Author.Needs.{needs}
 use Rattle.table_valid.proofs.id_fits.Statement.{statement}
 use Rattle.table_valid.proofs.id_fits.Tie as tie

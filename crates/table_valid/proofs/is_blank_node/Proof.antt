@@ -1,4 +1,4 @@
--- `valid::is_blank_node` meets its contract: the code is the definition, once the status is read as its number. Assumes nothing.
+-- `table_valid::is_blank_node` meets its contract: the code is the definition, once the status is read as its number. Assumes nothing.
 use borrow.Author.Needs.{needs}
 use Rattle.rules.specs.Fits.{isBlank}
 use Rattle.table_valid.proofs.is_blank_node.Statement.{statement}

@@ -1,4 +1,4 @@
--- `valid::is_part` meets its contract: the code is the definition. Assumes nothing.
+-- `table_valid::is_part` meets its contract: the code is the definition. Assumes nothing.
 use borrow.Author.Needs.{needs}
 use Rattle.table_valid.proofs.is_part.Statement.{statement}
 use Rattle.table_valid.proofs.is_part.Tie as tie

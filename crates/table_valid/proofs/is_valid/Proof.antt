@@ -1,4 +1,4 @@
--- `valid::is_valid` meets its contract: the definition's three tests, in its order. The first bounds M and n for the others. Assumes nothing.
+-- `table_valid::is_valid` meets its contract: the definition's three tests, in its order. The first bounds M and n for the others. Assumes nothing.
 use borrow.Author.Needs.{needs}
 use borrow.Author.Tests.{not-true, not-false}
 use Rattle.table.proofs.Sound.{Numbers, numbers-told}

@@ -1,4 +1,4 @@
--- `valid::key_fits` meets its contract: what the definition asks of a key alone. Assumes nothing.
+-- `table_valid::key_fits` meets its contract: what the definition asks of a key alone. Assumes nothing.
 use borrow.Author.Needs.{needs}
 use Rattle.rules.specs.Fits.{fieldsFit, wordFits, flagFits, carriedFits, ownerFits, routingFits, failedFits}
 use Rattle.table_valid.proofs.key_fits.Statement.{statement}

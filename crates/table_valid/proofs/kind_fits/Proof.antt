@@ -1,4 +1,4 @@
--- `valid::kind_fits` meets its contract: the kind that was matched decides what the definition asks. Assumes nothing.
+-- `table_valid::kind_fits` meets its contract: the kind that was matched decides what the definition asks. Assumes nothing.
 use borrow.Author.Needs.{needs}
 use mathlib.Core.Path.{_≡_, refl}
 use mathlib.Core.Logic.{_⊎_, inl, inr}

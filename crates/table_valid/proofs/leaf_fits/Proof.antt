@@ -1,4 +1,4 @@
--- `valid::leaf_fits` meets its contract: each side by its callee. Assumes nothing.
+-- `table_valid::leaf_fits` meets its contract: each side by its callee. Assumes nothing.
 use borrow.Author.Needs.{needs}
 use native.Mathlib.Omega.{arith}
 use Rattle.rules.specs.Fits.{leafFits}

@@ -1,4 +1,4 @@
--- `valid::lease_request_fits` meets its contract: what the definition asks of kind 7. Assumes nothing.
+-- `table_valid::lease_request_fits` meets its contract: what the definition asks of kind 7. Assumes nothing.
 use borrow.Author.Needs.{needs}
 use Rattle.rules.specs.Fits.{fieldsFit, wordFits, flagFits, carriedFits, ownerFits, routingFits, failedFits}
 use Rattle.table_valid.proofs.lease_request_fits.Statement.{statement}

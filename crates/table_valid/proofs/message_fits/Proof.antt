@@ -1,4 +1,4 @@
--- `valid::message_fits` meets its contract: the fields by their callee, and the rest is the definition in another order. Assumes nothing.
+-- `table_valid::message_fits` meets its contract: the fields by their callee, and the rest is the definition in another order. Assumes nothing.
 use borrow.Author.Needs.{needs}
 use mathlib.Core.Path.{_≡_, refl}
 use mathlib.Core.Bool.{Bool, true, false, _&&_}

@@ -1,4 +1,4 @@
--- `valid::node_fits` meets its contract: each test by its callee. Assumes nothing.
+-- `table_valid::node_fits` meets its contract: each test by its callee. Assumes nothing.
 use borrow.Author.Needs.{needs}
 use Prim.Native.Nat.{_^_, _<_}
 use native.Mathlib.Omega.{arith}

@@ -1,4 +1,4 @@
--- `valid::nodes_fit` meets its contract. The invariants: the first s slots obey their rules; s is at most n and low the least id that slot s
+-- `table_valid::nodes_fit` meets its contract. The invariants: the first s slots obey their rules; s is at most n and low the least id that slot s
 -- may have, then s is past the listed nodes. The measures: the slots left. Assumes nothing.
 use borrow.Author.Needs.{needs}
 use borrow.Author.Tests.{not-true, not-false}

@@ -1,4 +1,4 @@
--- `valid::numbers_fit` meets its contract: the code is the definition. Assumes nothing.
+-- `table_valid::numbers_fit` meets its contract: the code is the definition. Assumes nothing.
 use mathlib.Core.Path.{refl}
 use Rattle.rules.specs.Fits.{numbersFit}
 use Rattle.table_valid.proofs.numbers_fit.Statement.{statement}

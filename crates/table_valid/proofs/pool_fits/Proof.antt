@@ -1,4 +1,4 @@
--- `valid::pool_fits` meets its contract: the definition's three tests, in its order. Before place k the messages passed obey their kinds. Before
+-- `table_valid::pool_fits` meets its contract: the definition's three tests, in its order. Before place k the messages passed obey their kinds. Before
 -- place j the table has every place below j in its chain (Chained), and no two of them are equal (Differ); on the way down a chain all at or
 -- above the link differ from j's message (Walk). The measures: the places left, of each loop over places, and the link. Assumes nothing.
 use Prim.Native.Nat.{ℕ, _-_, _≤_, _<_, zero-le}

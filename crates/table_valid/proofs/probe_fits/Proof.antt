@@ -1,4 +1,4 @@
--- `valid::probe_fits` meets its contract: what the definition asks of kinds 4 and 5. Assumes nothing.
+-- `table_valid::probe_fits` meets its contract: what the definition asks of kinds 4 and 5. Assumes nothing.
 use borrow.Author.Needs.{needs}
 use Rattle.rules.specs.Fits.{fieldsFit, wordFits, flagFits, carriedFits, ownerFits, routingFits, failedFits}
 use Rattle.table_valid.proofs.Nodes.{part-listed}

@@ -1,4 +1,4 @@
--- `valid::side_fits` meets its contract: each test by its callee. Assumes nothing.
+-- `table_valid::side_fits` meets its contract: each test by its callee. Assumes nothing.
 use borrow.Author.Needs.{needs}
 use Rattle.table_valid.proofs.side_fits.Statement.{statement}
 use Rattle.table_valid.proofs.side_fits.Tie as tie

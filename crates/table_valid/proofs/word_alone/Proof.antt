@@ -1,4 +1,4 @@
--- `valid::word_alone` meets its contract: the code is the definition. Assumes nothing.
+-- `table_valid::word_alone` meets its contract: the code is the definition. Assumes nothing.
 use borrow.Author.Needs.{needs}
 use Rattle.table_valid.proofs.word_alone.Statement.{statement}
 use Rattle.table_valid.proofs.word_alone.Tie as tie

@@ -1,4 +1,4 @@
--- `asked::action_in` meets its contract: three words. Assumes nothing.
+-- `run_driver::action_in` meets its contract: three words. Assumes nothing.
 use borrow.Author.Needs.{needs}
 use mathlib.Core.Path.{_∙_}
 use Rattle.run_driver.proofs.Saying.{action-is}

@@ -1,4 +1,4 @@
--- `asked::field` meets its contract: its test is the definition's. Assumes nothing.
+-- `run_driver::field` meets its contract: its test is the definition's. Assumes nothing.
 use borrow.Author.Needs.{needs}
 use borrow.Author.Tests.{lt-ltb, le-ltb}
 use Rattle.run_driver.proofs.asked.field.Statement.{statement}

@@ -1,4 +1,4 @@
--- `asked::id_count` meets its contract: its test is the definition's. Assumes nothing.
+-- `run_driver::id_count` meets its contract: its test is the definition's. Assumes nothing.
 use borrow.Author.Needs.{needs}
 use borrow.Author.Tests.{lt-ltb, le-ltb}
 use Rattle.run_driver.proofs.asked.id_count.Statement.{statement}

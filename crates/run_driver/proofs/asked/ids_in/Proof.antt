@@ -1,4 +1,4 @@
--- `asked::ids_in` meets its contract. The invariant: the first i ids are read. The measure: the ids left. Assumes nothing.
+-- `run_driver::ids_in` meets its contract. The invariant: the first i ids are read. The measure: the ids left. Assumes nothing.
 use borrow.Author.Needs.{needs}
 use mathlib.Core.Path.{_≡_}
 use mathlib.Core.List.{[]}

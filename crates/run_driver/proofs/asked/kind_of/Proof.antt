@@ -1,4 +1,4 @@
--- `asked::kind_of` meets its contract: the first byte, if there is one. Assumes nothing.
+-- `run_driver::kind_of` meets its contract: the first byte, if there is one. Assumes nothing.
 use borrow.Author.Needs.{needs}
 use mathlib.Core.Path.{_∙_}
 use native.Mathlib.Omega.{arith}

@@ -1,4 +1,4 @@
--- `asked::record_in` meets its contract: five words. Assumes nothing.
+-- `run_driver::record_in` meets its contract: five words. Assumes nothing.
 use borrow.Author.Needs.{needs}
 use Rattle.run_driver.specs.Requests.{recordIn}
 use Rattle.run_driver.proofs.asked.record_in.Statement.{statement}

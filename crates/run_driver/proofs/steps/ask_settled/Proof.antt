@@ -1,4 +1,4 @@
--- `steps::ask_settled` meets its contract: what the call says. Assumes nothing.
+-- `run_driver::ask_settled` meets its contract: what the call says. Assumes nothing.
 use borrow.Author.Needs.{needs}
 use mathlib.Core.Path.{sym}
 use Rattle.run_driver.proofs.Saying.{rest-said}

@@ -1,4 +1,4 @@
--- `steps::load` meets its contract: what the call wrote. Assumes nothing.
+-- `run_driver::load` meets its contract: what the call wrote. Assumes nothing.
 use borrow.Author.Needs.{needs}
 use Rattle.run_driver.proofs.Saying.{packed}
 use Rattle.run_driver.proofs.steps.load.Statement.{statement}

@@ -1,4 +1,4 @@
--- `steps::make_start` meets its contract: too short, no whole words, or what the start wrote. Assumes nothing.
+-- `run_driver::make_start` meets its contract: too short, no whole words, or what the start wrote. Assumes nothing.
 use borrow.Author.Needs.{needs}
 use mathlib.Core.List.{[]}
 use native.Mathlib.Omega.{arith}

@@ -1,4 +1,4 @@
--- `steps::make_step` meets its contract: too short, or what the call wrote. Assumes nothing.
+-- `run_driver::make_step` meets its contract: too short, or what the call wrote. Assumes nothing.
 use borrow.Author.Needs.{needs}
 use native.Mathlib.Omega.{arith}
 use Rattle.run_driver.proofs.Saying.{part-whole, step-short, step-says}

@@ -1,4 +1,4 @@
--- `steps::print_list` meets its contract: what the call wrote. Assumes nothing.
+-- `run_driver::print_list` meets its contract: what the call wrote. Assumes nothing.
 use borrow.Author.Needs.{needs}
 use Rattle.run_driver.proofs.Saying.{wrote}
 use Rattle.run_driver.proofs.steps.print_list.Statement.{statement}

@@ -1,4 +1,4 @@
--- `steps::start_of` meets its contract: what the call wrote. Assumes nothing.
+-- `run_driver::start_of` meets its contract: what the call wrote. Assumes nothing.
 use borrow.Author.Needs.{needs}
 use lib.ListN.{take}
 use lib.Seq.{length-take-le}

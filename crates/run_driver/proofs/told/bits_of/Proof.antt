@@ -1,4 +1,4 @@
--- `told::bits_of` meets its contract: told from the sign. Assumes nothing.
+-- `run_driver::bits_of` meets its contract: told from the sign. Assumes nothing.
 use Rattle.run_driver.proofs.Signed.{below, from-0, lack-fits, lack-cast, lack-low, below-bits, size-cast, from-0-bits}
 use Rattle.run_driver.proofs.told.bits_of.Statement.{statement}
 use Rattle.run_driver.proofs.told.bits_of.Tie as tie

@@ -1,4 +1,4 @@
--- `told::flag` meets its contract: no room, or one byte. Assumes nothing.
+-- `run_driver::flag` meets its contract: no room, or one byte. Assumes nothing.
 use borrow.Author.Needs.{needs}
 use mathlib.Core.Path.{refl}
 use native.Mathlib.Omega.{arith}

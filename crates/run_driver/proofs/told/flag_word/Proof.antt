@@ -1,4 +1,4 @@
--- `told::flag_word` meets its contract: no room, or a byte and then a word. Assumes nothing.
+-- `run_driver::flag_word` meets its contract: no room, or a byte and then a word. Assumes nothing.
 use borrow.Author.Needs.{needs}
 use native.Mathlib.Omega.{arith}
 use Rattle.words.proofs.Puts.{follow}

@@ -1,4 +1,4 @@
--- `told::head_of` meets its contract: four bytes, and four more. Assumes nothing.
+-- `run_driver::head_of` meets its contract: four bytes, and four more. Assumes nothing.
 use borrow.Author.Needs.{needs}
 use Rattle.run_driver.proofs.Results.{head-bytes}
 use Rattle.run_driver.proofs.told.head_of.Statement.{statement}

@@ -1,4 +1,4 @@
--- `told::refused_by` meets its contract: the number of the answer. Assumes nothing.
+-- `run_driver::refused_by` meets its contract: the number of the answer. Assumes nothing.
 use borrow.Author.Needs.{needs}
 use mathlib.Core.Path.{_∙_, ap}
 use Rattle.run_driver.specs.Replies.{numbered}

@@ -1,4 +1,4 @@
--- `told::reply_of` meets its contract: the number of the answer. Assumes nothing.
+-- `run_driver::reply_of` meets its contract: the number of the answer. Assumes nothing.
 use borrow.Author.Needs.{needs}
 use Rattle.run_driver.proofs.told.reply_of.Statement.{statement}
 use Rattle.run_driver.proofs.told.reply_of.Tie as tie

@@ -1,4 +1,4 @@
--- `told::tell_first` meets its contract, in each case. Assumes nothing.
+-- `run_driver::tell_first` meets its contract, in each case. Assumes nothing.
 use borrow.Author.Needs.{needs}
 use Rattle.run_driver.proofs.Saying.{alone, first-said, word-said}
 use Rattle.run_driver.proofs.told.tell_first.Statement.{statement}

@@ -1,4 +1,4 @@
--- `told::tell_rest` meets its contract, in each case. Assumes nothing.
+-- `run_driver::tell_rest` meets its contract, in each case. Assumes nothing.
 use borrow.Author.Needs.{needs}
 use Rattle.run_driver.proofs.Saying.{alone, rest-said}
 use Rattle.run_driver.proofs.told.tell_rest.Statement.{statement}

@@ -1,4 +1,4 @@
--- `told::tell_verdict` meets its contract, in each case. Assumes nothing.
+-- `run_driver::tell_verdict` meets its contract, in each case. Assumes nothing.
 use borrow.Author.Needs.{needs}
 use Rattle.run_driver.proofs.Saying.{verdict-said, word-said}
 use Rattle.run_driver.proofs.told.tell_verdict.Statement.{statement}

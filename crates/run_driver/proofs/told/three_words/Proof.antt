@@ -1,4 +1,4 @@
--- `told::three_words` meets its contract: no room, or a word and then two long ones. Assumes nothing.
+-- `run_driver::three_words` meets its contract: no room, or a word and then two long ones. Assumes nothing.
 use borrow.Author.Needs.{needs}
 use native.Mathlib.Omega.{arith}
 use Rattle.words.proofs.Puts.{follow}

@@ -1,4 +1,4 @@
--- `told::two_words` meets its contract: no room, or a word and then a long one. Assumes nothing.
+-- `run_driver::two_words` meets its contract: no room, or a word and then a long one. Assumes nothing.
 use borrow.Author.Needs.{needs}
 use native.Mathlib.Omega.{arith}
 use Rattle.words.proofs.Puts.{follow}

@@ -1,4 +1,4 @@
--- `table::Table::start` meets its contract: the two tests are made in the definition's order, and ids that pass them are listed,
+-- `table_type::Table::start` meets its contract: the two tests are made in the definition's order, and ids that pass them are listed,
 -- as start_nodes asks. Assumes nothing.
 use borrow.Author.Needs.{needs}
 use borrow.Author.Tests.{not-true, not-false}
