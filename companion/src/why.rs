@@ -185,7 +185,12 @@ mod tests {
     fn a_node_that_is_ok_is_told_by_its_leaf_set() {
         let table = small(Node::OK, vec![]);
         let said = Why::new(&table).node(3);
-        assert!(said.starts_with("120 is ok: leaf set 3 of 4 a side; "), "{said}");
+        let both = "120 is ok: leaf set 3 of 4 a side, no lease of its neighbours 17 and 95 (01, Take 8); none";
+        assert!(said.starts_with(both), "{said}");
+        let mut short = small(Node::OK, vec![]);
+        short.nodes[3].sets[..2].copy_from_slice(&[1, 4]);
+        let said = Why::new(&short).node(3);
+        assert!(said.starts_with("120 is ok: leaf set 1 of 4 a side; "), "{said}");
         let full = Table { l: 3, ..table };
         let said = Why::new(&full).node(3);
         assert!(
