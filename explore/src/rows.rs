@@ -26,10 +26,10 @@ const ONE: u64 = 2;
 const TWO: u64 = 3;
 const THREE: u64 = 7;
 
-const TWO_JOIN: &str = "join 95 at 18\njoin 17 18\n";
-const TWO_JOIN_LOOKUP: &str = "join 95 at 18\njoin 17 18\nlookup 65 at 95\n";
-const THREE_JOIN: &str = "join 95 at 18\njoin 17 18\njoin 65 95\n";
-const FACING: &str = "join 95 at 17\njoin 65 18\n";
+const TWO_JOIN: &str = "join 95 at 18\njoin 17 at 18\n";
+const TWO_JOIN_LOOKUP: &str = "join 95 at 18\njoin 17 at 18\nlookup 65 at 95\n";
+const THREE_JOIN: &str = "join 95 at 18\njoin 17 at 18\njoin 65 at 95\n";
+const FACING: &str = "join 95 at 17\njoin 65 at 18\n";
 
 const fn row(
     name: &'static str,

@@ -12,7 +12,7 @@ use std::time::Duration;
 
 #[test]
 fn the_checker_accepts_what_is_found_and_refuses_it_changed() {
-    let case = Case::new(4, 1, 17, &[0, 1, 8, 12, 14], "join 1 at 0\njoin 8 14\njoin 12 14\n");
+    let case = Case::new(4, 1, 17, &[0, 1, 8, 12, 14], "join 1 at 0\njoin 8 at 14\njoin 12 at 14\n");
     let mut engine = engine();
     let start = case.start(engine.as_mut());
     let plan = case.plan(&file::read(&start).frame);

@@ -26,10 +26,10 @@ fn delivers(engine: &mut dyn Engine, file: &[u8], slot: usize, key: u32) -> bool
     taken.count == alone.len()
 }
 
-const NOT_FLANKED: Case = Case::new(4, 1, 17, &[0, 1, 8, 12, 14], "join 1 at 0\njoin 8 14\njoin 12 14\n");
+const NOT_FLANKED: Case = Case::new(4, 1, 17, &[0, 1, 8, 12, 14], "join 1 at 0\njoin 8 at 14\njoin 12 at 14\n");
 const TWO_AT_ONCE: Case = Case {
     limits: Limits { joining: Some(2), waiting: None, in_order: false },
-    ..Case::new(4, 1, 17, &[0, 1, 2, 9, 14], "join 1 at 0\njoin 2 0\njoin 9 14\n")
+    ..Case::new(4, 1, 17, &[0, 1, 2, 9, 14], "join 1 at 0\njoin 2 at 0\njoin 9 at 14\n")
 };
 
 #[test]
@@ -88,7 +88,7 @@ fn the_rows_of_001_end_as_theirs_and_as_deep() {
 
 #[test]
 fn a_node_that_is_lost_never_becomes_ready_and_one_that_is_not_does() {
-    let case = Case::new(M, L, 3, &IDS, "join 95 at 17\njoin 65 18\n");
+    let case = Case::new(M, L, 3, &IDS, "join 95 at 17\njoin 65 at 18\n");
     let whole = search(&case, How::REMEMBERED, &[question("ready")]).expect("a search");
     assert_eq!(whole.end, End::Searched);
     let mut engine = engine();

@@ -12,18 +12,18 @@ use explore::trouble::Trouble;
 const THREE: &[u32] = &[17, 18, 65];
 const FOUR: &[u32] = &[17, 18, 65, 95];
 const FIVE: &[u32] = &[0, 1, 2, 9, 14];
-const BOTH: &str = "join 17 at any\njoin 65 any\n";
+const BOTH: &str = "join 17 at any\njoin 65 at any\n";
 
 const CASES: [Case; 10] = [
     Case::new(8, 1, 2, FOUR, "join 95 at 18\n"),
     Case::new(8, 1, 2, THREE, BOTH),
     Case::new(8, 2, 2, THREE, BOTH),
-    Case::new(8, 1, 2, FOUR, "join 95 at 18\njoin 17 18\nlookup 65 at 95\n"),
+    Case::new(8, 1, 2, FOUR, "join 95 at 18\njoin 17 at 18\nlookup 65 at 95\n"),
     Case::new(8, 1, 7, FOUR, "lookup 95 at 18\nlookup 80 at 17\nlookup 200 at 65\n"),
     Case { expiries: true, ..Case::new(8, 1, 2, &[18, 65], "join 65 at 18\n") },
     Case {
         limits: Limits { joining: Some(1), waiting: None, in_order: false },
-        ..Case::new(4, 1, 17, FIVE, "join 1 at 0\njoin 2 0\n")
+        ..Case::new(4, 1, 17, FIVE, "join 1 at 0\njoin 2 at 0\n")
     },
     Case {
         limits: Limits { joining: None, waiting: Some(1), in_order: false },
@@ -31,7 +31,7 @@ const CASES: [Case; 10] = [
     },
     Case {
         limits: Limits { joining: None, waiting: None, in_order: true },
-        ..Case::new(8, 1, 2, THREE, "join 65 at 18\njoin 17 any\n")
+        ..Case::new(8, 1, 2, THREE, "join 65 at 18\njoin 17 at any\n")
     },
     Case::new(32, 2, 7, &[1, 2_000_000_000, 3_000_000_000, 4_294_967_295], "join 4294967295 at 1\n"),
 ];
