@@ -16,18 +16,31 @@ pub fn keen(rng: &mut Rng) -> (Case, Action) {
     let mut case = tables::small(rng);
     let i = rng.below(case.table.n);
     let j = rng.member(below(case.table.n) & !bit(i));
-    let message = match rng.below(22) {
-        0..=3 => crossed(rng, &mut case, i, j),
-        4..=6 => mixed(rng, &mut case, i, j),
-        7..=9 => last_reply(rng, &mut case, i, j),
-        10..=14 => failed_sender(rng, &mut case, i, j),
-        15 => asked(rng, &mut case, i),
-        16..=20 => neighbours_move(rng, &mut case, i),
+    let message = match rng.below(26) {
+        0..=5 => crossed(rng, &mut case, i, j),
+        6..=8 => mixed(rng, &mut case, i, j),
+        9..=11 => last_reply(rng, &mut case, i, j),
+        12..=16 => failed_sender(rng, &mut case, i, j),
+        17 => asked(rng, &mut case, i),
+        18..=22 => neighbours_move(rng, &mut case, i),
+        23 | 24 => short_sides(rng, &mut case, i),
         _ => welcome(rng, &mut case, i, j),
     };
     case.push(message);
     let place = case.place_of(&message).expect("it waits");
     (case, Action::Take { place })
+}
+
+/// A BroadcastLSet for a node whose sides are short and share nothing.
+fn short_sides(rng: &mut Rng, case: &mut Case, i: usize) -> Message {
+    let message = neighbours_move(rng, case, i);
+    let others = below(case.table.n) & !bit(i);
+    if others.count_ones() > 1 {
+        let left = bit(rng.member(others));
+        case.table.l = case.table.l.max(2);
+        case.table.nodes[i].sides = Sides { left, right: bit(rng.member(others & !left)) };
+    }
+    message
 }
 
 fn whole(case: &Case, i: usize) -> Sides {

@@ -50,7 +50,12 @@ impl Requests {
         let rng = &mut self.rng;
         match rng.below(100) {
             0..=17 => {
-                let (case, action) = primed(rng);
+                let (mut case, action) = primed(rng);
+                // A pool that is nearly full, or full, behind the message that is taken.
+                if rng.one_in(20) {
+                    let count = rng.pick(&[254, 255, 256]);
+                    fill(rng, &mut case, count);
+                }
                 Request::Step { action, file: &case.file() }.put(out);
             }
             18..=38 => {
