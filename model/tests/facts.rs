@@ -52,7 +52,7 @@ fn a_whole_ring_joins() {
 }
 
 #[test]
-fn a_short_ring_stays_ok() {
+fn a_short_ring_becomes_ready() {
     let mut bench = Bench::start(8, 4, &[17, 18, 65, 95], &[0, 1, 2]);
     bench.done(Action::Join { node: 3, seed: 0 });
     for _ in 0..9 {
@@ -62,7 +62,10 @@ fn a_short_ring_stays_ok() {
     bench.done(Action::RequestLease { node: 3 });
     assert_eq!(bench.take(0), 0);
     assert_eq!(bench.take(0), 0);
-    assert_eq!(bench.take(0), 4, "a broadcast needs both sides full");
+    assert_eq!(bench.take(0), 0, "a broadcast needs both sides full, or sides that overlap");
+    assert_eq!(bench.take(0), 0);
+    assert_eq!(bench.status(3), READY);
+    assert!(bench.settled());
 }
 
 #[test]
