@@ -1,2 +1,3 @@
 pub mod Unique
 pub mod Counts
+pub mod Cases
