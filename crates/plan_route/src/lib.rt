@@ -1,10 +1,10 @@
-// Lookups and joins: the actions Lookup and Join, and the taking of a Lookup (kind 1) and of a JoinRequest (kind 2).
+// Lookups and joins: the actions Lookup and Join, the delivering and forwarding of a Lookup (kind 1), and the taking of a JoinRequest (kind 2).
 ghost use mathlib.Core.Path.{_≡_};
 ghost use Prim.Native.Nat.{ℕ, _^_, _<_};
 ghost use Rattle.rules.specs.InnerAsks.{Listed};
 ghost use Rattle.rules.specs.Letters.{lookup, joinRequest, joinReply, noLegalRoute};
 ghost use Rattle.rules.specs.Actions.{planLookup, planJoin};
-ghost use Rattle.rules.specs.Take.{forwardPlan, planTakeLookup, planTakeJoinRequest};
+ghost use Rattle.rules.specs.Take.{forwardPlan, planDeliver, planForward, planTakeJoinRequest};
 use rules::Hop;
 use rules::Message;
 use rules::Node;
@@ -78,17 +78,46 @@ pub fn forward(next: Hop, v: Node, m: Message, k: u32, i: usize) -> Plan
     parts::send_plan(v, m, h)
 }
 
-// The taking of a Lookup of k at node i.
-pub fn plan_take_lookup(g: Ring, ids: &[u32; 64], dead: u64, i: usize, v: Node, k: u32) -> Planned
-    requires { ⌜ Listed g (now ids) × (i < 64) × (k < 2 ^ g .m) ⌝ }
-    ensures { λ r. ⌜ r ≡ planTakeLookup g (now (ids .entry)) dead i v k ⌝ }
+// Deliver: a message of this kind, with key k where it is a Lookup, at node i.
+pub fn plan_deliver(kind: u32, g: Ring, ids: &[u32; 64], i: usize, v: Node, k: u32) -> Planned
+    requires { ⌜ Listed g (now ids) × (i < 64) × (kind ≡ 1 → k < 2 ^ g .m) ⌝ }
+    ensures { λ r. ⌜ r ≡ planDeliver kind g (now (ids .entry)) i v k ⌝ }
 {
+    if !(kind == 1) {
+        return Planned::No(Refusal::Partner);
+    }
+    let s = v.status;
+    if !parts::is_ready(s) {
+        return Planned::No(Refusal::Status);
+    }
+    if !leaf::covers(g, ids, i, parts::sides_of(v), k) {
+        return Planned::No(Refusal::Partner);
+    }
+    Planned::Go(parts::quiet_plan(v))
+}
+
+// Forward: the same, to the next hop.
+pub fn plan_forward(
+    kind: u32,
+    g: Ring,
+    ids: &[u32; 64],
+    dead: u64,
+    i: usize,
+    v: Node,
+    k: u32,
+) -> Planned
+    requires { ⌜ Listed g (now ids) × (i < 64) × (kind ≡ 1 → k < 2 ^ g .m) ⌝ }
+    ensures { λ r. ⌜ r ≡ planForward kind g (now (ids .entry)) dead i v k ⌝ }
+{
+    if !(kind == 1) {
+        return Planned::No(Refusal::Partner);
+    }
     let s = v.status;
     if !parts::is_ready(s) {
         return Planned::No(Refusal::Status);
     }
     if leaf::covers(g, ids, i, parts::sides_of(v), k) {
-        return Planned::Go(parts::quiet_plan(v));
+        return Planned::No(Refusal::Partner);
     }
     let next = hop::next_hop(g, ids, dead, i, v, k);
     Planned::Go(forward(next, v, lookup_of(k), k, i))

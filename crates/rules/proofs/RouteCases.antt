@@ -1,4 +1,4 @@
--- Take of kinds 1, 2 and 6, and which plan belongs to which kind, computed by the checker on 01's worked ids: each refusal, the lowest where two apply, and
+-- Deliver and Forward of kind 1, Take of kinds 2 and 6, and which plan belongs to which kind, computed by the checker on 01's worked ids: each refusal, the lowest where two apply, and
 -- what is done. Assumes nothing.
 use mathlib.Core.Path.{_≡_, refl}
 use mathlib.Core.List.{List, [], _∷_}
@@ -13,28 +13,46 @@ use Rattle.rules.specs.declared.Planned.the-variants.{No}
 use Rattle.rules.specs.declared.Refusal.the-variants as no
 use Rattle.rules.specs.Nodes.{placed}
 use Rattle.rules.specs.Letters.{lookup, joinRequest, joinReply, noLegalRoute}
-use Rattle.rules.specs.Take.{planTake, planTakeLookup, planTakeJoinRequest, planTakeJoinReply, planTakeProbe, planTakeProbeReply}
+use Rattle.rules.specs.Take.{planTake, planDeliver, planForward, planTakeJoinRequest, planTakeJoinReply, planTakeProbe, planTakeProbeReply}
 use Rattle.rules.specs.Take.{planTakeLeaseRequest, planTakeBroadcast}
 use Rattle.rules.proofs.Small.{opened, four, ids, node, sides, atEach, made}
 
--- ---- 1. 2 unless ready. If i covers k, delivered: nothing is added. Else Lookup goes to the next hop, or NoLegalRoute(k) to i.
+-- ---- 1. 5 from either of the pair on another kind, whatever the status; then 2 unless ready; then 5 from Deliver when not covered and from Forward when
+-- covered. Delivered: nothing is added. Else Lookup goes to the next hop, or NoLegalRoute(k) to i.
 
--- key k at 65 in slot 2, with 95 on its left and 18 on its right, by the dead and by its failed
-abbrev takes : ℕ → ℕ → ℕ → Status → Planned
-takes dead failed k s = planTakeLookup four ids dead 2 (node 65 s 8 2 1 failed 15 5 3) k
+-- a message of this kind with key k at 65 in slot 2, with 95 on its left and 18 on its right, by its failed and, for Forward, by the dead
+abbrev delivers : ℕ → ℕ → ℕ → Status → Planned
+delivers kind failed k s = planDeliver kind four ids 2 (node 65 s 8 2 1 failed 15 5 3) k
 
-pub record LookupTaken : Type 0 where
-  pub two : atEach (takes 0 0 200) ≡ 2 ∷ 2 ∷ 2 ∷ 0 ∷ []
-  pub two-covered : atEach (takes 0 0 60) ≡ 2 ∷ 2 ∷ 2 ∷ 0 ∷ []
-  pub delivered : made (takes 0 0 60 Ready) ≡ (node 65 Ready 8 2 1 0 15 5 3, [])
-  pub goes-on : made (takes 0 0 200 Ready) ≡ (node 65 Ready 8 2 1 0 15 5 3, placed (lookup 200) 1 ∷ [])
-  pub no-route : made (takes 8 2 200 Ready) ≡ (node 65 Ready 8 2 1 2 15 5 3, placed (noLegalRoute 200) 2 ∷ [])
+abbrev forwards : ℕ → ℕ → ℕ → ℕ → Status → Planned
+forwards kind dead failed k s = planForward kind four ids dead 2 (node 65 s 8 2 1 failed 15 5 3) k
+
+pub record LookupDelivered : Type 0 where
+  pub covered : atEach (delivers 1 0 60) ≡ 2 ∷ 2 ∷ 2 ∷ 0 ∷ []
+  pub uncovered : atEach (delivers 1 0 200) ≡ 2 ∷ 2 ∷ 2 ∷ 5 ∷ []
+  pub another-kind : atEach (delivers 2 0 60) ≡ 5 ∷ 5 ∷ 5 ∷ 5 ∷ []
+  pub no-legal-route : atEach (delivers 6 0 60) ≡ 5 ∷ 5 ∷ 5 ∷ 5 ∷ []
+  pub adds-nothing : made (delivers 1 0 60 Ready) ≡ (node 65 Ready 8 2 1 0 15 5 3, [])
   -- a covered key is delivered, whatever failed
-  pub delivered-alone : made (takes 8 2 60 Ready) ≡ (node 65 Ready 8 2 1 2 15 5 3, [])
+  pub though-failed : made (delivers 1 2 60 Ready) ≡ (node 65 Ready 8 2 1 2 15 5 3, [])
 
-pub lookup-taken : LookupTaken
+pub lookup-delivered : LookupDelivered
 unfolding opened
-lookup-taken = record { two = refl; two-covered = refl; delivered = refl; goes-on = refl; no-route = refl; delivered-alone = refl }
+lookup-delivered =
+    record { covered = refl; uncovered = refl; another-kind = refl; no-legal-route = refl; adds-nothing = refl; though-failed = refl }
+
+pub record LookupForwarded : Type 0 where
+  pub uncovered : atEach (forwards 1 0 0 200) ≡ 2 ∷ 2 ∷ 2 ∷ 0 ∷ []
+  pub covered : atEach (forwards 1 0 0 60) ≡ 2 ∷ 2 ∷ 2 ∷ 5 ∷ []
+  pub another-kind : atEach (forwards 2 0 0 200) ≡ 5 ∷ 5 ∷ 5 ∷ 5 ∷ []
+  pub no-legal-route : atEach (forwards 6 0 0 200) ≡ 5 ∷ 5 ∷ 5 ∷ 5 ∷ []
+  pub goes-on : made (forwards 1 0 0 200 Ready) ≡ (node 65 Ready 8 2 1 0 15 5 3, placed (lookup 200) 1 ∷ [])
+  pub no-route : made (forwards 1 8 2 200 Ready) ≡ (node 65 Ready 8 2 1 2 15 5 3, placed (noLegalRoute 200) 2 ∷ [])
+
+pub lookup-forwarded : LookupForwarded
+unfolding opened
+lookup-forwarded =
+    record { uncovered = refl; covered = refl; another-kind = refl; no-legal-route = refl; goes-on = refl; no-route = refl }
 
 -- ---- 2. From j. 2 unless ready; 5 if j is in i's content. If i covers j's id, a JoinReply to j with m's routing set and i's leaf set.
 -- Else to the next hop with i's routing set joined in, or NoLegalRoute(id of j) to i.
@@ -73,10 +91,10 @@ join-request-taken =
       no-route = refl;
     }
 
--- ---- by kind; 6. 5 always.
+-- ---- by kind; 1. 5 from Take on a Lookup, whatever the status; 6. 5 always.
 
 pub record ByKind (g : Ring) (ids : List ℕ) (dead i : ℕ) (v : Node) (m : Message) : Type 0 where
-  pub one : planTake 1 g ids dead i v m ≡ planTakeLookup g ids dead i v (m .word)
+  pub one : planTake 1 g ids dead i v m ≡ No no.Partner
   pub two : planTake 2 g ids dead i v m ≡ planTakeJoinRequest g ids dead i v (m .word) (m .routing)
   pub three : planTake 3 g ids dead i v m ≡ planTakeJoinReply g ids i v m
   pub four : planTake 4 g ids dead i v m ≡ planTakeProbe g ids i v m

@@ -24,7 +24,7 @@ use Rattle.rules.specs.Fits.{wordFits, flagFits, carriedFits, ownerFits,
 use Rattle.rules.specs.Plans.{mailed}
 use Rattle.rules.specs.Actions.{waits, joinWaits, planLookup, planJoin, leasePlan, planRequestLease}
 use Rattle.rules.specs.Actions.{isNeighbour, planLeaseExpired, planGrantExpired}
-use Rattle.rules.specs.Take.{planTakeLookup, planTakeJoinRequest, planTakeJoinReply, probes2, probesOf, probePlanOf, planTakeProbe}
+use Rattle.rules.specs.Take.{planDeliver, planForward, planTakeJoinRequest, planTakeJoinReply, probes2, probesOf, probePlanOf, planTakeProbe}
 use Rattle.rules.specs.Take.{statusAfterReply, replyPlanOf, planTakeProbeReply, planTakeLeaseRequest, broadcastPlan, planTakeBroadcast}
 use Rattle.rules.specs.Take.{planTake}
 
@@ -35,7 +35,7 @@ unfolding fallOf signedOf absDistOf risesTo nearer leftCoverOf rightCoverOf cove
     routeCandidates byLeaf leafHop routeHop nextHop alike allDifferent firstFrom firstEqual added removedAt sentTo numbersFit idFits
     sideFits leafFits othersFit nodeFits isBlank slotFits wordFits flagFits carriedFits ownerFits routingFits failedFits fieldsFit
     messageFits mailed waits joinWaits planLookup planJoin leasePlan planRequestLease isNeighbour planLeaseExpired planGrantExpired
-    planTakeLookup planTakeJoinRequest planTakeJoinReply probes2 probesOf probePlanOf planTakeProbe statusAfterReply replyPlanOf
+    planDeliver planForward planTakeJoinRequest planTakeJoinReply probes2 probesOf probePlanOf planTakeProbe statusAfterReply replyPlanOf
     planTakeProbeReply planTakeLeaseRequest broadcastPlan planTakeBroadcast planTake
 opened = tt
 

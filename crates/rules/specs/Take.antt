@@ -1,4 +1,4 @@
--- Take(place), by kind, in 01's order: message m at its destination i, whose node is v. Each kind is refused with the lowest number that applies, or makes a plan.
+-- Take(place), by kind, in 01's order, with Deliver(place) and Forward(place) for a Lookup (T-05): message m at its destination i, whose node is v. Each kind is refused with the lowest number that applies, or makes a plan.
 -- 01's words stand above each kind; "several probes are sent in rising slot order" is Mail.sent. Definitions only. Assumes nothing.
 use mathlib.Core.Bool.{Bool, cond, _&&_, _||_, not}
 use mathlib.Core.List.{List}
@@ -28,19 +28,31 @@ use Rattle.rules.specs.Plans.{isDead, isWait, isReady, isUp, withLeases,
 use Rattle.rules.specs.Actions.{isBeside, isNeighbour}
 
 -- ---- 1 Lookup
--- 2 unless ready. If i covers k, delivered: nothing is added. Else Lookup goes to the next hop, or NoLegalRoute(k) to i.
+-- 01: 2 unless ready. If i covers k, delivered: nothing is added. Else Lookup goes to the next hop, or NoLegalRoute(k) to i.
+-- T-05: Split the taking of a Lookup in two: Deliver, only if the node covers the key, and Forward, only if it does not. Refusals: 5 from Take on a Lookup
+-- and from either of the pair on another kind, both whatever the status; then 2 unless ready; then 5 from Deliver when not covered and from Forward when
+-- covered. (5 from Take on a Lookup: in planTake below.)
 
 -- Lookup goes to the next hop, or NoLegalRoute(k) to i
 abbrev pub forwardPlan : Hop → Node → Message → ℕ → ℕ → Plan
 forwardPlan (To h) v m k i = sendPlan v m h
 forwardPlan NoRoute v m k i = sendPlan v (noLegalRoute k) i
 
--- 2 unless ready. If i covers k, delivered: nothing is added
-unfoldable pub planTakeLookup : Ring → List ℕ → ℕ → ℕ → Node → ℕ → Planned
-planTakeLookup g ids dead i v k =
-    cond (not (isReady (v .status))) (No no.Status)
-    (cond (coversOf g ids i (sidesOf v) k) (Go (quietPlan v))
-    (Go (forwardPlan (nextHop g ids dead i v k) v (lookup k) k i)))
+-- 5 on another kind; 2 unless ready; 5 when not covered. Delivered: nothing is added
+unfoldable pub planDeliver : ℕ → Ring → List ℕ → ℕ → Node → ℕ → Planned
+planDeliver kind g ids i v k =
+    cond (not (eqb kind 1)) (No no.Partner)
+    (cond (not (isReady (v .status))) (No no.Status)
+    (cond (not (coversOf g ids i (sidesOf v) k)) (No no.Partner)
+    (Go (quietPlan v))))
+
+-- 5 on another kind; 2 unless ready; 5 when covered
+unfoldable pub planForward : ℕ → Ring → List ℕ → ℕ → ℕ → Node → ℕ → Planned
+planForward kind g ids dead i v k =
+    cond (not (eqb kind 1)) (No no.Partner)
+    (cond (not (isReady (v .status))) (No no.Status)
+    (cond (coversOf g ids i (sidesOf v) k) (No no.Partner)
+    (Go (forwardPlan (nextHop g ids dead i v k) v (lookup k) k i))))
 
 -- ---- 2 JoinRequest
 -- From j. 2 unless ready; 5 if j is in i's content. If i covers j's id, a JoinReply to j with m's routing set and i's leaf set.
@@ -251,11 +263,11 @@ planTakeBroadcast g ids i v m =
     (cond (eqb (m .owner) i) (No no.Partner)
     (Go (broadcastPlan g ids i v m))))
 
--- ---- by kind; 6: 5 always. A valid pool holds no other kind than the eight.
+-- ---- by kind; 1: 5 from Take on a Lookup, whatever the status (T-05); 6: 5 always. A valid pool holds no other kind than the eight.
 
 unfoldable pub planTake : ℕ → Ring → List ℕ → ℕ → ℕ → Node → Message → Planned
 planTake kind g ids dead i v m =
-    cond (eqb kind 1) (planTakeLookup g ids dead i v (m .word))
+    cond (eqb kind 1) (No no.Partner)
     (cond (eqb kind 2) (planTakeJoinRequest g ids dead i v (m .word) (m .routing))
     (cond (eqb kind 3) (planTakeJoinReply g ids i v m)
     (cond (eqb kind 4) (planTakeProbe g ids i v m)

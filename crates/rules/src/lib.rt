@@ -88,7 +88,7 @@ pub enum Answer {
     Refused(Refusal),
 }
 
-// An action is one of six kinds, each with its own arguments: slots, a slot and a key, or a place. They are wider than their ranges, so that 1 can be answered.
+// An action is one of eight kinds, each with its own arguments: slots, a slot and a key, or a place. They are wider than their ranges, so that 1 can be answered.
 pub enum Action {
     Lookup(usize, u64),
     Join(usize, usize),
@@ -96,6 +96,8 @@ pub enum Action {
     LeaseExpired(usize, usize),
     GrantExpired(usize, usize),
     Take(usize),
+    Deliver(usize),
+    Forward(usize),
 }
 
 // What an action leaves of its node and adds to the pool: `first` to one slot, if any, then `each` to every slot of a set, in rising slot order.

@@ -14,7 +14,7 @@ use Rattle.marks.proofs.Bools.{and-left, and-right}
 use Rattle.rules.specs.declared.Message.{Message}
 use Rattle.rules.specs.declared.Pool.{Pool}
 use Rattle.rules.specs.declared.Action.{Action}
-use Rattle.rules.specs.declared.Action.the-variants.{Lookup, Join, RequestLease, LeaseExpired, GrantExpired, Take}
+use Rattle.rules.specs.declared.Action.the-variants.{Lookup, Join, RequestLease, LeaseExpired, GrantExpired, Take, Deliver, Forward}
 use Rattle.rules.specs.declared.Refusal.{Refusal}
 use Rattle.rules.specs.declared.Refusal.the-variants as no
 use Rattle.rules.specs.declared.Answer.the-variants.{Done, Refused}
@@ -27,7 +27,7 @@ use Rattle.table_type.specs.declared.Table.{Table}
 use Rattle.table_type.specs.declared.Stepped.{Stepped}
 use Rattle.table_type.specs.Table.{withNode, ringOf}
 use Rattle.table.specs.Settle.{refusedOf, doneOf, carriedOut, settle}
-use Rattle.table.specs.Step.{Asked, isSlot, isKey, requests, takes, takenOf, asked, remaining, plannedOf, actOf, isSound, stepOf}
+use Rattle.table.specs.Step.{Asked, isSlot, isKey, requests, takes, takenOf, deliveredOf, forwardedOf, asked, remaining, plannedOf, actOf, isSound, stepOf}
 use Rattle.table.specs.Valid.{validOf}
 use Rattle.table.proofs.Obeys.{obeys}
 use Rattle.table.proofs.Sound.{Sound, sound, is-valid}
@@ -46,6 +46,8 @@ form t p (RequestLease i) = by-slot true
 form t p (LeaseExpired i j) = by-slot (isSlot t j)
 form t p (GrantExpired i j) = by-slot (isSlot t j)
 form t p (Take place) = by-place (takenOf t)
+form t p (Deliver place) = by-place (deliveredOf t)
+form t p (Forward place) = by-place (forwardedOf t)
 
 -- a message that goes waits, and the node of its destination acts
 module _ (t : Table) (p : Pool) (place : ℕ) where

@@ -7,7 +7,7 @@ use mathlib.Core.List.{List}
 use Prim.Native.Nat.{ℕ, _+_, _≤_}
 use native.Mathlib.Omega.{arith}
 use lib.Dec.{eqb}
-use borrow.Author.Tests.{eqb-true, eqb-false}
+use borrow.Author.Tests.{eqb-true, eqb-false, not-false}
 use Rattle.marks.specs.Marks.{has, removeOf, union}
 use Rattle.rules.specs.declared.Ring.{Ring}
 use Rattle.rules.specs.declared.Status.the-variants as status
@@ -28,7 +28,7 @@ use Rattle.rules.specs.Nodes.{sidesOf, carriedOf}
 use Rattle.rules.specs.Pick.{idAt}
 use Rattle.rules.specs.Plans.{isDead, isReady, isOk, isUp, withStatus, withLeases, quietPlan, sendPlan}
 use Rattle.rules.specs.Take.{forwardPlan, joinReplyPlan, waitsEmpty, probePlanOf, replyPlanOf, grantPlan, broadcastPlan}
-use Rattle.rules.specs.Take.{planTakeLookup, planTakeJoinRequest, planTakeJoinReply, planTakeProbe, planTakeProbeReply}
+use Rattle.rules.specs.Take.{planDeliver, planForward, planTakeJoinRequest, planTakeJoinReply, planTakeProbe, planTakeProbeReply}
 use Rattle.rules.specs.Take.{planTakeLeaseRequest, planTakeBroadcast, planTake}
 
 -- a refusal has the one property, a plan the other
@@ -91,21 +91,31 @@ module _ {Q : Refusal → Type 0} {P : Plan → Type 0} where
       unless (not (isUp (v .status))) (says-no two)
       (unless (eqb i j || (not (has (v .grant) j) || has (u .lease) i)) (says-no five) (goes x))
 
-  -- ---- Take, by kind
+  -- ---- Deliver and Forward, and Take by kind
 
   forward : (hop : Hop) (v : Node) (m : Message) (k i : ℕ) → ((h : ℕ) → hop ≡ To h → P (sendPlan v m h))
       → (hop ≡ NoRoute → P (sendPlan v (noLegalRoute k) i)) → Comes Q P (Go (forwardPlan hop v m k i))
   forward (To h) v m k i to none = goes (to h refl)
   forward NoRoute v m k i to none = goes (none refl)
 
-  pub by-take-lookup : (g : Ring) (ids : List ℕ) (dead i : ℕ) (v : Node) (k : ℕ) → Q no.Status → P (quietPlan v)
-      → ((h : ℕ) → nextHop g ids dead i v k ≡ To h → P (sendPlan v (lookup k) h))
-      → (nextHop g ids dead i v k ≡ NoRoute → P (sendPlan v (noLegalRoute k) i))
-      → Comes Q P (planTakeLookup g ids dead i v k)
-  unfolding planTakeLookup
-  by-take-lookup g ids dead i v k two delivered to none =
-      unless (not (isReady (v .status))) (says-no two)
-      (either (coversOf g ids i (sidesOf v) k) (λ _. goes delivered) (λ _. forward (nextHop g ids dead i v k) v (lookup k) k i to none))
+  pub by-deliver : (kind : ℕ) (g : Ring) (ids : List ℕ) (i : ℕ) (v : Node) (k : ℕ) → (kind ≡ 1 → Q no.Status) → Q no.Partner → P (quietPlan v)
+      → Comes Q P (planDeliver kind g ids i v k)
+  unfolding planDeliver
+  by-deliver kind g ids i v k two five delivered =
+      either (not (eqb kind 1)) (λ _. says-no five) (λ e.
+      unless (not (isReady (v .status))) (says-no (two (eqb-true kind 1 (not-false (eqb kind 1) e))))
+      (unless (not (coversOf g ids i (sidesOf v) k)) (says-no five) (goes delivered)))
+
+  pub by-forward : (kind : ℕ) (g : Ring) (ids : List ℕ) (dead i : ℕ) (v : Node) (k : ℕ) → (kind ≡ 1 → Q no.Status) → Q no.Partner
+      → (kind ≡ 1 → (h : ℕ) → nextHop g ids dead i v k ≡ To h → P (sendPlan v (lookup k) h))
+      → (kind ≡ 1 → nextHop g ids dead i v k ≡ NoRoute → P (sendPlan v (noLegalRoute k) i))
+      → Comes Q P (planForward kind g ids dead i v k)
+  unfolding planForward
+  by-forward kind g ids dead i v k two five to none =
+      either (not (eqb kind 1)) (λ _. says-no five) (λ e.
+      let is = eqb-true kind 1 (not-false (eqb kind 1) e) in
+      unless (not (isReady (v .status))) (says-no (two is))
+      (unless (coversOf g ids i (sidesOf v) k) (says-no five) (forward (nextHop g ids dead i v k) v (lookup k) k i (to is) (none is))))
 
   pub by-take-join-request : (g : Ring) (ids : List ℕ) (dead i : ℕ) (v : Node) (j routing : ℕ) → Q no.Status → Q no.Partner
       → P (sendPlan v (joinReply routing i (sidesOf v)) j)
@@ -156,7 +166,7 @@ module _ {Q : Refusal → Type 0} {P : Plan → Type 0} where
       (unless (not (isComplete g (sidesOf v))) (says-no four) (unless (eqb (m .owner) i) (says-no five) (goes x)))
 
   module _ (kind : ℕ) (g : Ring) (ids : List ℕ) (dead i : ℕ) (v : Node) (m : Message) where
-    pub by-take : (1 ≤ kind) → (kind ≤ 8) → (kind ≡ 1 → Comes Q P (planTakeLookup g ids dead i v (m .word)))
+    pub by-take : (1 ≤ kind) → (kind ≤ 8) → (kind ≡ 1 → Q no.Partner)
         → (kind ≡ 2 → Comes Q P (planTakeJoinRequest g ids dead i v (m .word) (m .routing)))
         → (kind ≡ 3 → Comes Q P (planTakeJoinReply g ids i v m))
         → (kind ≡ 4 → Comes Q P (planTakeProbe g ids i v m))
@@ -167,7 +177,7 @@ module _ {Q : Refusal → Type 0} {P : Plan → Type 0} where
         → Comes Q P (planTake kind g ids dead i v m)
     unfolding planTake
     by-take low high one two three four five six seven eight =
-        either (eqb kind 1) (λ e. one (eqb-true kind 1 e)) (λ n1.
+        either (eqb kind 1) (λ e. says-no (one (eqb-true kind 1 e))) (λ n1.
         either (eqb kind 2) (λ e. two (eqb-true kind 2 e)) (λ n2.
         either (eqb kind 3) (λ e. three (eqb-true kind 3 e)) (λ n3.
         either (eqb kind 4) (λ e. four (eqb-true kind 4 e)) (λ n4.

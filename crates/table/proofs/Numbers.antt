@@ -1,5 +1,5 @@
 -- The numbers with which each action can be refused: one table (numbersOf), and one theorem that every step's answer is in it
--- (`step-numbers`). 6 is missing where none is added, or one was removed and at most one is added; 3 is missing from Take; 7, 8, 9 and 11
+-- (`step-numbers`). 6 is missing where none is added, or one was removed and at most one is added; 3 is missing from Take and from Deliver and Forward; 7, 8, 9 and 11
 -- are missing everywhere. Assumes nothing.
 use mathlib.Core.Path.{_≡_, refl, sym, _∙_, ap}
 use mathlib.Core.Logic.{_⊎_, inl, inr, ⊎-elim}
@@ -15,7 +15,7 @@ use Rattle.rules.specs.declared.Node.{Node}
 use Rattle.rules.specs.declared.Message.{Message}
 use Rattle.rules.specs.declared.Pool.{Pool}
 use Rattle.rules.specs.declared.Action.{Action}
-use Rattle.rules.specs.declared.Action.the-variants.{Lookup, Join, RequestLease, LeaseExpired, GrantExpired, Take}
+use Rattle.rules.specs.declared.Action.the-variants.{Lookup, Join, RequestLease, LeaseExpired, GrantExpired, Take, Deliver, Forward}
 use Rattle.rules.specs.declared.Refusal.{Refusal}
 use Rattle.rules.specs.declared.Refusal.the-variants as no
 use Rattle.rules.specs.declared.Plan.{Plan}
@@ -29,14 +29,14 @@ use Rattle.rules.specs.Take.{broadcastPlan, planTake}
 use Rattle.table_type.specs.declared.Table.{Table}
 use Rattle.table.specs.Settled.{deadSet}
 use Rattle.table.specs.Settle.{refusedOf, settle}
-use Rattle.table.specs.Step.{takenOf, asked, remaining, plannedOf, isSound, stepOf}
+use Rattle.table.specs.Step.{takenOf, deliveredOf, forwardedOf, asked, remaining, plannedOf, isSound, stepOf}
 use Rattle.table_type.specs.Table.{nodeAt, idsOf, ringOf}
 use Rattle.pool.proofs.Laws.{waiting-short, removed-length, mailed-quiet, mailed-send, added-length}
 use Rattle.table.proofs.Obeys.{obeys}
 use Rattle.table.proofs.Sound.{Sound}
 use Rattle.table.proofs.By.{RefusedFor, invalid, out-of-range, forbidden, full, by-step}
 use Rattle.table.proofs.Comes.{Comes, no-comes, go-comes, by-lookup, by-join, by-request-lease, by-lease-expired, by-grant-expired}
-use Rattle.table.proofs.Comes.{by-take-lookup, by-take-join-request, by-take-join-reply, by-take-probe, by-take-probe-reply}
+use Rattle.table.proofs.Comes.{by-deliver, by-forward, by-take-join-request, by-take-join-reply, by-take-probe, by-take-probe-reply}
 use Rattle.table.proofs.Comes.{by-take-lease-request, by-take-broadcast, by-take}
 
 -- ---- the table
@@ -45,7 +45,7 @@ use Rattle.table.proofs.Comes.{by-take-lease-request, by-take-broadcast
 abbrev pub takeNumbers : List (List ℕ)
 takeNumbers =
     []
-    ∷ (2 ∷ [])
+    ∷ (5 ∷ [])
     ∷ (2 ∷ 5 ∷ [])
     ∷ (2 ∷ 4 ∷ 5 ∷ 6 ∷ [])
     ∷ (2 ∷ 4 ∷ 5 ∷ 6 ∷ [])
@@ -55,6 +55,11 @@ takeNumbers =
     ∷ (2 ∷ 4 ∷ 5 ∷ [])
     ∷ []
 
+-- Deliver and Forward: of a Lookup, or of another kind
+abbrev pub pairNumbers : Bool → List ℕ
+pairNumbers true = 2 ∷ 5 ∷ []
+pairNumbers false = 5 ∷ []
+
 -- the numbers with which an action can be refused, besides 1 and 10
 abbrev pub numbersOf : Pool → Action → List ℕ
 numbersOf p (Lookup i k) = 3 ∷ 6 ∷ []
@@ -63,6 +68,8 @@ numbersOf p (RequestLease i) = 2 ∷ 4 ∷ 6 ∷ []
 numbersOf p (LeaseExpired i j) = 2 ∷ 5 ∷ []
 numbersOf p (GrantExpired i j) = 2 ∷ 5 ∷ []
 numbersOf p (Take place) = getD takeNumbers (messageAt p place .kind) []
+numbersOf p (Deliver place) = pairNumbers (eqb (messageAt p place .kind) 1)
+numbersOf p (Forward place) = pairNumbers (eqb (messageAt p place .kind) 1)
 
 abbrev pub oneOf : ℕ → List ℕ → Bool
 oneOf x [] = false
@@ -125,8 +132,7 @@ module _ {t : Table} {p : Pool} (s : Sound t p) where
         let i = m .dest in
         let v = nodeAt t i in
         by-take (m .kind) g ids dead i v m (o .kind-low) (o .kind-high)
-        (λ e. by-take-lookup g ids dead i v (m .word) (rw e) (λ l. absurd (take-quiet _ l)) (λ d _ l. absurd (take-send _ _ _ l))
-        (λ _ l. absurd (take-send _ _ _ l)))
+        (λ e. rw e)
         (λ e. by-take-join-request g ids dead i v (m .word) (m .routing) (rw e) (rw e) (λ l. absurd (take-send _ _ _ l))
         (λ d _ l. absurd (take-send _ _ _ l)) (λ _ l. absurd (take-send _ _ _ l)))
         (λ e. by-take-join-reply g ids i v m (rw e) (rw e) (rw e) (λ _. rw e))
@@ -136,6 +142,25 @@ module _ {t : Table} {p : Pool} (s : Sound t p) where
         (λ e. by-take-lease-request g ids i v (m .word) (rw e) (rw e) (λ near l. absurd (take-send _ _ _ l)))
         (λ e. by-take-broadcast g ids i v m (rw e) (rw e) (rw e) (λ l. absurd (take-broadcast m l)))
 
+    -- 2 and 5 of a Lookup, 5 of another kind
+    pair-two : messageAt p place .kind ≡ 1 → (oneOf 2 (pairNumbers (eqb (messageAt p place .kind) 1)) && true) ≡ true
+    pair-two e = rw e
+
+    pair-five : (b : Bool) → (oneOf 5 (pairNumbers b) && true) ≡ true
+    pair-five true = refl
+    pair-five false = refl
+
+    delivered-named : Comes (Named p (Deliver place)) (Roomy t p (Deliver place)) (deliveredOf t (messageAt p place))
+    delivered-named =
+        let m = messageAt p place in
+        by-deliver (m .kind) (ringOf t) (idsOf t) (m .dest) (nodeAt t (m .dest)) (m .word) pair-two (pair-five (eqb (m .kind) 1)) (λ l. absurd (take-quiet _ l))
+
+    forwarded-named : Comes (Named p (Forward place)) (Roomy t p (Forward place)) (forwardedOf t (messageAt p place))
+    forwarded-named =
+        let m = messageAt p place in
+        by-forward (m .kind) (ringOf t) (idsOf t) (deadSet t) (m .dest) (nodeAt t (m .dest)) (m .word) pair-two (pair-five (eqb (m .kind) 1))
+        (λ _ d _ l. absurd (take-send _ _ _ l)) (λ _ _ l. absurd (take-send _ _ _ l))
+
   planned-named : (a : Action) → asked t p a .range ≡ true → Comes (Named p a) (Roomy t p a) (plannedOf (asked t p a))
   planned-named (Lookup i k) e = by-lookup _ i k (nodeAt t i) refl (λ _. refl)
   planned-named (Join i seed) e = by-join _ i (nodeAt t i) seed (nodeAt t seed) refl refl refl (λ _. refl)
@@ -143,6 +168,8 @@ module _ {t : Table} {p : Pool} (s : Sound t p) where
   planned-named (LeaseExpired i j) e = by-lease-expired (ringOf t) (idsOf t) i (nodeAt t i) j refl refl (λ l. absurd (quiet-room _ l))
   planned-named (GrantExpired i j) e = by-grant-expired i (nodeAt t i) j (nodeAt t j) refl refl (λ l. absurd (quiet-room _ l))
   planned-named (Take place) e = taken-named place (ltb-true place (p .count) e)
+  planned-named (Deliver place) e = delivered-named place (ltb-true place (p .count) e)
+  planned-named (Forward place) e = forwarded-named place (ltb-true place (p .count) e)
 
 -- besides 10 for what is not valid and 1 for what is out of range, a step is refused with a number that its action names
 pub data Refuses (t : Table) (p : Pool) (len : ℕ) (a : Action) (why : Refusal) : Type 0 where

@@ -1,6 +1,6 @@
 -- What every step keeps, proved. A done step writes one node by a fine plan, so the ids stay and the node obeys its rules; what waits
 -- afterwards is what waited, less the message taken, and what the plan added where no equal waits. Assumes nothing.
-use mathlib.Core.Path.{_≡_, refl}
+use mathlib.Core.Path.{_≡_, refl, ap}
 use mathlib.Core.Logic.{_⊎_, inl, inr}
 use mathlib.Core.Bool.{true}
 use mathlib.Core.List.{List}
@@ -17,9 +17,9 @@ use Rattle.rules.specs.declared.Message.{Message}
 use Rattle.rules.specs.declared.Pool.{Pool}
 use Rattle.rules.specs.declared.Plan.{Plan}
 use Rattle.rules.specs.declared.Action.{Action}
-use Rattle.rules.specs.declared.Action.the-variants.{Lookup, Join, RequestLease, LeaseExpired, GrantExpired, Take}
+use Rattle.rules.specs.declared.Action.the-variants.{Lookup, Join, RequestLease, LeaseExpired, GrantExpired, Take, Deliver, Forward}
 use Rattle.rules.specs.Actions.{waits, joinWaits}
-use Rattle.rules.specs.Fits.{nodeFits}
+use Rattle.rules.specs.Fits.{hasKey, nodeFits}
 use Rattle.rules.specs.Letters.{lookup}
 use Rattle.rules.specs.Mail.{removedAt}
 use Rattle.rules.specs.Nodes.{noNode, placed}
@@ -39,7 +39,7 @@ use Rattle.table.proofs.By.{DoneWith, leavesOf, slot-in-range, by-step,
 use Rattle.table.proofs.Comes.{go-comes}
 use Rattle.table.proofs.Plans.{Fits, FinePlan, FinePlanned, fine-fits}
 use Rattle.table.proofs.Plans.{fine-lookup, fine-join, fine-request-lease, fine-lease-expired, fine-grant-expired}
-use Rattle.table.proofs.Takes.{fine-take}
+use Rattle.table.proofs.Takes.{fine-deliver, fine-forward, fine-take}
 
 -- ---- every plan is fine
 
@@ -67,6 +67,14 @@ module _ {t : Table} {p : Pool} (s : Sound t p) where
   planned-fine (Take place) e =
       let o = obeys (ringOf t) (messageAt p place) (s .message place (ltb-true place (p .count) e)) in
       fine-take (s .listed) (o .dest-in) (listed-rules (messageAt p place .dest) (o .dest-in)) (deadSet t) o
+  planned-fine (Deliver place) e =
+      let m = messageAt p place in
+      let o = obeys (ringOf t) m (s .message place (ltb-true place (p .count) e)) in
+      fine-deliver (s .listed) (o .dest-in) (listed-rules (m .dest) (o .dest-in)) (m .kind) (m .word)
+  planned-fine (Forward place) e =
+      let m = messageAt p place in
+      let o = obeys (ringOf t) m (s .message place (ltb-true place (p .count) e)) in
+      fine-forward (s .listed) (o .dest-in) (listed-rules (m .dest) (o .dest-in)) (m .kind) (deadSet t) (m .word) (λ k. o .key-in (ap hasKey k))
 
 pub done-fine : {t : Table} {p : Pool} {len : ℕ} {a : Action} {x : Plan} → DoneWith t p len a x
     → FinePlan (ringOf t) (asked t p a .slot) (nodeAt t (asked t p a .slot)) x

@@ -7,7 +7,7 @@ use lib.ListN.{replicate}
 use Rattle.ring.specs.Distance.{fallOf, wrapped, signedOf, absDistOf, risesTo, nearer, leftCoverOf, rightCoverOf, coversKey}
 use Rattle.marks.specs.Marks.{has, gather, tally, firstTo, allTo, single, union, meet, without, addOf, removeOf, sizeOf, lowestOf, listed}
 use Rattle.rules.specs.declared.Action.{Action}
-use Rattle.rules.specs.declared.Action.the-variants.{Lookup, Join, RequestLease, LeaseExpired, GrantExpired, Take}
+use Rattle.rules.specs.declared.Action.the-variants.{Lookup, Join, RequestLease, LeaseExpired, GrantExpired, Take, Deliver, Forward}
 use Rattle.rules.specs.declared.Message.{Message}
 use Rattle.rules.specs.declared.Pool.{Pool}
 use Rattle.rules.specs.Letters.{lookup, joinRequest, noLegalRoute}
@@ -24,7 +24,7 @@ use Rattle.rules.specs.Fits.{wordFits, flagFits, carriedFits, ownerFits, routin
 use Rattle.rules.specs.Plans.{mailed}
 use Rattle.rules.specs.Actions.{waits, joinWaits, planLookup, planJoin, leasePlan, planRequestLease, isNeighbour}
 use Rattle.rules.specs.Actions.{planLeaseExpired, planGrantExpired}
-use Rattle.rules.specs.Take.{planTakeLookup, planTakeJoinRequest, planTakeJoinReply, probes2, probesOf, probePlanOf, planTakeProbe}
+use Rattle.rules.specs.Take.{planDeliver, planForward, planTakeJoinRequest, planTakeJoinReply, probes2, probesOf, probePlanOf, planTakeProbe}
 use Rattle.rules.specs.Take.{statusAfterReply, replyPlanOf, planTakeProbeReply, planTakeLeaseRequest, broadcastPlan, planTakeBroadcast, planTake}
 use Rattle.table_type.specs.declared.Table.{Table}
 use Rattle.table_type.specs.declared.Stepped.{Stepped}
@@ -61,6 +61,10 @@ pub record Ordered : Type 0 where
 
 -- ---- slot, place or key out of range
 
+-- a lookup of 17 for the node that has the key
+abbrev lookup17 : Pool
+lookup17 = laid (placed (lookup 17) 0 ∷ [])
+
 pub record Ranges : Type 0 where
   pub lookup-slot : number ring none (Lookup 4 0) ≡ 1
   pub lookup-last : number ring none (Lookup 3 0) ≡ 0
@@ -74,8 +78,12 @@ pub record Ranges : Type 0 where
   pub lease-last : number ring none (LeaseExpired 3 3) ≡ 5
   pub grant-slots : (number ring none (GrantExpired 4 0) ≡ 1) × (number ring none (GrantExpired 0 4) ≡ 1)
   pub grant-last : number ring none (GrantExpired 3 3) ≡ 5
-  pub place-past : number ring (laid (placed (lookup 17) 0 ∷ [])) (Take 1) ≡ 1
-  pub place-last : number ring (laid (placed (lookup 17) 0 ∷ [])) (Take 0) ≡ 0
+  pub place-past : number ring lookup17 (Take 1) ≡ 1
+  pub place-last : number ring (laid (placed (noLegalRoute 17) 0 ∷ [])) (Take 0) ≡ 5
+  pub deliver-past : number ring lookup17 (Deliver 1) ≡ 1
+  pub deliver-last : number ring lookup17 (Deliver 0) ≡ 0
+  pub forward-past : number ring lookup17 (Forward 1) ≡ 1
+  pub forward-last : number ring (laid (placed (lookup 65) 0 ∷ [])) (Forward 0) ≡ 0
 
 -- ---- a request made twice
 
@@ -84,6 +92,16 @@ pub record Repeats : Type 0 where
   pub lookup-elsewhere : number ring (laid (placed (lookup 200) 1 ∷ [])) (Lookup 0 200) ≡ 0
   pub join-waits : number alone (laid (placed (joinRequest 0 0) 3 ∷ [])) (Join 0 1) ≡ 3
   pub join-of-another : number alone (laid (placed (joinRequest 2 0) 3 ∷ [])) (Join 0 1) ≡ 0
+
+-- ---- a lookup is delivered or forwarded, and not taken
+
+pub record Pair : Type 0 where
+  pub not-taken : number ring lookup17 (Take 0) ≡ 5
+  pub not-forwarded : number ring lookup17 (Forward 0) ≡ 5
+  pub not-delivered : number ring (laid (placed (lookup 65) 0 ∷ [])) (Deliver 0) ≡ 5
+  -- 5 for another kind at a dead node, where a Lookup gets 2
+  pub another-kind : (number alone (laid (placed (joinRequest 0 0) 3 ∷ [])) (Deliver 0) ≡ 5) × (number alone (laid (placed (lookup 17) 3 ∷ [])) (Deliver 0) ≡ 2)
+  pub another-on : (number alone (laid (placed (joinRequest 0 0) 3 ∷ [])) (Forward 0) ≡ 5) × (number alone (laid (placed (lookup 17) 3 ∷ [])) (Forward 0) ≡ 2)
 
 -- ---- what waits afterwards
 
@@ -104,15 +122,15 @@ one = record { count = 1; places = lay (placed (lookup 17) 0 ∷ placed (lookup 
 
 pub record Waits : Type 0 where
   -- it is that message which goes, at its destination, and the gap is closed
-  pub middle : keys (stepOf ring three 256 (Take 1)) ≡ 17 ∷ 65 ∷ []
-  pub that-one : number ring (laid (placed (lookup 17) 0 ∷ placed (noLegalRoute 17) 0 ∷ [])) (Take 1) ≡ 5
-  pub destination : asked ring three (Take 2) .slot ≡ 2
+  pub middle : keys (stepOf ring three 256 (Deliver 1)) ≡ 17 ∷ 65 ∷ []
+  pub that-one : number ring (laid (placed (lookup 17) 0 ∷ placed (noLegalRoute 17) 0 ∷ [])) (Deliver 1) ≡ 5
+  pub destination : (asked ring three (Take 2) .slot ≡ 2) × (asked ring three (Deliver 2) .slot ≡ 2) × (asked ring three (Forward 2) .slot ≡ 2)
   -- 65 is routed from 17 to 95; where an equal waits there, nothing is added
-  pub routed : dests (stepOf ring (laid (placed (lookup 65) 0 ∷ placed (lookup 18) 1 ∷ [])) 256 (Take 0)) ≡ 1 ∷ 3 ∷ []
-  pub equal : dests (stepOf ring (laid (placed (lookup 65) 0 ∷ placed (lookup 65) 3 ∷ [])) 256 (Take 0)) ≡ 3 ∷ []
+  pub routed : dests (stepOf ring (laid (placed (lookup 65) 0 ∷ placed (lookup 18) 1 ∷ [])) 256 (Forward 0)) ≡ 1 ∷ 3 ∷ []
+  pub equal : dests (stepOf ring (laid (placed (lookup 65) 0 ∷ placed (lookup 65) 3 ∷ [])) 256 (Forward 0)) ≡ 3 ∷ []
   -- what is added goes to the end, and places past the count are blank
   pub added-last : stepOf ring one 256 (Lookup 2 65) .pool ≡ laid (placed (lookup 17) 0 ∷ placed (lookup 65) 2 ∷ [])
-  pub taken-last : stepOf ring one 256 (Take 0) .pool ≡ laid []
+  pub taken-last : stepOf ring one 256 (Deliver 0) .pool ≡ laid []
   -- a refused step leaves all 256 places as they were
   pub refused-same : stepOf ring one 256 (Lookup 4 0) .pool ≡ one
 
@@ -128,12 +146,13 @@ pub record Fills : Type 0 where
   pub one-more : acted (filled 255) (Lookup 0 18) ≡ 6
   pub the-last : acted (filled 254) (Lookup 0 18) ≡ 0
   -- the message taken is away first
-  pub one-for-one : acted (filled 255) (Take 0) ≡ 0
+  pub one-for-one : acted (filled 255) (Forward 0) ≡ 0
 
 pub record StepCases : Type 0 where
   pub ordered : Ordered
   pub ranges : Ranges
   pub repeats : Repeats
+  pub pair : Pair
   pub waits-after : Waits
   pub fills : Fills
 
@@ -142,8 +161,8 @@ unfolding fallOf signedOf absDistOf risesTo nearer leftCoverOf rightCoverOf cove
     without addOf removeOf sizeOf lowestOf listed best closest contentOf seenFrom leafWith leafWithOne overlaps isComplete isEmpty
     coversOf leafCandidates routeCandidates byLeaf leafHop routeHop nextHop alike allDifferent firstFrom firstEqual added removedAt
     sentTo numbersFit idFits sideFits leafFits othersFit nodeFits isBlank slotFits wordFits flagFits carriedFits ownerFits routingFits
-    failedFits fieldsFit messageFits mailed waits joinWaits planLookup planJoin planLeaseExpired planGrantExpired leasePlan planRequestLease isNeighbour planTakeLookup
-    planTakeJoinRequest planTakeJoinReply probes2 probesOf probePlanOf planTakeProbe statusAfterReply replyPlanOf planTakeProbeReply
+    failedFits fieldsFit messageFits mailed waits joinWaits planLookup planJoin planLeaseExpired planGrantExpired leasePlan planRequestLease isNeighbour
+    planDeliver planForward planTakeJoinRequest planTakeJoinReply probes2 probesOf probePlanOf planTakeProbe statusAfterReply replyPlanOf planTakeProbeReply
     planTakeLeaseRequest broadcastPlan planTakeBroadcast planTake slotIds slotsTo startNode startNodes startFits idsRise listFits
     startOf nodesFit messagesFit poolFits validOf carriedOut settle deadSet isSound stepOf
 step-cases =
@@ -164,12 +183,17 @@ step-cases =
         grant-last = refl;
         place-past = refl;
         place-last = refl;
+        deliver-past = refl;
+        deliver-last = refl;
+        forward-past = refl;
+        forward-last = refl;
       };
       repeats = record { lookup-waits = refl; lookup-elsewhere = refl; join-waits = refl; join-of-another = refl };
+      pair = record { not-taken = refl; not-forwarded = refl; not-delivered = refl; another-kind = (refl, refl); another-on = (refl, refl) };
       waits-after = record {
         middle = refl;
         that-one = refl;
-        destination = refl;
+        destination = (refl, refl, refl);
         routed = refl;
         equal = refl;
         added-last = refl;

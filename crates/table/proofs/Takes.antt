@@ -28,7 +28,7 @@ use Rattle.rules.specs.Pool.{blank}
 use Rattle.rules.specs.Take.{joinReplyPlan, failedWithout, probes2, probesOf, learntNode, probePlanOf, replyPlanOf}
 use Rattle.rules.specs.Actions.{isBeside}
 use Rattle.rules.specs.Take.{grantPlan, broadcastPlan}
-use Rattle.rules.specs.Take.{planTakeLookup, planTakeJoinRequest, planTakeJoinReply, planTakeProbe, planTakeProbeReply}
+use Rattle.rules.specs.Take.{planDeliver, planForward, planTakeJoinRequest, planTakeJoinReply, planTakeProbe, planTakeProbeReply}
 use Rattle.rules.specs.Take.{planTakeLeaseRequest, planTakeBroadcast, planTake}
 use Rattle.rules.proofs.Leaf.{content-listed, leaf-fits, leaf-one-fits}
 use Rattle.rules.proofs.Hops.{hop-listed}
@@ -36,7 +36,7 @@ use Rattle.table.proofs.Nodes.{LeafRules, OtherRules, NodeRules, leaf-r
 use Rattle.table.proofs.Obeys.{Obeys}
 use Rattle.table.proofs.Letters.{lookup-fits, joinRequest-fits, joinReply-fits, lsProbe-fits, lsProbeReply-fits}
 use Rattle.table.proofs.Letters.{noLegalRoute-fits, broadcast-fits}
-use Rattle.table.proofs.Comes.{by-take-lookup, by-take-join-request, by-take-join-reply, by-take-probe, by-take-probe-reply}
+use Rattle.table.proofs.Comes.{by-deliver, by-forward, by-take-join-request, by-take-join-reply, by-take-probe, by-take-probe-reply}
 use Rattle.table.proofs.Comes.{by-take-lease-request, by-take-broadcast, by-take}
 use Rattle.table.proofs.Plans.{Fits, FinePlan, FinePlanned, none-to, one-to, quiet-fine, send-fine, leases-rules}
 
@@ -95,10 +95,13 @@ module _ {g : Ring} {ids : List ℕ} (l : Listed g ids) {i : ℕ} (hi : i < g .n
 
   -- ---- 1 Lookup
 
-  pub fine-take-lookup : (dead k : ℕ) → k < 2 ^ g .m → FinePlanned g i v (planTakeLookup g ids dead i v k)
-  fine-take-lookup dead k hk =
-      by-take-lookup g ids dead i v k tt (quiet-fine refl r)
-      (λ h e. send-fine refl r (lookup-fits g h (hop-in dead k h e) k hk)) (λ _. send-fine refl r (noLegalRoute-fits g i hi k hk))
+  pub fine-deliver : (kind k : ℕ) → FinePlanned g i v (planDeliver kind g ids i v k)
+  fine-deliver kind k = by-deliver kind g ids i v k (λ _. tt) tt (quiet-fine refl r)
+
+  pub fine-forward : (kind dead k : ℕ) → (kind ≡ 1 → k < 2 ^ g .m) → FinePlanned g i v (planForward kind g ids dead i v k)
+  fine-forward kind dead k hk =
+      by-forward kind g ids dead i v k (λ _. tt) tt (λ is h e. send-fine refl r (lookup-fits g h (hop-in dead k h e) k (hk is)))
+      (λ is _. send-fine refl r (noLegalRoute-fits g i hi k (hk is)))
 
   -- ---- 2 JoinRequest
 
@@ -256,7 +259,7 @@ module _ {g : Ring} {ids : List ℕ} (l : Listed g ids) {i : ℕ} (hi : i < g .n
   pub fine-take : (dead : ℕ) {m : Message} → Obeys g m → FinePlanned g i v (planTake (m .kind) g ids dead i v m)
   fine-take dead {m} o =
       by-take (m .kind) g ids dead i v m (o .kind-low) (o .kind-high)
-      (λ e. fine-take-lookup dead (m .word) (o .key-in (ap hasKey e)))
+      (λ _. tt)
       (λ e. fine-take-join-request dead (m .word) (m .routing) (o .node-in (ap hasNode e)) (o .routing-listed))
       (λ e. fine-take-join-reply m (o .owner-in (ap hasLeaf e)) (o .carried-fits (ap hasLeaf e)) (o .routing-listed))
       (λ e. fine-take-probe m (o .node-in (ap hasNode e)))

@@ -7,7 +7,7 @@ use lib.Dec.{eqb, ltb}
 use Rattle.marks.specs.declared.Found.{Found}
 use Rattle.marks.specs.declared.Found.the-variants.{At, Nothing}
 use Rattle.rules.specs.declared.Action.{Action}
-use Rattle.rules.specs.declared.Action.the-variants.{Lookup, Join, RequestLease, LeaseExpired, GrantExpired, Take}
+use Rattle.rules.specs.declared.Action.the-variants.{Lookup, Join, RequestLease, LeaseExpired, GrantExpired, Take, Deliver, Forward}
 use Rattle.rules.specs.declared.Message.{Message}
 use Rattle.rules.specs.declared.Planned.{Planned}
 use Rattle.rules.specs.declared.Pool.{Pool}
@@ -18,7 +18,7 @@ use Rattle.rules.specs.Limits.{messagesHigh}
 use Rattle.rules.specs.Mail.{removedAt}
 use Rattle.rules.specs.Nodes.{placed}
 use Rattle.rules.specs.Pool.{waiting, messageAt}
-use Rattle.rules.specs.Take.{planTake}
+use Rattle.rules.specs.Take.{planTake, planDeliver, planForward}
 use Rattle.table_type.specs.declared.Stepped.{Stepped}
 use Rattle.table_type.specs.declared.Table.{Table}
 use Rattle.table_type.specs.Table.{nodeAt, idsOf, ringOf}
@@ -66,6 +66,13 @@ takes p place plan =
 abbrev pub takenOf : Table → Message → Planned
 takenOf t m = planTake (m .kind) (ringOf t) (idsOf t) (deadSet t) (m .dest) (nodeAt t (m .dest)) m
 
+-- and Deliver and Forward
+abbrev pub deliveredOf : Table → Message → Planned
+deliveredOf t m = planDeliver (m .kind) (ringOf t) (idsOf t) (m .dest) (nodeAt t (m .dest)) (m .word)
+
+abbrev pub forwardedOf : Table → Message → Planned
+forwardedOf t m = planForward (m .kind) (ringOf t) (idsOf t) (deadSet t) (m .dest) (nodeAt t (m .dest)) (m .word)
+
 -- ---- what each action asks
 
 abbrev pub asked : Table → Pool → Action → Asked
@@ -77,6 +84,8 @@ asked t p (RequestLease i) = acts t i true (planRequestLease (ringOf t) (idsOf t
 asked t p (LeaseExpired i j) = acts t i (isSlot t j) (planLeaseExpired (ringOf t) (idsOf t) i (nodeAt t i) j)
 asked t p (GrantExpired i j) = acts t i (isSlot t j) (planGrantExpired i (nodeAt t i) j (nodeAt t j))
 asked t p (Take place) = takes p place (takenOf t)
+asked t p (Deliver place) = takes p place (deliveredOf t)
+asked t p (Forward place) = takes p place (forwardedOf t)
 
 -- ---- the step
 
