@@ -10,7 +10,7 @@ ghost use Rattle.rules.specs.Fits.{messageFits};
 ghost use Rattle.rules.specs.Take.{planTake};
 ghost use Rattle.table_type.specs.declared.Table.{Table};
 ghost use Rattle.table_type.specs.Table.{idsOf, nodeAt, ringOf};
-ghost use Rattle.table.specs.Step.{takenOf};
+ghost use Rattle.table.specs.Step.{takenOf, deliveredOf, forwardedOf};
 ghost use Rattle.table.specs.Step.{asked as askedOf};
 ghost use Rattle.table_plan.specs.InnerAsked.{Called, Read, Asks, requestsOf, actsOf, takesOf, slotWith};
 use rules::Action;
@@ -38,7 +38,6 @@ fn plan_take(g: Ring, ids: &[u32; 64], dead: u64, i: usize, v: Node, m: Message)
 {
     let kind = m.kind;
     match kind {
-        1 => plan_route::plan_take_lookup(g, ids, dead, i, v, m.word),
         2 => plan_route::plan_take_join_request(g, ids, dead, i, v, m.word, m.routing),
         3 => plan_probe::plan_take_join_reply(g, ids, i, v, m),
         4 => plan_probe::plan_take_probe(g, ids, i, v, m),
@@ -58,6 +57,27 @@ fn plan_of_take(t: Table, m: Message) -> Planned
     let ids = table_type::ids(t);
     let dead = table_settled::dead_set(t);
     plan_take(table_type::ring_of(t), &ids, dead, i, v, m)
+}
+
+fn plan_of_deliver(t: Table, m: Message) -> Planned
+    requires { ⌜ Listed (ringOf t) (idsOf t) × (m .dest < t .n) × (messageFits (ringOf t) m ≡ true) ⌝ }
+    ensures { λ r. ⌜ r ≡ deliveredOf t m ⌝ }
+{
+    let i = m.dest as usize;
+    let v = table_type::node_at(t, i);
+    let ids = table_type::ids(t);
+    plan_route::plan_deliver(m.kind, table_type::ring_of(t), &ids, i, v, m.word)
+}
+
+fn plan_of_forward(t: Table, m: Message) -> Planned
+    requires { ⌜ Listed (ringOf t) (idsOf t) × (m .dest < t .n) × (messageFits (ringOf t) m ≡ true) ⌝ }
+    ensures { λ r. ⌜ r ≡ forwardedOf t m ⌝ }
+{
+    let i = m.dest as usize;
+    let v = table_type::node_at(t, i);
+    let ids = table_type::ids(t);
+    let dead = table_settled::dead_set(t);
+    plan_route::plan_forward(m.kind, table_type::ring_of(t), &ids, dead, i, v, m.word)
 }
 
 fn plan_of_lookup(t: Table, there: bool, i: usize, k: u64) -> Planned
@@ -151,6 +171,8 @@ pub fn asked(m: u32, n: usize, count: usize, a: Action) -> Asking
         Action::LeaseExpired(i, j) => acts(n, i, j < n),
         Action::GrantExpired(i, j) => acts(n, i, j < n),
         Action::Take(place) => takes(count, place),
+        Action::Deliver(place) => takes(count, place),
+        Action::Forward(place) => takes(count, place),
     }
 }
 
@@ -193,5 +215,7 @@ pub fn planned(t: Table, there: bool, m: Message, a: Action) -> Planned
         Action::LeaseExpired(i, j) => plan_of_lease(t, i, j),
         Action::GrantExpired(i, j) => plan_of_grant(t, i, j),
         Action::Take(_) => plan_of_take(t, m),
+        Action::Deliver(_) => plan_of_deliver(t, m),
+        Action::Forward(_) => plan_of_forward(t, m),
     }
 }

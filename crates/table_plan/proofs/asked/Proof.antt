@@ -7,7 +7,7 @@ use native.Mathlib.Nat.{one-mul}
 use native.Mathlib.Omega.{arith}
 use lib.Dec.{ltb, lit<}
 use lib.Pow.{shl-exact}
-use Rattle.table.specs.Step.{takenOf}
+use Rattle.table.specs.Step.{takenOf, deliveredOf, forwardedOf}
 use Rattle.table_plan.proofs.Asks.{requests-asks, acts-asks, takes-asks, lookup-fresh, join-fresh}
 use Rattle.table_plan.proofs.asked.Statement.{statement}
 use Rattle.table_plan.proofs.asked.Tie as tie
@@ -55,6 +55,18 @@ enum-known-a-6 c = search needs
 takes-requires : tie.Need-takes-requires
 takes-requires c κs = search needs
 
+enum-known-a-7 : tie.Need-enum-known-a-7
+enum-known-a-7 c = search needs
+
+takes-requires-2 : tie.Need-takes-requires-2
+takes-requires-2 c κs = search needs
+
+enum-known-a-8 : tie.Need-enum-known-a-8
+enum-known-a-8 c = search needs
+
+takes-requires-3 : tie.Need-takes-requires-3
+takes-requires-3 c κs = search needs
+
 returns : tie.Need-returns
 returns c =
     rw (c .requests .ensures, c .before .before .a .given .1, size _ (c .before .before .before .before .pre))
@@ -77,6 +89,12 @@ returns-5 c = rw (c .acts3 .ensures, c .before .before .a5 .given .1) (acts-asks
 returns-6 : tie.Need-returns-6
 returns-6 c = rw (c .takes .ensures, c .before .before .a6 .given .1) (takes-asks _ _ _ _ _ takenOf (λ t p. refl))
 
+returns-7 : tie.Need-returns-7
+returns-7 c = rw (c .takes2 .ensures, c .before .before .a7 .given .1) (takes-asks _ _ _ _ _ deliveredOf (λ t p. refl))
+
+returns-8 : tie.Need-returns-8
+returns-8 c = rw (c .takes3 .ensures, c .before .before .a8 .given .1) (takes-asks _ _ _ _ _ forwardedOf (λ t p. refl))
+
 pub asked-spec : {M : Type 1} → statement M
 asked-spec =
     tie.close
@@ -94,9 +112,15 @@ asked-spec =
     acts-requires-3
     enum-known-a-6
     takes-requires
+    enum-known-a-7
+    takes-requires-2
+    enum-known-a-8
+    takes-requires-3
     returns
     returns-2
     returns-3
     returns-4
     returns-5
-    returns-6)
+    returns-6
+    returns-7
+    returns-8)

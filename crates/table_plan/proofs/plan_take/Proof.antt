@@ -14,23 +14,17 @@ use Rattle.rules.specs.declared.Message.{Message}
 use Rattle.rules.specs.declared.Planned.{Planned}
 use Rattle.rules.specs.declared.Planned.the-variants.{No}
 use Rattle.rules.specs.declared.Refusal.the-variants as no
-use Rattle.rules.specs.Fits.{hasKey, hasNode}
+use Rattle.rules.specs.Fits.{hasNode}
 use Rattle.rules.specs.Take.{planTake}
 use Rattle.table.proofs.Obeys.{obeys}
 use Rattle.table_plan.proofs.plan_take.Statement.{statement}
 use Rattle.table_plan.proofs.plan_take.Tie as tie
 
-plan-take-lookup-requires : tie.Need-plan-take-lookup-requires
-plan-take-lookup-requires c κs =
-    let s = c .before in
-    let n = s .pre .0 .n-high in
-    (s .pre .0, omega (arith, s .pre .1), obeys _ _ (s .pre .2) .key-in (ap hasKey (c .match .keys1)))
-
 plan-take-join-request-requires : tie.Need-plan-take-join-request-requires
 plan-take-join-request-requires c κs =
     let s = c .before in
     let n = s .pre .0 .n-high in
-    let j = obeys _ _ (s .pre .2) .node-in (ap hasNode (c .match .keys2)) in
+    let j = obeys _ _ (s .pre .2) .node-in (ap hasNode (c .match .keys1)) in
     (s .pre .0, omega (arith, s .pre .1), omega (arith, j))
 
 plan-take-join-reply-requires : tie.Need-plan-take-join-reply-requires
@@ -57,53 +51,49 @@ by c k = let a = c .args in planTake k (a .g) (a .ids .now) (a .dead) (a .i) (a 
 
 returns : tie.Need-returns
 unfolding planTake
-returns c = c .plan-take-lookup .ensures ∙ sym (ap (by (c .before .before)) (c .before .match .keys1))
+returns c = c .plan-take-join-request .ensures ∙ sym (ap (by (c .before .before)) (c .before .match .keys1))
 
 returns-2 : tie.Need-returns-2
 unfolding planTake
-returns-2 c = c .plan-take-join-request .ensures ∙ sym (ap (by (c .before .before)) (c .before .match .keys2))
+returns-2 c = c .plan-take-join-reply .ensures ∙ sym (ap (by (c .before .before)) (c .before .match .keys2))
 
 returns-3 : tie.Need-returns-3
 unfolding planTake
-returns-3 c = c .plan-take-join-reply .ensures ∙ sym (ap (by (c .before .before)) (c .before .match .keys3))
+returns-3 c = c .plan-take-probe .ensures ∙ sym (ap (by (c .before .before)) (c .before .match .keys3))
 
 returns-4 : tie.Need-returns-4
 unfolding planTake
-returns-4 c = c .plan-take-probe .ensures ∙ sym (ap (by (c .before .before)) (c .before .match .keys4))
+returns-4 c = c .plan-take-probe-reply .ensures ∙ sym (ap (by (c .before .before)) (c .before .match .keys4))
 
 returns-5 : tie.Need-returns-5
 unfolding planTake
-returns-5 c = c .plan-take-probe-reply .ensures ∙ sym (ap (by (c .before .before)) (c .before .match .keys5))
+returns-5 c = c .plan-take-lease-request .ensures ∙ sym (ap (by (c .before .before .before)) (c .before .before .match .keys5))
 
 returns-6 : tie.Need-returns-6
 unfolding planTake
-returns-6 c = c .plan-take-lease-request .ensures ∙ sym (ap (by (c .before .before .before)) (c .before .before .match .keys6))
-
-returns-7 : tie.Need-returns-7
-unfolding planTake
-returns-7 c = c .plan-take-broadcast .ensures ∙ sym (ap (by (c .before .before)) (c .before .match .keys7))
+returns-6 c = c .plan-take-broadcast .ensures ∙ sym (ap (by (c .before .before)) (c .before .match .keys6))
 
 either : (b : Bool) (x : Planned) → x ≡ cond b x x
 either true x = refl
 either false x = refl
 
 -- no other kind has a plan
-none : (k : ℕ) (g : Ring) (ids : List ℕ) (dead i : ℕ) (v : Node) (m : Message) → (k ≡ 1 → ⊥) → (k ≡ 2 → ⊥) → (k ≡ 3 → ⊥) → (k ≡ 4 → ⊥) → (k ≡ 5 → ⊥)
+none : (k : ℕ) (g : Ring) (ids : List ℕ) (dead i : ℕ) (v : Node) (m : Message) → (k ≡ 2 → ⊥) → (k ≡ 3 → ⊥) → (k ≡ 4 → ⊥) → (k ≡ 5 → ⊥)
     → (k ≡ 7 → ⊥) → (k ≡ 8 → ⊥) → No no.Partner ≡ planTake k g ids dead i v m
 unfolding planTake
-none k g ids dead i v m a b c d e f h =
-    rw (ne-eqb k 1 a, ne-eqb k 2 b, ne-eqb k 3 c, ne-eqb k 4 d, ne-eqb k 5 e, ne-eqb k 7 f, ne-eqb k 8 h) (either (eqb k 6) (No no.Partner))
+none k g ids dead i v m b c d e f h =
+    rw (ne-eqb k 2 b, ne-eqb k 3 c, ne-eqb k 4 d, ne-eqb k 5 e, ne-eqb k 7 f, ne-eqb k 8 h)
+    (rw (← either (eqb k 6) (No no.Partner)) (either (eqb k 1) (No no.Partner)))
 
-returns-8 : tie.Need-returns-8
-returns-8 c =
+returns-7 : tie.Need-returns-7
+returns-7 c =
     let r = c .match .rest in
-    none _ _ _ _ _ _ _ (r .0 .0 .0 .0 .0 .0 .1) (r .0 .0 .0 .0 .0 .1) (r .0 .0 .0 .0 .1) (r .0 .0 .0 .1) (r .0 .0 .1) (r .0 .1) (r .1)
+    none _ _ _ _ _ _ _ (r .0 .0 .0 .0 .0 .1) (r .0 .0 .0 .0 .1) (r .0 .0 .0 .1) (r .0 .0 .1) (r .0 .1) (r .1)
 
 pub plan-take-spec : {M : Type 1} → statement M
 plan-take-spec =
     tie.close
     (tie.spec
-    plan-take-lookup-requires
     plan-take-join-request-requires
     plan-take-join-reply-requires
     plan-take-probe-requires
@@ -117,5 +107,4 @@ plan-take-spec =
     returns-4
     returns-5
     returns-6
-    returns-7
-    returns-8)
+    returns-7)

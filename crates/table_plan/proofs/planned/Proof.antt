@@ -2,12 +2,18 @@
 use borrow.Author.Needs.{needs}
 use mathlib.Core.Path.{_≡_, refl, sym, _∙_, ap, subst}
 use Rattle.marks.proofs.Bools.{and-left}
+use mathlib.Core.Bool.{true}
+use Prim.Native.Nat.{ℕ, _<_}
+use Rattle.marks.specs.declared.Found.the-variants.{At}
 use Rattle.rules.specs.declared.Action.{Action}
 use Rattle.rules.specs.declared.Planned.{Planned}
 use Rattle.rules.specs.declared.Pool.{Pool}
-use Rattle.table.specs.Step.{takenOf, asked}
+use Rattle.rules.specs.Fits.{messageFits}
+use Rattle.rules.specs.InnerAsks.{Listed}
+use Rattle.table_type.specs.Table.{idsOf, ringOf}
+use Rattle.table.specs.Step.{takenOf, deliveredOf, forwardedOf, asked}
 use Rattle.table_plan.specs.InnerAsked.{Called, Read}
-use Rattle.table_plan.proofs.Called.{is-listed, low, slot-low, key-low, taken-obeys}
+use Rattle.table_plan.proofs.Called.{is-listed, low, slot-low, key-low, gone-obeys}
 use Rattle.table_plan.proofs.planned.Statement.{statement}
 use Rattle.table_plan.proofs.planned.Tie as tie
 
@@ -17,6 +23,14 @@ called c b e = subst (Called (c .args .t) (c .pre .0)) e (c .pre .1)
 read : (c : tie.Start) (p : Pool) (b : Action) → c .args .a ≡ b → Read (c .args .t) p (c .args .a) (c .args .m)
     → Read (c .args .t) p b (c .args .m)
 read c p b e r = subst (λ (a : Action). Read (c .args .t) p a (c .args .m)) e r
+
+-- an action that takes the message of a place
+handed : (c : tie.Start) (b : Action) (place : ℕ) → asked (c .args .t) (c .pre .0) b .gone ≡ At place → c .args .a ≡ b
+    → Listed (ringOf (c .args .t)) (idsOf (c .args .t)) × (c .args .m .dest < c .args .t .n) × (messageFits (ringOf (c .args .t)) (c .args .m) ≡ true)
+handed c b place g e =
+    let k = called c b e in
+    let o = gone-obeys k g (read c (c .pre .0) b e (c .pre .2) .is place g) in
+    (is-listed k, o .0, o .1)
 
 abbrev plan : (c : tie.Start) → Pool → Action → Planned
 plan c p b = asked (c .args .t) p b .plan (c .args .there)
@@ -59,11 +73,19 @@ enum-told : tie.Need-enum-told
 enum-told c = search needs
 
 plan-of-take-requires : tie.Need-plan-of-take-requires
-plan-of-take-requires c κs =
-    let s = c .before .before in
-    let k = called s _ (c .enum-told .given .1) in
-    let o = taken-obeys k (read s (s .pre .0) _ (c .enum-told .given .1) (s .pre .2) .is _ refl) in
-    (is-listed k, o .0, o .1)
+plan-of-take-requires c κs = handed (c .before .before) _ _ refl (c .enum-told .given .1)
+
+enum-told-2 : tie.Need-enum-told-2
+enum-told-2 c = search needs
+
+plan-of-deliver-requires : tie.Need-plan-of-deliver-requires
+plan-of-deliver-requires c κs = handed (c .before .before) _ _ refl (c .enum-told2 .given .1)
+
+enum-told-3 : tie.Need-enum-told-3
+enum-told-3 c = search needs
+
+plan-of-forward-requires : tie.Need-plan-of-forward-requires
+plan-of-forward-requires c κs = handed (c .before .before) _ _ refl (c .enum-told3 .given .1)
 
 returns : tie.Need-returns
 returns c = λ p r.
@@ -87,6 +109,18 @@ returns-6 c = λ p r.
     let e = c .before .enum-told .given .1 in
     c .plan-of-take .ensures ∙ ap (takenOf (s .args .t)) (sym (read s p _ e r .is _ refl)) ∙ ap (plan s p) (sym e)
 
+returns-7 : tie.Need-returns-7
+returns-7 c = λ p r.
+    let s = c .before .before .before in
+    let e = c .before .enum-told2 .given .1 in
+    c .plan-of-deliver .ensures ∙ ap (deliveredOf (s .args .t)) (sym (read s p _ e r .is _ refl)) ∙ ap (plan s p) (sym e)
+
+returns-8 : tie.Need-returns-8
+returns-8 c = λ p r.
+    let s = c .before .before .before in
+    let e = c .before .enum-told3 .given .1 in
+    c .plan-of-forward .ensures ∙ ap (forwardedOf (s .args .t)) (sym (read s p _ e r .is _ refl)) ∙ ap (plan s p) (sym e)
+
 pub planned-spec : {M : Type 1} → statement M
 planned-spec =
     tie.close
@@ -103,9 +137,15 @@ planned-spec =
     plan-of-grant-requires
     enum-told
     plan-of-take-requires
+    enum-told-2
+    plan-of-deliver-requires
+    enum-told-3
+    plan-of-forward-requires
     returns
     returns-2
     returns-3
     returns-4
     returns-5
-    returns-6)
+    returns-6
+    returns-7
+    returns-8)

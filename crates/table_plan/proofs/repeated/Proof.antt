@@ -14,7 +14,7 @@ use types.Run.{OneOf}
 use Rattle.marks.proofs.Bools.{and-left, and-right}
 use Rattle.rules.proofs.Action as Act
 use Rattle.rules.specs.declared.Action.{Action}
-use Rattle.rules.specs.declared.Action.the-variants.{Lookup, Join, RequestLease, LeaseExpired, GrantExpired, Take}
+use Rattle.rules.specs.declared.Action.the-variants.{Lookup, Join, RequestLease, LeaseExpired, GrantExpired, Take, Deliver, Forward}
 use Rattle.rules.specs.declared.Pool.{Pool}
 use Rattle.table_type.specs.declared.Table.{Table}
 use Rattle.table.specs.Step.{asked}
@@ -42,6 +42,8 @@ unasked t p (RequestLease i) h = refl
 unasked t p (LeaseExpired i j) h = refl
 unasked t p (GrantExpired i j) h = refl
 unasked t p (Take place) h = refl
+unasked t p (Deliver place) h = refl
+unasked t p (Forward place) h = refl
 
 called : (c : tie.Start) (b : Action) → c .args .a ≡ b → Called (c .pre .0) (c .args .p) b
 called c b e = subst (Called (c .pre .0) (c .args .p)) e (c .pre .1)
@@ -90,7 +92,7 @@ returns-2 c = λ t.
     c .join-waits .ensures ∙ ap (λ (a : Action). asked t (s .args .p) a .repeated) (sym (c .before .before .a2 .given .1))
 
 returns-3 : tie.Need-returns-3
-returns-3 c = λ t. unasked t (c .before .args .p) (c .before .args .a) (high 2 2 (3 ∷ 4 ∷ 5 ∷ []) _ refl (c .match .keys3))
+returns-3 c = λ t. unasked t (c .before .args .p) (c .before .args .a) (high 2 2 (3 ∷ 4 ∷ 5 ∷ 6 ∷ 7 ∷ []) _ refl (c .match .keys3))
 
 pub repeated-spec : {M : Type 1} → statement M
 repeated-spec =
