@@ -1,4 +1,4 @@
--- In a settled table a lookup at a ready node, alone for its key, is delivered at the ready node nearest its key. Each Take is done; where
+-- In a settled table a lookup at a ready node, alone for its key, is delivered at the ready node nearest its key. Each Forward is done, and the Deliver; where
 -- the node does not cover the key, the lookup goes to a ready node that is nearer, and nothing equal waits there. The measure: how many
 -- ready nodes are nearer than the holder; it falls with every routing and is below R. By induction on a bound of it. Assumes nothing.
 use mathlib.Core.Path.{_≡_, refl, sym, _∙_, ap, subst}
@@ -11,14 +11,15 @@ use lib.ListN.{getD, length, drop, length-append, drop-of-length-le}
 use lib.Seq.{take-append-seam}
 use Rattle.ring.specs.Distance.{nearer}
 use Rattle.ring.proofs.Order.{nearer-transitive, nearer-irreflexive}
-use Rattle.marks.proofs.Bools.{bool-false, and-left, and-right, and-both, and-fails-right, lt-or-le}
+use Rattle.marks.proofs.Bools.{opposed, bool-false, and-left, and-right, and-both, and-fails-right, lt-or-le}
 use Rattle.marks.specs.declared.Found.the-variants.{Nothing}
 use Rattle.marks.specs.Marks.{has, tally, sizeOf}
 use Rattle.marks.proofs.Laws.{tally-strict}
 use Rattle.rules.specs.declared.Hop.the-variants.{To}
 use Rattle.rules.specs.declared.Message.{Message}
 use Rattle.rules.specs.declared.Pool.{Pool}
-use Rattle.rules.specs.declared.Action.the-variants.{Take}
+use Rattle.rules.specs.declared.Action.the-variants.{Deliver, Forward}
+use Rattle.rules.specs.declared.Answer.the-variants.{Done}
 use Rattle.rules.specs.Letters.{lookup}
 use Rattle.rules.specs.Mail.{fieldsOf, alike, firstEqual, removedAt}
 use Rattle.rules.specs.Nodes.{placed}
@@ -31,15 +32,16 @@ use Rattle.table_type.specs.Table.{idsOf}
 use Rattle.table.specs.Settled.{readySet, isSettled}
 use Rattle.table.specs.Valid.{validOf}
 use Rattle.table.proofs.Sound.{Sound, sound}
+use Rattle.table.proofs.By.{step-done}
 use Rattle.table.proofs.Proved.{keeps-valid}
 use Rattle.lookup_laws.specs.Journey.{stepped, LookupAt, delivered, routed, fateOf, Delivers, here, on}
 use Rattle.lookup_laws.specs.Claims.{Nearer, Ready, Alone, SettledArrives}
 use Rattle.lookup_laws.proofs.Stands.{count-is}
 use Rattle.lookup_laws.specs.Fates.{others, coversAt, hopAt, Tracked}
-use Rattle.lookup_laws.proofs.Tracks.{key-in, tracked}
+use Rattle.lookup_laws.proofs.Tracks.{delivers, forwards, key-in, deliver-is, forward-is, tracked}
 use Rattle.lookup_laws.proofs.Joined.{ready-low}
 use Rattle.lookup_laws.proofs.Holder.{cover-nearest}
-use Rattle.lookup_laws.proofs.Taking.{take-done, fate-taken}
+use Rattle.lookup_laws.proofs.Taking.{deliver-done, forward-done, fate-delivered, fate-forwarded}
 use Rattle.lookup_laws.proofs.Hops.{hop-there, hop-ready}
 
 -- ---- nothing equal waits
@@ -122,22 +124,22 @@ module _ (t : Table) (s : isSettled t ≡ true) (k : ℕ) (hk : k < 2 ^ t .m) (y
   module _ (p : Pool) (q d : ℕ) (e : validOf t p ≡ true) (l : LookupAt p q k d) (r : Ready t d) (o : others p q ≡ ys) where
     ends : coversAt t d k ≡ true → Settles t k ys p q d
     ends c =
-        let fate : fateOf t p q (Take q) ≡ delivered = fate-taken t p q k d e l r ∙ rw c in
-        let told = subst (Tracked t p q k d (Take q)) fate (tracked t p q k d (Take q) e l) in
-        let arrived = rw (told .took .leaves, o) at (here l (take-done t p q k d e l r) fate) in
+        let fate : fateOf t p q (Deliver q) ≡ delivered = fate-delivered t p q k d e l r c in
+        let told = subst (Tracked t p q k d (Deliver q)) fate (tracked t p q k d (Deliver q) e l) in
+        let arrived = rw (told .took .leaves, o) at (here l (deliver-done t p q k d e l r c) fate) in
         record { hops = 0; end = d; delivers = arrived; few = omega arith; ready = r; covers = c }
 
     -- one routing more
-    one-more : (h place : ℕ) → fateOf t p q (Take q) ≡ routed h place → stepped t p (Take q) .table ≡ t
-        → nearerReady t k h < nearerReady t k d → Settles t k ys (stepped t p (Take q) .pool) place h → Settles t k ys p q d
-    one-more h place fate same falls after =
-        let next = stepped t p (Take q) .pool in
+    one-more : coversAt t d k ≡ false → (h place : ℕ) → fateOf t p q (Forward q) ≡ routed h place → stepped t p (Forward q) .table ≡ t
+        → nearerReady t k h < nearerReady t k d → Settles t k ys (stepped t p (Forward q) .pool) place h → Settles t k ys p q d
+    one-more c h place fate same falls after =
+        let next = stepped t p (Forward q) .pool in
         let rest =
         subst (λ (u : Table). Delivers k u next place (after .hops) (after .end) t (laid ys)) (sym same) (after .delivers) in
         record {
           hops = suc (after .hops);
           end = after .end;
-          delivers = on l (take-done t p q k d e l r) fate rest;
+          delivers = on l (forward-done t p q k d e l r c) fate rest;
           few = omega (arith, after .few);
           ready = after .ready;
           covers = after .covers;
@@ -148,16 +150,16 @@ module _ (t : Table) (s : isSettled t ≡ true) (k : ℕ) (hk : k < 2 ^ t .m) (y
         → Settles t k ys p q d
     goes h c to falls rest =
         let place = length (others p q) in
-        let next = stepped t p (Take q) in
+        let next = stepped t p (Forward q) in
         let none : firstEqual (others p q) (placed (lookup k) h) ≡ Nothing = rw o (without-found k h ys w) in
-        let fate : fateOf t p q (Take q) ≡ routed h place = fate-taken t p q k d e l r ∙ rw (c, to, none) in
-        let told = subst (Tracked t p q k d (Take q)) fate (tracked t p q k d (Take q) e l) in
+        let fate : fateOf t p q (Forward q) ≡ routed h place = fate-forwarded t p q k d e l r c ∙ rw (to, none) in
+        let told = subst (Tracked t p q k d (Forward q)) fate (tracked t p q k d (Forward q) e l) in
         let same : next .table ≡ t = ap (λ (x : Stepped). x .table) (told .took .leaves) in
-        let valid : validOf t (next .pool) ≡ true = rw same at (keeps-valid t p 256 (Take q) (take-done t p q k d e l r)) in
+        let valid : validOf t (next .pool) ≡ true = rw same at (keeps-valid t p 256 (Forward q) (forward-done t p q k d e l r c)) in
         let left : others (next .pool) place ≡ ys =
         ap (λ (x : Stepped). others (x .pool) place) (told .took .leaves)
         ∙ rw (waiting-laid (others p q ++ (placed (lookup k) h ∷ []))) (last-removed (others p q) (placed (lookup k) h) ∙ o) in
-        one-more h place fate same falls (rest (next .pool) place valid (told .now) left)
+        one-more c h place fate same falls (rest (next .pool) place valid (told .now) left)
 
   settles : (fuel : ℕ) (p : Pool) (q d : ℕ) → validOf t p ≡ true → LookupAt p q k d → Ready t d → others p q ≡ ys
       → nearerReady t k d < fuel → Settles t k ys p q d
@@ -189,21 +191,27 @@ settled-arrives t p q k d e s l r alone =
       nearest = cover-nearest v s k hk (j .end) (j .ready) (j .covers);
     }
 
--- ---- the journey is one: no other number of routings, slot, table or pool comes of the same Takes
+-- ---- the journey is one: no other number of routings, slot, table or pool comes of the same steps
 
 dest-same : {p : Pool} {q k d e : ℕ} → LookupAt p q k d → LookupAt p q k e → d ≡ e
 dest-same l i = ap (λ (m : Message). m .dest) (sym (l .is) ∙ i .is)
 
-never-both : {h i : ℕ} → delivered ≡ routed h i → ⊥
-never-both e = let z : _≡_ {A = ℕ} 0 1 = cc in omega arith
+-- Deliver and Forward of one lookup are not both done
+never-both : (t : Table) {p : Pool} {q k d : ℕ} → LookupAt p q k d → stepped t p (Deliver q) .answer ≡ Done
+    → stepped t p (Forward q) .answer ≡ Done → ⊥
+never-both t {p} {q} {k} {d} l a b =
+    let x = step-done t p 256 (Deliver q) a in
+    let y = step-done t p 256 (Forward q) b in
+    opposed (delivers t k d (x .0) (sym (deliver-is t p q k d (x .1 .sound) l) ∙ x .1 .plan) .covers)
+    (forwards t k d (y .0) (sym (forward-is t p q k d (y .1 .sound) l) ∙ y .1 .plan) .uncovered)
 
 pub delivers-one : {k : ℕ} {t u u′ : Table} {p r r′ : Pool} {q m m′ e e′ : ℕ} → Delivers k t p q m e u r → Delivers k t p q m′ e′ u′ r′
     → (m ≡ m′) × (e ≡ e′) × (u ≡ u′) × (r ≡ r′)
 delivers-one (here l a f) (here l′ a′ f′) = (refl, dest-same l l′, refl, refl)
-delivers-one (here l a f) (on l′ a′ f′ rest′) = absurd (never-both (sym f ∙ f′))
-delivers-one (on l a f rest) (here l′ a′ f′) = absurd (never-both (sym f′ ∙ f))
+delivers-one (here {t = t} l a f) (on l′ a′ f′ rest′) = absurd (never-both t l a a′)
+delivers-one (on {t = t} l a f rest) (here l′ a′ f′) = absurd (never-both t l a′ a)
 delivers-one {k = k} (on {t = t} {p = p} {q = q} {q′ = i} l a f rest) (on {u = w} {r = s} {q′ = j} {m = n} {e = g} l′ a′ f′ rest′) =
     let same : i ≡ j = cc in
-    let next = stepped t p (Take q) in
+    let next = stepped t p (Forward q) in
     let all = delivers-one rest (subst (λ (x : ℕ). Delivers k (next .table) (next .pool) x n g w s) (sym same) rest′) in
     (ap suc (all .0), all .1, all .2, all .3)

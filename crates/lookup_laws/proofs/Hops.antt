@@ -26,7 +26,7 @@ use Rattle.table.specs.Settled.{readySet, deadSet, isSettled}
 use Rattle.table.proofs.Sound.{Sound}
 use Rattle.lookup_laws.specs.Claims.{Nearer, Ready}
 use Rattle.lookup_laws.specs.Fates.{coversAt, hopAt}
-use Rattle.lookup_laws.proofs.Tracks.{holds, ready-is}
+use Rattle.lookup_laws.proofs.Tracks.{ready-is}
 use Rattle.lookup_laws.proofs.Routings.{hop-nearer}
 use Rattle.lookup_laws.proofs.Joined.{ready-low}
 use Rattle.lookup_laws.proofs.Holder.{dead-or-ready, settled-at, nextOf, next-ready, not-covered}

@@ -8,4 +8,5 @@ pub mod Hops
 pub mod Arrives
 pub mod Limits
 pub mod Unheld
+pub mod Pair
 pub mod Proved

@@ -18,7 +18,7 @@ use Rattle.rules.specs.declared.Way.the-variants.{Up, Down}
 use Rattle.rules.specs.declared.Node.{Node}
 use Rattle.rules.specs.declared.Pool.{Pool}
 use Rattle.rules.specs.declared.Action.{Action}
-use Rattle.rules.specs.declared.Action.the-variants.{LeaseExpired, Take}
+use Rattle.rules.specs.declared.Action.the-variants.{LeaseExpired, Deliver, Forward}
 use Rattle.rules.specs.declared.Refusal.the-variants as no
 use Rattle.rules.specs.declared.Answer.the-variants.{Refused}
 use Rattle.rules.specs.Actions.{isNeighbour, planLeaseExpired}
@@ -33,7 +33,7 @@ use Rattle.rules.specs.Nodes.{noNode, placed}
 use Rattle.rules.specs.Pick.{best}
 use Rattle.rules.specs.Plans.{isDead, isReady, mailed}
 use Rattle.rules.specs.Pool.{laid}
-use Rattle.rules.specs.Take.{planTakeLookup, planTake}
+use Rattle.rules.specs.Take.{planDeliver, planForward, planTake}
 use Rattle.table_type.specs.declared.Table.{Table}
 use Rattle.table_type.specs.declared.Stepped.{Stepped}
 use Rattle.table.specs.Settle.{doneOf, carriedOut, settle}
@@ -52,7 +52,7 @@ use Rattle.lookup_laws.specs.Joining.{leftAt, rightAt}
 unfoldable pub opened : Unit {0}
 unfolding validOf numbersFit nodesFit slotFits idFits nodeFits leafFits sideFits othersFit isBlank listed sizeOf tally has allTo poolFits
     messagesFit messageFits fieldsFit wordFits flagFits carriedFits ownerFits routingFits failedFits allDifferent alike fateOf
-    routings stepOf isSound settle carriedOut mailed sentTo planTake planTakeLookup planLeaseExpired isNeighbour coversOf seenFrom
+    routings stepOf isSound settle carriedOut mailed sentTo planTake planDeliver planForward planLeaseExpired isNeighbour coversOf seenFrom
     best coversKey leftCoverOf rightCoverOf fallOf nextHop byLeaf overlaps meet gather leafHop routeHop leafCandidates
     routeCandidates contentOf union addOf without removeOf nearer absDistOf signedOf risesTo deadSet readySet settledAt isSettled
     single firstEqual firstFrom added removedAt startOf startFits listFits idsRise slotIds startNodes startNode slotsTo
@@ -84,7 +84,7 @@ pub chain-valid : validOf chain (only 0 3) ≡ true
 unfolding chain opened
 chain-valid = refl
 
-pub chain-routings : routings chain (only 0 3) (Take 0 ∷ Take 0 ∷ Take 0 ∷ Take 0 ∷ []) 0 ≡ chain .n - 1
+pub chain-routings : routings chain (only 0 3) (Forward 0 ∷ Forward 0 ∷ Forward 0 ∷ Deliver 0 ∷ []) 0 ≡ chain .n - 1
 unfolding chain opened
 chain-routings = refl
 
@@ -100,11 +100,11 @@ pub pair-settled : isSettled pair ≡ true
 unfolding pair opened
 pair-settled = refl
 
-pub pair-goes : fateOf pair (only 2 0) 0 (Take 0) ≡ routed 1 0
+pub pair-goes : fateOf pair (only 2 0) 0 (Forward 0) ≡ routed 1 0
 unfolding pair opened
 pair-goes = refl
 
-pub pair-ends : fateOf pair (only 2 1) 0 (Take 0) ≡ delivered
+pub pair-ends : fateOf pair (only 2 1) 0 (Deliver 0) ≡ delivered
 unfolding pair opened
 pair-ends = refl
 
@@ -177,22 +177,32 @@ only-alone k d = λ r l apart one key. apart (omega arith)
 
 -- ---- what does not arrive
 
--- a fate from which the journey goes on
-abbrev goesOn : Fate → Bool
-goesOn (stays q) = false
-goesOn (routed h q) = true
-goesOn (met h q) = false
-goesOn delivered = true
-goesOn unroutable = false
+-- the fates with which a journey ends, and goes on
+abbrev ending : Fate → Bool
+ending (stays q) = false
+ending (routed h q) = false
+ending (met h q) = false
+ending delivered = true
+ending unroutable = false
 
-stuck : {k : ℕ} {t u : Table} {p r : Pool} {q m e : ℕ} → goesOn (fateOf t p q (Take q)) ≡ false → Delivers k t p q m e u r → ⊥
-stuck f (here l a e) = opposed (ap goesOn e) f
-stuck f (on l a e rest) = opposed (ap goesOn e) f
+abbrev going : Fate → Bool
+going (stays q) = false
+going (routed h q) = true
+going (met h q) = false
+going delivered = false
+going unroutable = false
 
-stuck-next : {k : ℕ} {t u : Table} {p r : Pool} {q m e : ℕ} (h i : ℕ) → fateOf t p q (Take q) ≡ routed h i
-    → goesOn (fateOf (stepped t p (Take q) .table) (stepped t p (Take q) .pool) i (Take i)) ≡ false → Delivers k t p q m e u r → ⊥
-stuck-next h i f g (here l a e) = let z : _≡_ {A = ℕ} 0 1 = cc in omega arith
-stuck-next h i f g (on {q′ = q′} l a e rest) = let same : i ≡ q′ = cc in stuck (rw same at g) rest
+stuck : {k : ℕ} {t u : Table} {p r : Pool} {q m e : ℕ} → ending (fateOf t p q (Deliver q)) ≡ false → going (fateOf t p q (Forward q)) ≡ false
+    → Delivers k t p q m e u r → ⊥
+stuck f g (here l a e) = opposed (ap ending e) f
+stuck f g (on l a e rest) = opposed (ap going e) g
+
+stuck-next : {k : ℕ} {t u : Table} {p r : Pool} {q m e : ℕ} (h i : ℕ) → ending (fateOf t p q (Deliver q)) ≡ false
+    → fateOf t p q (Forward q) ≡ routed h i
+    → ending (fateOf (stepped t p (Forward q) .table) (stepped t p (Forward q) .pool) i (Deliver i)) ≡ false
+    → going (fateOf (stepped t p (Forward q) .table) (stepped t p (Forward q) .pool) i (Forward i)) ≡ false → Delivers k t p q m e u r → ⊥
+stuck-next h i f to g g′ (here l a e) = opposed (ap ending e) f
+stuck-next h i f to g g′ (on {q′ = q′} l a e rest) = let same : i ≡ q′ = cc in stuck (rw same at g) (rw same at g′) rest
 
 -- valid, the lookup at a ready node and alone, and it does not arrive
 pub record Fails (t : Table) (k d : ℕ) : Type 0 where
@@ -211,19 +221,27 @@ one-waits-parts = refl
 
 one-waits-computes :
     (validOf one-waits (only 2 0) ≡ true) × Ready one-waits 0
-    × (fateOf one-waits (only 2 0) 0 (Take 0) ≡ routed 2 0)
+    × (fateOf one-waits (only 2 0) 0 (Deliver 0) ≡ stays 0) × (fateOf one-waits (only 2 0) 0 (Forward 0) ≡ routed 2 0)
 unfolding one-waits opened
-one-waits-computes = (refl, (omega arith, refl), refl)
+one-waits-computes = (refl, (omega arith, refl), refl, refl)
 
-one-waits-stays :
-    fateOf (stepped one-waits (only 2 0) (Take 0) .table) (stepped one-waits (only 2 0) (Take 0) .pool) 0 (Take 0) ≡ stays 0
+-- there
+abbrev waitsAt2 : Action → Fate
+waitsAt2 a = let s = stepped one-waits (only 2 0) (Forward 0) in fateOf (s .table) (s .pool) 0 a
+
+one-waits-stays : (waitsAt2 (Deliver 0) ≡ stays 0) × (waitsAt2 (Forward 0) ≡ stays 0)
 unfolding one-waits opened
-one-waits-stays = refl
+one-waits-stays = (refl, refl)
 
 pub one-waits-fails : Fails one-waits 2 0
 one-waits-fails =
     let c = one-waits-computes in
-    record { valid = c .0; ready = c .1; lost = λ a. stuck-next 2 0 (c .2) (ap goesOn one-waits-stays) (a .delivers) }
+    let n = one-waits-stays in
+    record {
+      valid = c .0;
+      ready = c .1;
+      lost = λ a. stuck-next 2 0 (ap ending (c .2)) (c .3) (ap ending (n .0)) (ap going (n .1)) (a .delivers);
+    }
 
 -- ---- the left neighbours: that of 1 is dead
 
@@ -236,14 +254,14 @@ left-wrong-parts = refl
 
 left-wrong-computes :
     (validOf left-wrong (only 0 1) ≡ true) × Ready left-wrong 1
-    × (fateOf left-wrong (only 0 1) 0 (Take 0) ≡ unroutable)
+    × (fateOf left-wrong (only 0 1) 0 (Deliver 0) ≡ stays 0) × (fateOf left-wrong (only 0 1) 0 (Forward 0) ≡ unroutable)
 unfolding left-wrong opened
-left-wrong-computes = (refl, (omega arith, refl), refl)
+left-wrong-computes = (refl, (omega arith, refl), refl, refl)
 
 pub left-wrong-fails : Fails left-wrong 0 1
 left-wrong-fails =
     let c = left-wrong-computes in
-    record { valid = c .0; ready = c .1; lost = λ a. stuck (ap goesOn (c .2)) (a .delivers) }
+    record { valid = c .0; ready = c .1; lost = λ a. stuck (ap ending (c .2)) (ap going (c .3)) (a .delivers) }
 
 -- ---- the right neighbours: that of 0 is dead
 
@@ -256,14 +274,14 @@ right-wrong-parts = refl
 
 right-wrong-computes :
     (validOf right-wrong (only 1 0) ≡ true) × Ready right-wrong 0
-    × (fateOf right-wrong (only 1 0) 0 (Take 0) ≡ unroutable)
+    × (fateOf right-wrong (only 1 0) 0 (Deliver 0) ≡ stays 0) × (fateOf right-wrong (only 1 0) 0 (Forward 0) ≡ unroutable)
 unfolding right-wrong opened
-right-wrong-computes = (refl, (omega arith, refl), refl)
+right-wrong-computes = (refl, (omega arith, refl), refl, refl)
 
 pub right-wrong-fails : Fails right-wrong 1 0
 right-wrong-fails =
     let c = right-wrong-computes in
-    record { valid = c .0; ready = c .1; lost = λ a. stuck (ap goesOn (c .2)) (a .delivers) }
+    record { valid = c .0; ready = c .1; lost = λ a. stuck (ap ending (c .2)) (ap going (c .3)) (a .delivers) }
 
 -- ---- no ready node in a ready node's failed: 0 holds 1 for failed
 
@@ -276,14 +294,14 @@ ready-failed-parts = refl
 
 ready-failed-computes :
     (validOf ready-failed (only 1 0) ≡ true) × Ready ready-failed 0
-    × (fateOf ready-failed (only 1 0) 0 (Take 0) ≡ unroutable)
+    × (fateOf ready-failed (only 1 0) 0 (Deliver 0) ≡ stays 0) × (fateOf ready-failed (only 1 0) 0 (Forward 0) ≡ unroutable)
 unfolding ready-failed opened
-ready-failed-computes = (refl, (omega arith, refl), refl)
+ready-failed-computes = (refl, (omega arith, refl), refl, refl)
 
 pub ready-failed-fails : Fails ready-failed 1 0
 ready-failed-fails =
     let c = ready-failed-computes in
-    record { valid = c .0; ready = c .1; lost = λ a. stuck (ap goesOn (c .2)) (a .delivers) }
+    record { valid = c .0; ready = c .1; lost = λ a. stuck (ap ending (c .2)) (ap going (c .3)) (a .delivers) }
 
 -- ---- alone for its key: another Lookup of 2 waits where it goes, and ends its journey
 
@@ -292,12 +310,12 @@ both-look = laid (placed (lookup 2) 0 ∷ placed (lookup 2) 1 ∷ [])
 
 pub met-computes :
     (validOf pair both-look ≡ true) × Ready pair 0
-    × (fateOf pair both-look 0 (Take 0) ≡ met 1 0)
+    × (fateOf pair both-look 0 (Deliver 0) ≡ stays 0) × (fateOf pair both-look 0 (Forward 0) ≡ met 1 0)
 unfolding pair opened
-met-computes = (refl, (omega arith, refl), refl)
+met-computes = (refl, (omega arith, refl), refl, refl)
 
 pub met-fails : LookupAt both-look 0 2 0 × (Arrives pair both-look 0 2 → ⊥)
-met-fails = (record { waits = omega arith; is = refl }, λ a. stuck (ap goesOn (met-computes .2)) (a .delivers))
+met-fails = (record { waits = omega arith; is = refl }, λ a. stuck (ap ending (met-computes .2)) (ap going (met-computes .3)) (a .delivers))
 
 -- ---- waiting at a ready node: 2 is dead
 
@@ -306,12 +324,12 @@ one-dead = startOf 2 1 (0 ∷ 2 ∷ []) 1 .table
 
 pub one-dead-computes :
     (validOf one-dead (only 2 1) ≡ true) × (isSettled one-dead ≡ true)
-    × (fateOf one-dead (only 2 1) 0 (Take 0) ≡ stays 0)
+    × (fateOf one-dead (only 2 1) 0 (Deliver 0) ≡ stays 0) × (fateOf one-dead (only 2 1) 0 (Forward 0) ≡ stays 0)
 unfolding one-dead opened
-one-dead-computes = (refl, refl, refl)
+one-dead-computes = (refl, refl, refl, refl)
 
 pub one-dead-fails : Arrives one-dead (only 2 1) 0 2 → ⊥
-one-dead-fails a = stuck (ap goesOn (one-dead-computes .2)) (a .delivers)
+one-dead-fails a = stuck (ap ending (one-dead-computes .2)) (ap going (one-dead-computes .3)) (a .delivers)
 
 -- ---- no other step between: the lookup of 2 at 0 is routed to 2, whose lease of 0 expires, and is refused there
 
@@ -320,10 +338,10 @@ afterAll t p [] = doneOf t p
 afterAll t p (a ∷ []) = stepped t p a
 afterAll t p (a ∷ b ∷ acts) = afterAll (stepped t p a .table) (stepped t p a .pool) (b ∷ acts)
 
-pub between-refused : afterAll pair (only 2 0) (Take 0 ∷ LeaseExpired 1 0 ∷ Take 0 ∷ []) .answer ≡ Refused no.Status
+pub between-refused : afterAll pair (only 2 0) (Forward 0 ∷ LeaseExpired 1 0 ∷ Deliver 0 ∷ []) .answer ≡ Refused no.Status
 unfolding pair afterAll opened
 between-refused = refl
 
-pub between-none : afterAll pair (only 2 0) (Take 0 ∷ Take 0 ∷ []) ≡ doneOf pair (laid [])
+pub between-none : afterAll pair (only 2 0) (Forward 0 ∷ Deliver 0 ∷ []) ≡ doneOf pair (laid [])
 unfolding pair afterAll opened
 between-none = refl

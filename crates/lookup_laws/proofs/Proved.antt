@@ -1,11 +1,13 @@
--- Proved, by name: each statement of Demand (demand 3), then each of Joining (one holder while others are joining). Assumes nothing.
+-- Proved, by name: each statement of Demand (demand 3), then each of Pair (T-05), then each of Joining (one holder while others are joining). Assumes nothing.
 use Rattle.table.proofs.Sound.{sound}
 use Rattle.lookup_laws.specs.Claims.{EveryLookup, FatesHold, GoesNearer, FewRoutings, SettledArrives, TieBelow, CoversNearest}
+use Rattle.lookup_laws.specs.Pair.{ReadyOne, OthersTwo, TakeFive, OtherKinds, Unjudged, GatewayHolds}
 use Rattle.lookup_laws.specs.Joining.{OneHolder, HolderNearest, SettledFlanked, SomeUnheld, SettledHeld, SettledBeside}
 use Rattle.lookup_laws.proofs.Stands as stands
 use Rattle.lookup_laws.proofs.Tracks as tracks
 use Rattle.lookup_laws.proofs.Routings as routings
 use Rattle.lookup_laws.proofs.Arrives as arrives
+use Rattle.lookup_laws.proofs.Pair as pair
 use Rattle.lookup_laws.proofs.Joined as joined
 use Rattle.lookup_laws.proofs.Holder as holder
 use Rattle.lookup_laws.proofs.Unheld as unheld
@@ -30,6 +32,24 @@ tie-below-key = holder.tie-below-key
 
 pub covers-nearest-ready : CoversNearest
 covers-nearest-ready = holder.covers-nearest-ready
+
+pub ready-one : ReadyOne
+ready-one = pair.ready-one
+
+pub others-two : OthersTwo
+others-two = pair.others-two
+
+pub take-refused : TakeFive
+take-refused = pair.take-refused
+
+pub other-kinds : OtherKinds
+other-kinds = pair.other-kinds
+
+pub unjudged : Unjudged
+unjudged = pair.unjudged
+
+pub gateway-holds : GatewayHolds
+gateway-holds = pair.gateway-holds
 
 pub one-holder : OneHolder
 one-holder = joined.one-holder

@@ -1,6 +1,6 @@
 -- The fate of a lookup is what really happens to it (`tracked`): what Fates says of each fate holds after every step on a valid table. A
--- refused step changes nothing; of a done step, what waited before stands in front; and a Take of the lookup itself is by cases of what
--- the node does. Assumes nothing.
+-- refused step changes nothing; of a done step, what waited before stands in front; and the lookup itself goes by
+-- Deliver or Forward alone, by cases of what the node does. Assumes nothing.
 use mathlib.Core.Path.{_≡_, refl, sym, _∙_, ap, ap₂, subst}
 use mathlib.Core.Bool.{Bool, true, false, cond, not}
 use mathlib.Core.List.{List}
@@ -23,7 +23,7 @@ use Rattle.rules.specs.declared.Plan.{Plan}
 use Rattle.rules.specs.declared.Planned.{Planned}
 use Rattle.rules.specs.declared.Planned.the-variants.{No, Go}
 use Rattle.rules.specs.declared.Action.{Action}
-use Rattle.rules.specs.declared.Action.the-variants.{Lookup, Join, RequestLease, LeaseExpired, GrantExpired, Take}
+use Rattle.rules.specs.declared.Action.the-variants.{Lookup, Join, RequestLease, LeaseExpired, GrantExpired, Take, Deliver, Forward}
 use Rattle.rules.specs.declared.Refusal.the-variants as no
 use Rattle.rules.specs.declared.Answer.{Answer}
 use Rattle.rules.specs.declared.Answer.the-variants.{Done, Refused}
@@ -33,7 +33,7 @@ use Rattle.rules.specs.Mail.{firstEqual, added}
 use Rattle.rules.specs.Nodes.{noNode, placed}
 use Rattle.rules.specs.Plans.{isReady, quietPlan, sendPlan, mailed}
 use Rattle.rules.specs.Pool.{waiting, messageAt, laid}
-use Rattle.rules.specs.Take.{forwardPlan, planTakeLookup, planTake}
+use Rattle.rules.specs.Take.{forwardPlan, planDeliver, planForward, planTake}
 use Rattle.pool.proofs.Laws.{laid-at, All, all-index, all-removed, added-at, added-nothing, mailed-quiet, mailed-send, waiting-at}
 use Rattle.table_type.specs.declared.Table.{Table}
 use Rattle.table_type.specs.Table.{nodeAt, withNode, idsOf, ringOf}
@@ -42,10 +42,10 @@ use Rattle.table.specs.Settled.{readySet, deadSet}
 use Rattle.table.specs.Valid.{validOf}
 use Rattle.table.proofs.Obeys.{obeys}
 use Rattle.table.proofs.Sound.{Sound, sound}
-use Rattle.table.proofs.By.{go-same, never-go, DoneWith, leavesOf, step-refused, step-done}
-use Rattle.table.specs.Step.{takenOf, asked, remaining, plannedOf}
-use Rattle.lookup_laws.specs.Fates.{others, coversAt, hopAt, Took, Tracked}
-use Rattle.lookup_laws.specs.Journey.{stepped, LookupAt, stays, landing, fateTaken, fateDone}
+use Rattle.table.proofs.By.{goes, go-same, never-go, DoneWith, leavesOf, step-refused, step-done}
+use Rattle.table.specs.Step.{takenOf, deliveredOf, forwardedOf, asked, remaining, plannedOf}
+use Rattle.lookup_laws.specs.Fates.{others, coversAt, hopAt, Took, Ends, Tracked}
+use Rattle.lookup_laws.specs.Journey.{stepped, LookupAt, stays, landing, onward, fateTaken, fateDone}
 use Rattle.lookup_laws.specs.Journey.{fateBy, fateOf}
 use Rattle.lookup_laws.proofs.Stands.{Stands, stands-mailed, stands-down, stands-still, stands-last, stands-laid, stands-waiting}
 use Rattle.lookup_laws.proofs.Stands.{count-is, first-stands}
@@ -58,39 +58,57 @@ ready-is t i h = has-gather (t .n) (λ s. isReady (nodeAt t s .status)) i h
 
 -- ---- what a node plans for a lookup of k
 
-abbrev pub planAt : Table → ℕ → ℕ → Planned
-planAt t d k = planTakeLookup (ringOf t) (idsOf t) (deadSet t) d (nodeAt t d) k
+abbrev pub deliverAt : Table → ℕ → ℕ → Planned
+deliverAt t d k = planDeliver 1 (ringOf t) (idsOf t) d (nodeAt t d) k
 
-pub data Treats (t : Table) (k d : ℕ) (x : Plan) : Type 0 where
-  holds : coversAt t d k ≡ true → x ≡ quietPlan (nodeAt t d) → Treats t k d x
-  sends : (h : ℕ) → coversAt t d k ≡ false → hopAt t d k ≡ To h → x ≡ sendPlan (nodeAt t d) (lookup k) h → Treats t k d x
-  gives-up : coversAt t d k ≡ false → hopAt t d k ≡ NoRoute → x ≡ sendPlan (nodeAt t d) (noLegalRoute k) d → Treats t k d x
+abbrev pub forwardAt : Table → ℕ → ℕ → Planned
+forwardAt t d k = planForward 1 (ringOf t) (idsOf t) (deadSet t) d (nodeAt t d) k
 
-pub treats : (t : Table) (k d : ℕ) (x : Plan) → planAt t d k ≡ Go x → (isReady (nodeAt t d .status) ≡ true) × Treats t k d x
-unfolding planTakeLookup
-treats t k d x e = go (isReady (nodeAt t d .status)) refl e
+pub record Holds (t : Table) (k d : ℕ) (x : Plan) : Type 0 where
+  pub ready : isReady (nodeAt t d .status) ≡ true
+  pub covers : coversAt t d k ≡ true
+  pub plan : x ≡ quietPlan (nodeAt t d)
+
+pub data Sends (t : Table) (k d : ℕ) (x : Plan) : Type 0 where
+  to : (h : ℕ) → hopAt t d k ≡ To h → x ≡ sendPlan (nodeAt t d) (lookup k) h → Sends t k d x
+  nowhere : hopAt t d k ≡ NoRoute → x ≡ sendPlan (nodeAt t d) (noLegalRoute k) d → Sends t k d x
+
+pub record Passes (t : Table) (k d : ℕ) (x : Plan) : Type 0 where
+  pub ready : isReady (nodeAt t d .status) ≡ true
+  pub uncovered : coversAt t d k ≡ false
+  pub sends : Sends t k d x
+
+-- a plan is made where the node is ready and covers the key, or does not
+pub delivers : (t : Table) (k d : ℕ) (x : Plan) → deliverAt t d k ≡ Go x → Holds t k d x
+unfolding planDeliver
+delivers t k d x = go (isReady (nodeAt t d .status)) (coversAt t d k) refl refl
   where
-    onwards : coversAt t d k ≡ false → (o : Hop) → hopAt t d k ≡ o → Go (forwardPlan o (nodeAt t d) (lookup k) k d) ≡ Go x → Treats t k d x
-    onwards c (To h) o f = sends h c o (go-same f)
-    onwards c NoRoute o f = gives-up c o (go-same f)
+    go : (r c : Bool) → isReady (nodeAt t d .status) ≡ r → coversAt t d k ≡ c
+        → cond (not r) (No no.Status) (cond (not c) (No no.Partner) (Go (quietPlan (nodeAt t d)))) ≡ Go x → Holds t k d x
+    go true true r c e = record { ready = r; covers = c; plan = go-same e }
+    go true false r c e = absurd (never-go e)
+    go false c r f e = absurd (never-go e)
 
-    covers : (b : Bool) → coversAt t d k ≡ b
-        → cond b (Go (quietPlan (nodeAt t d))) (Go (forwardPlan (hopAt t d k) (nodeAt t d) (lookup k) k d)) ≡ Go x → Treats t k d x
-    covers true c f = holds c (go-same f)
-    covers false c f = onwards c (hopAt t d k) refl f
+pub forwards : (t : Table) (k d : ℕ) (x : Plan) → forwardAt t d k ≡ Go x → Passes t k d x
+unfolding planForward
+forwards t k d x = go (isReady (nodeAt t d .status)) (coversAt t d k) refl refl
+  where
+    onwards : (o : Hop) → hopAt t d k ≡ o → Go (forwardPlan o (nodeAt t d) (lookup k) k d) ≡ Go x → Sends t k d x
+    onwards (To h) o f = to h o (go-same f)
+    onwards NoRoute o f = nowhere o (go-same f)
 
-    go : (b : Bool) → isReady (nodeAt t d .status) ≡ b
-        → cond (not b) (No no.Status)
-        (cond (coversAt t d k) (Go (quietPlan (nodeAt t d))) (Go (forwardPlan (hopAt t d k) (nodeAt t d) (lookup k) k d))) ≡ Go x
-        → (isReady (nodeAt t d .status) ≡ true) × Treats t k d x
-    go true r f = (r, covers (coversAt t d k) refl f)
-    go false r f = absurd (never-go f)
+    go : (r c : Bool) → isReady (nodeAt t d .status) ≡ r → coversAt t d k ≡ c
+        → cond (not r) (No no.Status) (cond c (No no.Partner) (Go (forwardPlan (hopAt t d k) (nodeAt t d) (lookup k) k d))) ≡ Go x
+        → Passes t k d x
+    go true false r c e = record { ready = r; uncovered = c; sends = onwards (hopAt t d k) refl e }
+    go true true r c e = absurd (never-go e)
+    go false c r f e = absurd (never-go e)
 
 -- the same node again changes nothing
 pub same-node : (t : Table) (i : ℕ) → withNode t i (nodeAt t i) ≡ t
 same-node t i = rw (set-getD (t .nodes) i noNode)
 
--- ---- what a Take of the lookup leaves
+-- ---- what Deliver and Forward of the lookup leave
 
 module _ (t : Table) (p : Pool) (q k d : ℕ) (v : Sound t p) (l : LookupAt p q k d) where
   fits : messageFits (ringOf t) (placed (lookup k) d) ≡ true
@@ -102,9 +120,16 @@ module _ (t : Table) (p : Pool) (q k d : ℕ) (v : Sound t p) (l : LookupAt p q 
   pub key-in : k < 2 ^ t .m
   key-in = obeys (ringOf t) (placed (lookup k) d) fits .key-in refl
 
-  pub plan-is : plannedOf (asked t p (Take q)) ≡ planAt t d k
+  pub deliver-is : plannedOf (asked t p (Deliver q)) ≡ deliverAt t d k
+  deliver-is = ap (deliveredOf t) (l .is)
+
+  pub forward-is : plannedOf (asked t p (Forward q)) ≡ forwardAt t d k
+  forward-is = ap (forwardedOf t) (l .is)
+
+  -- Take has no plan for it
+  pub take-is : plannedOf (asked t p (Take q)) ≡ No no.Partner
   unfolding planTake
-  plan-is = ap (takenOf t) (l .is)
+  take-is = ap (takenOf t) (l .is)
 
   others-fit : All (λ m. messageFits (ringOf t) m ≡ true) (others p q)
   others-fit =
@@ -112,41 +137,52 @@ module _ (t : Table) (p : Pool) (q k d : ℕ) (v : Sound t p) (l : LookupAt p q 
       let low : i < p .count = omega (arith, count-is v) in
       rw (waiting-at p i low) (v .message i low)))
 
-  -- a plan that keeps the node
-  module _ (x : Plan) (e : stepped t p (Take q) ≡ leavesOf t p (Take q) x) (ready : isReady (nodeAt t d .status) ≡ true) where
-    took : (y : Plan) (ys : List Message) → x ≡ y → y .node ≡ nodeAt t d → mailed y (others p q) ≡ ys → Took t p q d (Take q) ys
+  -- a plan that keeps the node, made by an action on place q
+  module _ (a : Action) (x : Plan) (e : stepped t p a ≡ doneOf (withNode t (messageAt p q .dest) (x .node)) (laid (mailed x (others p q))))
+      (ready : isReady (nodeAt t d .status) ≡ true) where
+    took : (y : Plan) (ys : List Message) → x ≡ y → y .node ≡ nodeAt t d → mailed y (others p q) ≡ ys → Took t p d a a ys
     took y ys s node mail =
         let same : withNode t (messageAt p q .dest) (y .node) ≡ t =
         ap₂ (λ (m : Message) (u : Node). withNode t (m .dest) u) (l .is) node ∙ same-node t d in
         record {
           act = refl;
           ready = ready;
-          leaves = e ∙ ap (leavesOf t p (Take q)) s ∙ ap₂ (λ (u : Table) (zs : List Message). doneOf u (laid zs)) same mail;
+          leaves = e
+          ∙ ap (λ (z : Plan). doneOf (withNode t (messageAt p q .dest) (z .node)) (laid (mailed z (others p q)))) s
+          ∙ ap₂ (λ (u : Table) (zs : List Message). doneOf u (laid zs)) same mail;
         }
 
-    module _ (h : ℕ) (c : coversAt t d k ≡ false) (o : hopAt t d k ≡ To h) (s : x ≡ sendPlan (nodeAt t d) (lookup k) h) where
-      arrives : (ys : List Message) → added (others p q) (placed (lookup k) h) ≡ ys → Took t p q d (Take q) ys
-      arrives ys f =
-          took (sendPlan (nodeAt t d) (lookup k) h) ys s refl (mailed-send (nodeAt t d) (lookup k) h (others p q) ∙ f)
+  -- delivered
+  ends : (x : Plan) → stepped t p (Deliver q) ≡ leavesOf t p (Deliver q) x → Holds t k d x → Ends t p q k d (Deliver q)
+  ends x e w =
+      record { took = took (Deliver q) x e (w .ready) (quietPlan (nodeAt t d)) _ (w .plan) refl (mailed-quiet (nodeAt t d) (others p q)); covered = w .covers }
 
-      there : (ys : List Message) (r : ℕ) → Took t p q d (Take q) ys → Stands ys r (placed (lookup k) h)
-          → LookupAt (stepped t p (Take q) .pool) r k h
+  -- forwarded
+  module _ (x : Plan) (e : stepped t p (Forward q) ≡ leavesOf t p (Forward q) x) (w : Passes t k d x) where
+    sent : (m : Message) (h : ℕ) (ys : List Message) → x ≡ sendPlan (nodeAt t d) m h → added (others p q) (placed m h) ≡ ys
+        → Took t p d (Forward q) (Forward q) ys
+    sent m h ys s f =
+        took (Forward q) x e (w .ready) (sendPlan (nodeAt t d) m h) ys s refl (mailed-send (nodeAt t d) m h (others p q) ∙ f)
+
+    module _ (h : ℕ) (o : hopAt t d k ≡ To h) (s : x ≡ sendPlan (nodeAt t d) (lookup k) h) where
+      there : (ys : List Message) (r : ℕ) → Took t p d (Forward q) (Forward q) ys → Stands ys r (placed (lookup k) h)
+          → LookupAt (stepped t p (Forward q) .pool) r k h
       there ys r w i = rw (w .leaves) (stands-laid i)
 
       lands : (f : Found) → firstEqual (others p q) (placed (lookup k) h) ≡ f
-          → Tracked t p q k d (Take q) (landing f h (length (others p q)))
+          → Tracked t p q k d (Forward q) (landing f h (length (others p q)))
       lands (At r) f =
-          let w = arrives (others p q) (added-at (others p q) (placed (lookup k) h) r f) in
+          let b = sent (lookup k) h (others p q) s (added-at (others p q) (placed (lookup k) h) r f) in
           record {
-            took = w;
-            uncovered = c;
+            took = b;
+            uncovered = w .uncovered;
             hop = o;
-            equal = there (others p q) r w (first-stands (ringOf t) (others p q) (placed (lookup k) h) r others-fit refl f);
+            equal = there (others p q) r b (first-stands (ringOf t) (others p q) (placed (lookup k) h) r others-fit refl f);
           }
       lands Nothing f =
-          let w = arrives _ (added-nothing (others p q) (placed (lookup k) h) f) in
+          let b = sent (lookup k) h _ s (added-nothing (others p q) (placed (lookup k) h) f) in
           let last = stands-last (others p q) (placed (lookup k) h) in
-          record { took = w; uncovered = c; hop = o; now = there _ (length (others p q)) w last }
+          record { took = b; uncovered = w .uncovered; hop = o; now = there _ (length (others p q)) b last }
 
     -- NoLegalRoute is added, or one waits already
     tells : (f : Found) → firstEqual (others p q) (placed (noLegalRoute k) d) ≡ f
@@ -158,66 +194,77 @@ module _ (t : Table) (p : Pool) (q k d : ℕ) (v : Sound t p) (l : LookupAt p q 
         rw (added-nothing (others p q) (placed (noLegalRoute k) d) f)
         (length (others p q), stands-last (others p q) (placed (noLegalRoute k) d))
 
-    taken : Treats t k d x → Tracked t p q k d (Take q) (fateTaken t p q (placed (lookup k) d))
-    taken (holds c s) =
-        rw c (record { took = took (quietPlan (nodeAt t d)) _ s refl (mailed-quiet (nodeAt t d) (others p q)); covered = c })
-    taken (sends h c o s) = rw (c, o) (lands h c o s (firstEqual (others p q) (placed (lookup k) h)) refl)
-    taken (gives-up c o s) =
+    passed : Sends t k d x → Tracked t p q k d (Forward q) (onward (hopAt t d k) (others p q) k)
+    passed (to h o s) = rw o (lands h o s (firstEqual (others p q) (placed (lookup k) h)) refl)
+    passed (nowhere o s) =
         let ys = added (others p q) (placed (noLegalRoute k) d) in
-        let w = took (sendPlan (nodeAt t d) (noLegalRoute k) d) ys s refl (mailed-send (nodeAt t d) (noLegalRoute k) d (others p q)) in
+        let b = sent (noLegalRoute k) d ys s refl in
         let last = tells (firstEqual (others p q) (placed (noLegalRoute k) d)) refl in
-        rw (c, o)
+        rw o
         (record {
-          took = w;
-          uncovered = c;
+          took = b;
+          uncovered = w .uncovered;
           no-hop = o;
-          told = rw (w .leaves) (last .0, last .1 .below, laid-at ys (last .0) (last .1 .below) ∙ last .1 .same);
+          told = rw (b .leaves) (last .0, last .1 .below, laid-at ys (last .0) (last .1 .below) ∙ last .1 .same);
         })
 
 -- ---- every step
+
+none : {place : ℕ} → Nothing ≡ At place → ⊥
+none e = let z : _≡_ {A = ℕ} 0 1 = cc in omega arith
 
 module _ (t : Table) (p : Pool) (q k d : ℕ) (v : Sound t p) (l : LookupAt p q k d) where
   waits-on : (a : Action) (x : Plan) (r : ℕ) → stepped t p a ≡ leavesOf t p a x
       → Stands (remaining p (asked t p a .gone)) r (placed (lookup k) d) → LookupAt (stepped t p a .pool) r k d
   waits-on a x r e s = rw e (stands-laid (stands-mailed x s))
 
-  -- it is taken itself
-  take-this : (x : Plan) → DoneWith t p 256 (Take q) x → stepped t p (Take q) ≡ leavesOf t p (Take q) x
-      → Tracked t p q k d (Take q) (fateTaken t p q (messageAt p q))
-  take-this x w e =
-      let does = treats t k d x (sym (plan-is t p q k d v l) ∙ w .plan) in
-      rw (l .is) (taken t p q k d v l x e (does .0) (does .1))
+  -- it goes itself: by Deliver or Forward, as Take has no plan for it
+  this-goes : (a : Action) (x : Plan) → DoneWith t p 256 a x → stepped t p a ≡ leavesOf t p a x → asked t p a .gone ≡ At q
+      → Tracked t p q k d a (fateTaken t p q (messageAt p q))
+  this-goes (Deliver place) x w e g =
+      let same : place ≡ q = cc in
+      subst (λ (n : ℕ). DoneWith t p 256 (Deliver n) x → stepped t p (Deliver n) ≡ leavesOf t p (Deliver n) x
+      → Tracked t p q k d (Deliver n) (fateTaken t p q (messageAt p q))) (sym same)
+      (λ w e.
+      let does = delivers t k d x (sym (deliver-is t p q k d v l) ∙ w .plan) in
+      rw (l .is, does .covers) (ends t p q k d v l x e does)) w e
+  this-goes (Forward place) x w e g =
+      let same : place ≡ q = cc in
+      subst (λ (n : ℕ). DoneWith t p 256 (Forward n) x → stepped t p (Forward n) ≡ leavesOf t p (Forward n) x
+      → Tracked t p q k d (Forward n) (fateTaken t p q (messageAt p q))) (sym same)
+      (λ w e.
+      let does = forwards t k d x (sym (forward-is t p q k d v l) ∙ w .plan) in
+      rw (l .is, does .uncovered) (passed t p q k d v l x e does (does .sends))) w e
+  this-goes (Take place) x w e g =
+      let same : place ≡ q = cc in
+      absurd (never-go (sym (take-is t p q k d v l) ∙ rw same at (w .plan)))
+  this-goes (Lookup i j) x w e g = absurd (none g)
+  this-goes (Join i j) x w e g = absurd (none g)
+  this-goes (RequestLease i) x w e g = absurd (none g)
+  this-goes (LeaseExpired i j) x w e g = absurd (none g)
+  this-goes (GrantExpired i j) x w e g = absurd (none g)
 
-  -- another is taken, which closes the gap
-  take-other : (place : ℕ) (x : Plan) → (place ≡ q → ⊥) → DoneWith t p 256 (Take place) x
-      → stepped t p (Take place) ≡ leavesOf t p (Take place) x
-      → (b : Bool) → ltb place q ≡ b → LookupAt (stepped t p (Take place) .pool) (cond b (pred q) q) k d
-  take-other place x apart w e true b =
-      waits-on (Take place) x (pred q) e (stands-down place (ltb-true place q b) (stands-waiting v l))
-  take-other place x apart w e false b =
-      waits-on (Take place) x q e
-      (stands-still place (omega (arith, count-is v, ltb-true place (p .count) (w .in-range))) (omega (arith, ltb-false place q b))
-      (stands-waiting v l))
-
-  take-tracked : (place : ℕ) (x : Plan) → DoneWith t p 256 (Take place) x → stepped t p (Take place) ≡ leavesOf t p (Take place) x
-      → Tracked t p q k d (Take place) (fateDone t p q (At place))
-  take-tracked place x w e = go (eqb place q) refl
-    where
-      go : (b : Bool) → eqb place q ≡ b
-          → Tracked t p q k d (Take place) (cond b (fateTaken t p q (messageAt p q)) (stays (cond (ltb place q) (pred q) q)))
-      go true b =
-          subst (λ (n : ℕ). DoneWith t p 256 (Take n) x → stepped t p (Take n) ≡ leavesOf t p (Take n) x
-          → Tracked t p q k d (Take n) (fateTaken t p q (messageAt p q))) (sym (eqb-true place q b)) (take-this x) w e
-      go false b = take-other place x (eqb-false place q b) w e (ltb place q) refl
+  -- another goes, which closes the gap
+  other-goes : (a : Action) (place : ℕ) (x : Plan) → (place ≡ q → ⊥) → DoneWith t p 256 a x → stepped t p a ≡ leavesOf t p a x
+      → asked t p a .gone ≡ At place → (b : Bool) → ltb place q ≡ b → LookupAt (stepped t p a .pool) (cond b (pred q) q) k d
+  other-goes a place x apart w e g true b =
+      waits-on a x (pred q) e (rw g (stands-down place (ltb-true place q b) (stands-waiting v l)))
+  other-goes a place x apart w e g false b =
+      let low = ltb-true place (p .count) (rw (goes t p place a g .0) at (w .in-range)) in
+      waits-on a x q e (rw g (stands-still place (omega (arith, count-is v, low)) (omega (arith, ltb-false place q b)) (stands-waiting v l)))
 
   done-tracked : (a : Action) (x : Plan) → DoneWith t p 256 a x → stepped t p a ≡ leavesOf t p a x
       → Tracked t p q k d a (fateDone t p q (asked t p a .gone))
-  done-tracked (Take place) x w e = take-tracked place x w e
-  done-tracked (Lookup i j) x w e = waits-on (Lookup i j) x q e (stands-waiting v l)
-  done-tracked (Join i j) x w e = waits-on (Join i j) x q e (stands-waiting v l)
-  done-tracked (RequestLease i) x w e = waits-on (RequestLease i) x q e (stands-waiting v l)
-  done-tracked (LeaseExpired i j) x w e = waits-on (LeaseExpired i j) x q e (stands-waiting v l)
-  done-tracked (GrantExpired i j) x w e = waits-on (GrantExpired i j) x q e (stands-waiting v l)
+  done-tracked a x w e = by-gone (asked t p a .gone) refl
+    where
+      by-gone : (f : Found) → asked t p a .gone ≡ f → Tracked t p q k d a (fateDone t p q f)
+      by-gone Nothing g = waits-on a x q e (rw g (stands-waiting v l))
+      by-gone (At place) g = go (eqb place q) refl
+        where
+          go : (b : Bool) → eqb place q ≡ b
+              → Tracked t p q k d a (cond b (fateTaken t p q (messageAt p q)) (stays (cond (ltb place q) (pred q) q)))
+          go true b = this-goes a x w e (g ∙ ap At (eqb-true place q b))
+          go false b = other-goes a place x (eqb-false place q b) w e g (ltb place q) refl
 
   by-answer : (a : Action) (r : Answer) → stepped t p a .answer ≡ r → Tracked t p q k d a (fateBy r t p q a)
   by-answer a Done e = let done = step-done t p 256 a e in done-tracked a (done .0) (done .1) (done .2)

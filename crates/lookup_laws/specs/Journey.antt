@@ -13,7 +13,7 @@ use Rattle.rules.specs.declared.Hop.the-variants.{To, NoRoute}
 use Rattle.rules.specs.declared.Message.{Message}
 use Rattle.rules.specs.declared.Pool.{Pool}
 use Rattle.rules.specs.declared.Action.{Action}
-use Rattle.rules.specs.declared.Action.the-variants.{Take}
+use Rattle.rules.specs.declared.Action.the-variants.{Deliver, Forward}
 use Rattle.rules.specs.declared.Answer.{Answer}
 use Rattle.rules.specs.declared.Answer.the-variants.{Done, Refused}
 use Rattle.rules.specs.Letters.{lookup}
@@ -59,7 +59,7 @@ abbrev pub onward : Hop → List Message → ℕ → Fate
 onward (To h) xs k = landing (firstEqual xs (placed (lookup k) h)) h (length xs)
 onward NoRoute xs k = unroutable
 
--- the taking of the tracked lookup itself
+-- the tracked lookup itself goes: delivered where its node covers the key, which Deliver asks for, and else forwarded
 abbrev pub fateTaken : Table → Pool → ℕ → Message → Fate
 fateTaken t p q m =
     cond (coversOf (ringOf t) (idsOf t) (m .dest) (sidesOf (nodeAt t (m .dest))) (m .word)) delivered
@@ -95,11 +95,11 @@ pub data RoutesTo : Fate → ℕ → Type 0 where
   waits-there : {h q : ℕ} → RoutesTo (routed h q) h
   ends-there : {h r : ℕ} → RoutesTo (met h r) h
 
--- taken again and again, with no other step between, the lookup of k at place q is routed m times and delivered at slot e; each Take is
+-- with no other step between, the lookup of k at place q is forwarded m times to another node and then delivered at slot e; each step is
 -- done, on the table and the pool that the one before it left, and the last leaves the table u and the pool r
 pub data Delivers (k : ℕ) : Table → Pool → ℕ → ℕ → ℕ → Table → Pool → Type 0 where
-  here : {t : Table} {p : Pool} {q e : ℕ} → LookupAt p q k e → stepped t p (Take q) .answer ≡ Done → fateOf t p q (Take q) ≡ delivered
-      → Delivers k t p q 0 e (stepped t p (Take q) .table) (stepped t p (Take q) .pool)
-  on : {t u : Table} {p r : Pool} {q d h q′ m e : ℕ} → LookupAt p q k d → stepped t p (Take q) .answer ≡ Done
-      → fateOf t p q (Take q) ≡ routed h q′ → Delivers k (stepped t p (Take q) .table) (stepped t p (Take q) .pool) q′ m e u r
+  here : {t : Table} {p : Pool} {q e : ℕ} → LookupAt p q k e → stepped t p (Deliver q) .answer ≡ Done
+      → fateOf t p q (Deliver q) ≡ delivered → Delivers k t p q 0 e (stepped t p (Deliver q) .table) (stepped t p (Deliver q) .pool)
+  on : {t u : Table} {p r : Pool} {q d h q′ m e : ℕ} → LookupAt p q k d → stepped t p (Forward q) .answer ≡ Done
+      → fateOf t p q (Forward q) ≡ routed h q′ → Delivers k (stepped t p (Forward q) .table) (stepped t p (Forward q) .pool) q′ m e u r
       → Delivers k t p q (suc m) e u r

@@ -1,4 +1,5 @@
 pub mod Journey
 pub mod Fates
 pub mod Claims
+pub mod Pair
 pub mod Joining
