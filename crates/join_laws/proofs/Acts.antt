@@ -16,7 +16,7 @@ use Rattle.rules.specs.declared.Plan.{Plan}
 use Rattle.rules.specs.declared.Planned.{Planned}
 use Rattle.rules.specs.declared.Planned.the-variants.{No, Go}
 use Rattle.rules.specs.declared.Action.{Action}
-use Rattle.rules.specs.declared.Action.the-variants.{Lookup, Join, RequestLease, LeaseExpired, GrantExpired, Take}
+use Rattle.rules.specs.declared.Action.the-variants.{Lookup, Join, RequestLease, LeaseExpired, GrantExpired, Take, Deliver, Forward}
 use Rattle.rules.specs.Actions.{waits, joinWaits, planJoin}
 use Rattle.rules.specs.Fits.{hasLeaf}
 use Rattle.rules.specs.Letters.{lookup, joinRequest}
@@ -37,7 +37,7 @@ use Rattle.join_laws.specs.Clauses.{View, viewOf, Calm, Fair, Clauses}
 use Rattle.join_laws.proofs.Good.{Fitting, Good, sends-one}
 use Rattle.join_laws.specs.Claims.{NoneWaits}
 use Rattle.join_laws.proofs.Lasting.{ready-up, lookup-good, request-lease-good, lease-expired-good, grant-expired-good}
-use Rattle.join_laws.proofs.Lasting.{take-lookup-good, take-lease-request-good}
+use Rattle.join_laws.proofs.Lasting.{deliver-good, forward-lookup-good, take-lease-request-good}
 use Rattle.join_laws.proofs.Request.{take-join-request-good}
 use Rattle.join_laws.proofs.Reply.{take-join-reply-good}
 use Rattle.join_laws.proofs.Probe.{take-probe-good, take-probe-reply-good}
@@ -82,7 +82,7 @@ take-good t dead m c f o fair x e =
     let i = m .dest in
     let h = o .dest-in in
     go-comes (by-take (m .kind) (t .ring) (t .ids) dead i (t .at i) m (o .kind-low) (o .kind-high)
-    (λ k. comes _ (take-lookup-good t i c h dead (m .word)))
+    (λ k. tt)
     (λ k. comes _ (take-join-request-good t i c f h dead (m .word) (m .routing) (fair .request k)))
     (λ k. comes _ (take-join-reply-good t i m c f h (fair .reply k)))
     (λ k. comes _ (take-probe-good t i c f h m (fair .probe k)))
@@ -111,3 +111,9 @@ module _ {t : Table} {p : Pool} (s : Sound t p) (c : Clauses t p) where
       let h = ltb-true place (p .count) e in
       let m = messageAt p place in
       take-good (viewOf t) (deadSet t) m (c .nodes) (fitting s) (obeys (ringOf t) m (s .message place h)) (c .mail place h)
+  planned-good (Deliver place) e none =
+      let m = messageAt p place in
+      deliver-good (viewOf t) (m .dest) (c .nodes) (slot-in-range s (Deliver place) e) (m .kind) (m .word)
+  planned-good (Forward place) e none =
+      let m = messageAt p place in
+      forward-lookup-good (viewOf t) (m .dest) (c .nodes) (slot-in-range s (Forward place) e) (m .kind) (deadSet t) (m .word)

@@ -1,5 +1,5 @@
--- The actions and kinds that leave every leaf set as it stands: Lookup, RequestLease, LeaseExpired, GrantExpired, and Take of a Lookup,
--- of a JoinRequest that is passed on, and of a LeaseRequest. One law for each. Assumes nothing.
+-- The actions and kinds that leave every leaf set as it stands: Lookup, RequestLease, LeaseExpired, GrantExpired, Deliver, Forward, and Take of a
+-- JoinRequest that is passed on, and of a LeaseRequest. One law for each. Assumes nothing.
 use mathlib.Core.Path.{_≡_, refl, sym, _∙_}
 use mathlib.Core.Logic.{_⊎_, inl, inr, ⊎-elim}
 use mathlib.Core.Bool.{Bool, true, false, cond, _&&_}
@@ -22,12 +22,12 @@ use Rattle.rules.specs.Leaf.{contentOf}
 use Rattle.rules.specs.Letters.{lookup, joinRequest, noLegalRoute, leaseRequest, broadcastLSet}
 use Rattle.rules.specs.Nodes.{sidesOf, placed}
 use Rattle.rules.specs.Plans.{isDead, isWait, isReady, isUp, withLeases, quietPlan}
-use Rattle.rules.specs.Take.{forwardPlan, grantPlan, planTakeLookup, planTakeLeaseRequest}
+use Rattle.rules.specs.Take.{forwardPlan, grantPlan, planDeliver, planForward, planTakeLeaseRequest}
 use Rattle.rules.proofs.Leaf.{has-content}
 use Rattle.table.proofs.Plans.{unless-to}
 use Rattle.join_laws.specs.Clauses.{View, Alive, Joining, Calm, Fair}
 use Rattle.join_laws.proofs.Written.{put, up-alive}
-use Rattle.join_laws.proofs.Told.{told-lookup, told-request-lease, told-lease-expired, told-grant-expired, told-take-lookup}
+use Rattle.join_laws.proofs.Told.{told-lookup, told-request-lease, told-lease-expired, told-grant-expired, told-deliver, told-forward}
 use Rattle.join_laws.proofs.Told.{told-lease-request}
 use Rattle.join_laws.proofs.Good.{Fitting, Good, fair-free, sends-none, sends-one, kept-passes, kept-good, leased-passes, leased-calm}
 use Rattle.join_laws.proofs.Good.{leased-stays}
@@ -122,15 +122,15 @@ module _ (t : View) (i : ℕ) (c : Calm t) (h : i < t .ring .n) where
       let (up, same) = told-grant-expired i (t .at i) j (t .at s) x e in
       rw same (leases-good _ _ _ (same-sort (t .at i .status)) (h, up-alive (t .at i .status) up))
 
-  -- ---- Take of a Lookup
+  -- ---- Deliver and Forward
 
-  pub take-lookup-good : (dead k : ℕ) (x : Plan) → planTakeLookup (t .ring) (t .ids) dead i (t .at i) k ≡ Go x → Good t i x
-  take-lookup-good dead k x e = go (told-take-lookup (t .ring) (t .ids) dead i (t .at i) k x e .1)
-    where
-      go : (x ≡ quietPlan (t .at i)) ⊎ (x ≡ forwardPlan (nextHop (t .ring) (t .ids) dead i (t .at i) k) (t .at i) (lookup k) k i)
-          → Good t i x
-      go (inl s) = rw s (kept-good t i c h _ refl (sends-none (t .at i)))
-      go (inr s) = rw s (forward-good (nextHop (t .ring) (t .ids) dead i (t .at i) k) (lookup k) k (free-lookup k))
+  pub deliver-good : (kind k : ℕ) (x : Plan) → planDeliver kind (t .ring) (t .ids) i (t .at i) k ≡ Go x → Good t i x
+  deliver-good kind k x e = rw (told-deliver kind (t .ring) (t .ids) i (t .at i) k x e) (kept-good t i c h _ refl (sends-none (t .at i)))
+
+  pub forward-lookup-good : (kind dead k : ℕ) (x : Plan) → planForward kind (t .ring) (t .ids) dead i (t .at i) k ≡ Go x → Good t i x
+  forward-lookup-good kind dead k x e =
+      rw (told-forward kind (t .ring) (t .ids) dead i (t .at i) k x e)
+      (forward-good (nextHop (t .ring) (t .ids) dead i (t .at i) k) (lookup k) k (free-lookup k))
 
   -- ---- Take of a JoinRequest, passed on: 5 of the letter is 5 of the one taken
 

@@ -8,7 +8,7 @@ use borrow.Author.Tests.{not-true}
 use Rattle.marks.proofs.Bools.{clash, and-both, false-not}
 use Rattle.marks.proofs.Laws.{each, all-of}
 use Rattle.rules.specs.declared.Action.{Action}
-use Rattle.rules.specs.declared.Action.the-variants.{Lookup, Join, RequestLease, LeaseExpired, GrantExpired, Take}
+use Rattle.rules.specs.declared.Action.the-variants.{Lookup, Join, RequestLease, LeaseExpired, GrantExpired, Take, Deliver, Forward}
 use Rattle.rules.specs.declared.Answer.{Answer}
 use Rattle.rules.specs.declared.Answer.the-variants.{Done, Refused}
 use Rattle.rules.specs.declared.Pool.{Pool}
@@ -29,6 +29,8 @@ isJoin (RequestLease i) = false
 isJoin (LeaseExpired i j) = false
 isJoin (GrantExpired i j) = false
 isJoin (Take place) = false
+isJoin (Deliver place) = false
+isJoin (Forward place) = false
 
 abbrev pub isDone : Answer → Bool
 isDone Done = true
@@ -78,6 +80,8 @@ joins-told (RequestLease i) e = absurd (clash (sym e))
 joins-told (LeaseExpired i j) e = absurd (clash (sym e))
 joins-told (GrantExpired i j) e = absurd (clash (sym e))
 joins-told (Take place) e = absurd (clash (sym e))
+joins-told (Deliver place) e = absurd (clash (sym e))
+joins-told (Forward place) e = absurd (clash (sym e))
 
 done-told : (r : Answer) → isDone r ≡ true → r ≡ Done
 done-told Done e = refl

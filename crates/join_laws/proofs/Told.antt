@@ -25,7 +25,7 @@ use Rattle.rules.specs.Nodes.{sidesOf, carriedOf}
 use Rattle.rules.specs.Pick.{idAt}
 use Rattle.rules.specs.Plans.{isDead, isReady, isOk, isUp, withStatus, withLeases, quietPlan, sendPlan}
 use Rattle.rules.specs.Take.{forwardPlan, joinReplyPlan, waitsEmpty, probePlanOf, replyPlanOf, grantPlan, broadcastPlan}
-use Rattle.rules.specs.Take.{planTakeLookup, planTakeJoinRequest, planTakeJoinReply, planTakeProbe, planTakeProbeReply}
+use Rattle.rules.specs.Take.{planDeliver, planForward, planTakeJoinRequest, planTakeJoinReply, planTakeProbe, planTakeProbeReply}
 use Rattle.rules.specs.Take.{planTakeLeaseRequest, planTakeBroadcast}
 use Rattle.table.proofs.Nodes.{both}
 use Rattle.table.proofs.By.{go-same, never-go}
@@ -79,20 +79,22 @@ told-grant-expired i v j u x e =
     let a = passed (not (isUp (v .status))) _ _ e in
     (not-false _ (a .0), go-same (passed (eqb i j || (not (has (v .grant) j) || has (u .lease) i)) _ _ (a .1) .1))
 
--- ---- Take, by kind
+-- ---- Deliver and Forward, and Take by kind
 
-pub told-take-lookup : (g : Ring) (ids : List ℕ) (dead i : ℕ) (v : Node) (k : ℕ) (x : Plan) → planTakeLookup g ids dead i v k ≡ Go x
-    → (isReady (v .status) ≡ true) × ((x ≡ quietPlan v) ⊎ (x ≡ forwardPlan (nextHop g ids dead i v k) v (lookup k) k i))
-unfolding planTakeLookup
-told-take-lookup g ids dead i v k x e =
-    let a = passed (not (isReady (v .status))) _ _ e in
-    (not-false _ (a .0), go (either (coversOf g ids i (sidesOf v) k) _ _ (a .1)))
-  where
-    go : ((coversOf g ids i (sidesOf v) k ≡ true) × (x ≡ quietPlan v))
-        ⊎ (Go (forwardPlan (nextHop g ids dead i v k) v (lookup k) k i) ≡ Go x)
-        → (x ≡ quietPlan v) ⊎ (x ≡ forwardPlan (nextHop g ids dead i v k) v (lookup k) k i)
-    go (inl p) = inl (p .1)
-    go (inr p) = inr (go-same p)
+pub told-deliver : (kind : ℕ) (g : Ring) (ids : List ℕ) (i : ℕ) (v : Node) (k : ℕ) (x : Plan) → planDeliver kind g ids i v k ≡ Go x → x ≡ quietPlan v
+unfolding planDeliver
+told-deliver kind g ids i v k x e =
+    let a = passed (not (eqb kind 1)) _ _ e in
+    let b = passed (not (isReady (v .status))) _ _ (a .1) in
+    go-same (passed (not (coversOf g ids i (sidesOf v) k)) _ _ (b .1) .1)
+
+pub told-forward : (kind : ℕ) (g : Ring) (ids : List ℕ) (dead i : ℕ) (v : Node) (k : ℕ) (x : Plan) → planForward kind g ids dead i v k ≡ Go x
+    → x ≡ forwardPlan (nextHop g ids dead i v k) v (lookup k) k i
+unfolding planForward
+told-forward kind g ids dead i v k x e =
+    let a = passed (not (eqb kind 1)) _ _ e in
+    let b = passed (not (isReady (v .status))) _ _ (a .1) in
+    go-same (passed (coversOf g ids i (sidesOf v) k) _ _ (b .1) .1)
 
 -- answered, or passed on
 pub data Requested (g : Ring) (ids : List ℕ) (dead i : ℕ) (v : Node) (j routing : ℕ) (x : Plan) : Type 0 where
