@@ -18,7 +18,7 @@ use Rattle.rules.specs.Nodes.{placed}
 use Rattle.rules.specs.Pick.{best}
 use Rattle.rules.specs.Plans.{mailed}
 use Rattle.rules.specs.Pool.{laid}
-use Rattle.rules.specs.Take.{planTakeLookup, planTake}
+use Rattle.rules.specs.Take.{planDeliver, planForward}
 use Rattle.table.specs.Settle.{carriedOut, settle}
 use Rattle.table.specs.Settled.{deadSet}
 use Rattle.table_type.specs.Start.{startNode, startNodes, startTable, slotsTo}
@@ -36,7 +36,7 @@ opened : Unit {0}
 unfolding listingOf loadOf headerFits offsetsFit statusesFit fileTable filePool partPool decode decodeAll numberOf decimal decimalTo lineOf linesOf
     followOf tripOf validOf numbersFit nodesFit slotFits idFits nodeFits leafFits sideFits othersFit isBlank listed sizeOf tally has allTo
     poolFits messagesFit messageFits fieldsFit wordFits flagFits carriedFits ownerFits routingFits failedFits allDifferent alike stepOf isSound
-    settle carriedOut mailed sentTo planTake planTakeLookup coversOf seenFrom best coversKey leftCoverOf rightCoverOf fallOf nextHop byLeaf
+    settle carriedOut mailed sentTo planDeliver planForward coversOf seenFrom best coversKey leftCoverOf rightCoverOf fallOf nextHop byLeaf
     overlaps meet gather leafHop routeHop leafCandidates routeCandidates contentOf union addOf without removeOf nearer absDistOf signedOf
     risesTo deadSet firstEqual firstFrom added removedAt
 opened = tt

@@ -1,6 +1,6 @@
 -- Following a lookup by the rules alone, with no pool and no validity test at each hop (`followTo`), is following it by the real step
--- (`trip-is`). The idea: a valid table with the one lookup is valid, its Take is one of four (`does`), and each leaves the table as it was.
--- What a listing says is then tied to the steps made: `Travels` is a journey of real Takes, `follow-travels` says that the listing's numbers
+-- (`trip-is`). The idea: a valid table with the one lookup is valid, what the pair does with it is one of four (`does`), and each leaves the table as it was.
+-- What a listing says is then tied to the steps made: `Travels` is a journey of real steps, `follow-travels` says that the listing's numbers
 -- are those of one, and `travels-follow` that no other numbers are. The measure: how many listed nodes are nearer to the key than the holder
 -- (crate lookup_laws). Assumes nothing.
 use mathlib.Core.Path.{_≡_, refl, sym, _∙_}
@@ -17,7 +17,7 @@ use Rattle.rules.specs.declared.Hop.{Hop}
 use Rattle.rules.specs.declared.Hop.the-variants.{To, NoRoute}
 use Rattle.rules.specs.declared.Message.{Message}
 use Rattle.rules.specs.declared.Pool.{Pool}
-use Rattle.rules.specs.declared.Action.the-variants.{Take}
+use Rattle.rules.specs.declared.Action.the-variants.{Deliver, Forward}
 use Rattle.rules.specs.declared.Refusal.the-variants as no
 use Rattle.rules.specs.InnerAsks.{Listed, Below}
 use Rattle.rules.specs.Fits.{messageFits}
@@ -26,7 +26,7 @@ use Rattle.rules.specs.Mail.{firstFrom, firstEqual, added, removedAt, allDiffer
 use Rattle.rules.specs.Nodes.{placed}
 use Rattle.rules.specs.Plans.{isReady}
 use Rattle.rules.specs.Pool.{laid, messageAt}
-use Rattle.rules.specs.Take.{planTakeLookup, planTake}
+use Rattle.rules.specs.Take.{planDeliver, planForward}
 use Rattle.pool.proofs.Laws.{mailed-quiet, mailed-send}
 use Rattle.table_type.specs.declared.Table.{Table}
 use Rattle.table_type.specs.declared.Stepped.{Stepped}
@@ -39,7 +39,7 @@ use Rattle.table.proofs.Obeys.{Obeys, obeys}
 use Rattle.table.proofs.Sound.{Sound, sound, sound-valid}
 use Rattle.lookup_laws.specs.Claims.{Nearer}
 use Rattle.lookup_laws.specs.Fates.{coversAt, hopAt}
-use Rattle.lookup_laws.proofs.Tracks.{planAt}
+use Rattle.lookup_laws.proofs.Tracks.{deliverAt, forwardAt}
 use Rattle.lookup_laws.proofs.Routings.{nearerListed, hop-nearer, nearer-falls, nearer-few}
 use Rattle.file_list.specs.declared.Trip.{Trip}
 use Rattle.file_list.specs.declared.Turn.{Turn}
@@ -82,17 +82,30 @@ lone t p e q h k =
     let s = sound t p e in
     record { valid = sound-valid (sound-only s (messageAt p q) (s .message q h)); is-lookup = k }
 
--- ---- its Take
+-- ---- the pair on it
 
-abbrev pub taken : Table → Message → Stepped
-taken t m = stepOf t (only m) 256 (Take 0)
+abbrev pub delivered : Table → Message → Stepped
+delivered t m = stepOf t (only m) 256 (Deliver 0)
 
--- and by the step; the table stays as it was
+abbrev pub forwarded : Table → Message → Stepped
+forwarded t m = stepOf t (only m) 256 (Forward 0)
+
+-- neither is done, since its node is not ready
+pub record Halts (t : Table) (m : Message) : Type 0 where
+  pub kept : delivered t m ≡ refusedOf t (only m) no.Status
+  pub stuck : forwarded t m ≡ refusedOf t (only m) no.Status
+
+-- Forward is done, Deliver not, and this message waits
+pub record Passes (t : Table) (m next : Message) : Type 0 where
+  pub kept : delivered t m ≡ refusedOf t (only m) no.Partner
+  pub goes : forwarded t m ≡ doneOf t (only next)
+
+-- and by the steps; the table stays as it was
 pub data Does (t : Table) (m : Message) : Turn → Type 0 where
-  stops : taken t m ≡ refusedOf t (only m) no.Status → Does t m Stops
-  delivers : taken t m ≡ doneOf t (laid []) → Does t m Delivers
-  strands : taken t m ≡ doneOf t (only (placed (noLegalRoute (m .word)) (m .dest))) → Does t m Stops
-  routes : (h : ℕ) → hopAt t (m .dest) (m .word) ≡ To h → taken t m ≡ doneOf t (only (placed (lookup (m .word)) h)) → Does t m (Goes h)
+  stops : Halts t m → Does t m Stops
+  delivers : delivered t m ≡ doneOf t (laid []) → Does t m Delivers
+  strands : Passes t m (placed (noLegalRoute (m .word)) (m .dest)) → Does t m Stops
+  routes : (h : ℕ) → hopAt t (m .dest) (m .word) ≡ To h → Passes t m (placed (lookup (m .word)) h) → Does t m (Goes h)
 
 stops-goes : {h : ℕ} → Stops ≡ Goes h → ⊥
 stops-goes q = let z : _≡_ {A = ℕ} 0 1 = cc in omega arith
@@ -105,28 +118,34 @@ unfolding added firstEqual firstFrom
 added-first m = refl
 
 module _ {t : Table} {m : Message} (l : Lone t m) where
-  take-is : taken t m ≡ settle t (only m) [] (m .dest) (planAt t (m .dest) (m .word))
-  unfolding stepOf isSound planTake removedAt
-  take-is = rw (l .valid, l .is-lookup)
+  deliver-is : delivered t m ≡ settle t (only m) [] (m .dest) (deliverAt t (m .dest) (m .word))
+  unfolding stepOf isSound removedAt
+  deliver-is = rw (l .valid, l .is-lookup)
+
+  forward-is : forwarded t m ≡ settle t (only m) [] (m .dest) (forwardAt t (m .dest) (m .word))
+  unfolding stepOf isSound removedAt
+  forward-is = rw (l .valid, l .is-lookup)
 
   does : Does t m (turnAt t (m .word) (m .dest))
-  unfolding settle carriedOut planTakeLookup turnOf
+  unfolding settle carriedOut planDeliver planForward turnOf
   does = ready (isReady (nodeAt t (m .dest) .status)) refl
     where
       hop : isReady (nodeAt t (m .dest) .status) ≡ true → coversAt t (m .dest) (m .word) ≡ false → (x : Hop)
           → hopAt t (m .dest) (m .word) ≡ x → Does t m (turnBy x)
-      hop r c (To h) e = routes h e (take-is ∙ rw (r, c, e, mailed-send, added-first, set-getD))
-      hop r c NoRoute e = strands (take-is ∙ rw (r, c, e, mailed-send, added-first, set-getD))
+      hop r c (To h) e =
+          routes h e (record { kept = deliver-is ∙ rw (r, c); goes = forward-is ∙ rw (r, c, e, mailed-send, added-first, set-getD) })
+      hop r c NoRoute e =
+          strands (record { kept = deliver-is ∙ rw (r, c); goes = forward-is ∙ rw (r, c, e, mailed-send, added-first, set-getD) })
 
       covers : isReady (nodeAt t (m .dest) .status) ≡ true → (b : Bool) → coversAt t (m .dest) (m .word) ≡ b
           → Does t m (cond b Delivers (turnBy (hopAt t (m .dest) (m .word))))
-      covers r true c = delivers (take-is ∙ rw (r, c, mailed-quiet, set-getD))
+      covers r true c = delivers (deliver-is ∙ rw (r, c, mailed-quiet, set-getD))
       covers r false c = hop r c (hopAt t (m .dest) (m .word)) refl
 
       ready : (b : Bool) → isReady (nodeAt t (m .dest) .status) ≡ b
           → Does t m (cond (not b) Stops (cond (coversAt t (m .dest) (m .word)) Delivers (turnBy (hopAt t (m .dest) (m .word)))))
       ready true r = covers r (coversAt t (m .dest) (m .word)) refl
-      ready false r = stops (take-is ∙ rw r)
+      ready false r = stops (record { kept = deliver-is ∙ rw r; stuck = forward-is ∙ rw r })
 
   lone-sound : Sound t (only m)
   lone-sound = sound t (only m) (l .valid)
@@ -181,10 +200,10 @@ onward Delivers i hops rest = ended (At i) hops
 onward Stops i hops rest = ended Nothing hops
 onward (Goes h) i hops rest = rest h
 
--- with at most so many takes, from slot i
+-- by at most so many slots, from slot i
 unfoldable pub followTo : ℕ → Table → ℕ → ℕ → ℕ → Trip
 followTo zero t k i hops = ended Nothing hops
-followTo (suc takes) t k i hops = onward (turnAt t k i) i hops (λ h. followTo takes t k h (hops + 1))
+followTo (suc slots) t k i hops = onward (turnAt t k i) i hops (λ h. followTo slots t k h (hops + 1))
 
 -- one turn of 64, and none
 pub turn : (t : Table) (k i hops : ℕ) → hops < 64
@@ -206,10 +225,10 @@ trip-is (suc n) {t} {m} l hops = go (turnAt t (m .word) (m .dest)) (does l) (λ 
         → ((h : ℕ) → hopAt t (m .dest) (m .word) ≡ To h
         → tripOf n t (only (placed (lookup (m .word)) h)) (hops + 1) ≡ followTo n t (m .word) h (hops + 1))
         → tripOf (suc n) t (only m) hops ≡ onward x (m .dest) hops (λ h. followTo n t (m .word) h (hops + 1))
-    go x (stops s) on = rw s
+    go x (stops s) on = rw (s .kept, s .stuck)
     go x (delivers s) on = rw s
-    go x (strands s) on = rw s
-    go x (routes h e s) on = rw s (on h e)
+    go x (strands s) on = rw (s .kept, s .goes)
+    go x (routes h e s) on = rw (s .kept, s .goes) (on h e)
 
 pub follow-is : {t : Table} {m : Message} → Lone t m → followOf t m ≡ followTo 64 t (m .word) (m .dest) 0
 unfolding followOf
@@ -217,17 +236,17 @@ follow-is l = trip-is 64 l 0
 
 -- ---- the listing's numbers, by the steps made
 
--- the lookup m, taken again and again as the only message of the table t, ends so: at the slot whose Take delivered it, or at none, after so
--- many Takes that routed it
+-- the lookup m, delivered or forwarded as the only message of the table t, ends so: at the slot whose Deliver was done, or at none, after so
+-- many Forwards to another node
 pub data Travels (t : Table) : Message → Found → ℕ → Type 0 where
   -- refused by a node that is not ready
-  stopped : {m : Message} → taken t m ≡ refusedOf t (only m) no.Status → Travels t m Nothing 0
+  stopped : {m : Message} → Halts t m → Travels t m Nothing 0
   -- delivered: nothing waits
-  delivered : {m : Message} → taken t m ≡ doneOf t (laid []) → Travels t m (At (m .dest)) 0
+  arrived : {m : Message} → delivered t m ≡ doneOf t (laid []) → Travels t m (At (m .dest)) 0
   -- no legal route: NoLegalRoute waits
-  stranded : {m : Message} → taken t m ≡ doneOf t (only (placed (noLegalRoute (m .word)) (m .dest))) → Travels t m Nothing 0
-  -- routed: the same Lookup waits at another slot
-  routed : {m : Message} {h hops : ℕ} {end : Found} → taken t m ≡ doneOf t (only (placed (lookup (m .word)) h))
+  stranded : {m : Message} → Passes t m (placed (noLegalRoute (m .word)) (m .dest)) → Travels t m Nothing 0
+  -- forwarded: the same Lookup waits at another slot
+  routed : {m : Message} {h hops : ℕ} {end : Found} → Passes t m (placed (lookup (m .word)) h)
       → Travels t (placed (lookup (m .word)) h) end hops → Travels t m end (suc hops)
 
 -- whatever such a journey is, following tells it
@@ -235,12 +254,12 @@ pub travels-trip : {t : Table} {m : Message} {end : Found} {count : ℕ} → Tra
     → tripOf n t (only m) hops ≡ ended end (hops + count)
 unfolding tripOf
 travels-trip w zero hops h = absurd (omega arith)
-travels-trip (stopped e) (suc n) hops h = rw (e, add-zero)
-travels-trip (delivered e) (suc n) hops h = rw (e, add-zero)
-travels-trip (stranded e) (suc n) hops h = rw (e, add-zero)
+travels-trip (stopped e) (suc n) hops h = rw (e .kept, e .stuck, add-zero)
+travels-trip (arrived e) (suc n) hops h = rw (e, add-zero)
+travels-trip (stranded e) (suc n) hops h = rw (e .kept, e .goes, add-zero)
 travels-trip (routed {hops = c} e w) (suc n) hops h =
     let sum : hops + suc c ≡ hops + 1 + c = omega arith in
-    rw (e, sum) (travels-trip w n (hops + 1) (omega arith))
+    rw (e .kept, e .goes, sum) (travels-trip w n (hops + 1) (omega arith))
 
 -- a journey, routed at most as often as listed nodes are nearer to the key
 record Journey (t : Table) (m : Message) : Type 0 where
@@ -260,7 +279,7 @@ journey-in (suc n) {t} {m} l f =
 
     go : (x : Turn) → Does t m x → ((h : ℕ) → hopAt t (m .dest) (m .word) ≡ To h → Journey t (placed (lookup (m .word)) h)) → Journey t m
     go x (stops s) on = ends Nothing tt (stopped s)
-    go x (delivers s) on = ends (At (m .dest)) (lone-slot l) (delivered s)
+    go x (delivers s) on = ends (At (m .dest)) (lone-slot l) (arrived s)
     go x (strands s) on = ends Nothing tt (stranded s)
     go x (routes h e s) on =
         let j = on h e in
@@ -279,14 +298,14 @@ module _ {t : Table} {m : Message} (l : Lone t m) where
   journey-few : journey .hops < t .n
   journey-few = omega (arith, journey .few, nearer-few (t .m) (t .n) (idsOf t) (m .word) (m .dest) (lone-slot l))
 
-  -- 64 takes are enough
+  -- 64 slots are enough
   journey-told : followOf t m ≡ ended (journey .end) (journey .hops)
   unfolding followOf
   journey-told =
       let few : journey .hops < 64 = omega (arith, journey-few, lone-listed l .n-high) in
       travels-trip (journey .travels) 64 0 few ∙ rw zero-add
 
-  -- `to` is the slot whose Take delivered it, and hops the Takes that routed it
+  -- `to` is the slot whose Deliver was done, and hops the Forwards to another node
   pub follow-travels : Travels t m (followOf t m .end) (followOf t m .hops)
   follow-travels = rw journey-told (journey .travels)
 
