@@ -4,7 +4,7 @@ use mathlib.Core.Path.{_≡_, refl}
 use Prim.Native.Nat.{ℕ}
 use Rattle.rules.specs.declared.Answer.the-variants.{Done, Refused}
 use Rattle.rules.specs.declared.Refusal.the-variants as no
-use Rattle.rules.specs.declared.Action.the-variants.{Lookup, Join, RequestLease, LeaseExpired, GrantExpired, Take}
+use Rattle.rules.specs.declared.Action.the-variants.{Lookup, Join, RequestLease, LeaseExpired, GrantExpired, Take, Deliver, Forward}
 use Rattle.face_table.specs.declared.Rest.the-variants.{Settled, Unsettled, NotAsked}
 use Rattle.face_c.specs.declared.Asked.the-variants.{Is, None}
 use Rattle.face_c.specs.Words.{packOf, restWord, unknown, askedOf}
@@ -15,8 +15,8 @@ pub record WordsOf : Type 0 where
   pub rest : (restWord Settled ≡ 4294967296) × (restWord Unsettled ≡ 0) × (restWord (NotAsked no.Invalid) ≡ 10)
   pub none : unknown ≡ 4294967295
   pub actions : (askedOf 1 7 9 ≡ Is (Lookup 7 9)) × (askedOf 2 7 9 ≡ Is (Join 7 9)) × (askedOf 3 7 9 ≡ Is (RequestLease 7))
-      × (askedOf 4 7 9 ≡ Is (LeaseExpired 7 9)) × (askedOf 5 7 9 ≡ Is (GrantExpired 7 9)) × (askedOf 6 7 9 ≡ Is (Take 7)) × (askedOf 0 7 9 ≡ None)
-      × (askedOf 7 7 9 ≡ None)
+      × (askedOf 4 7 9 ≡ Is (LeaseExpired 7 9)) × (askedOf 5 7 9 ≡ Is (GrantExpired 7 9)) × (askedOf 6 7 9 ≡ Is (Take 7))
+      × (askedOf 7 7 9 ≡ Is (Deliver 7)) × (askedOf 8 7 9 ≡ Is (Forward 7)) × (askedOf 0 7 9 ≡ None) × (askedOf 9 7 9 ≡ None)
 
 pub words-of : WordsOf
 unfolding askedOf
@@ -25,5 +25,5 @@ words-of =
       packed = (refl, refl);
       rest = (refl, refl, refl);
       none = refl;
-      actions = (refl, refl, refl, refl, refl, refl, refl, refl);
+      actions = (refl, refl, refl, refl, refl, refl, refl, refl, refl, refl);
     }

@@ -4,7 +4,7 @@ use mathlib.Core.Bool.{cond}
 use mathlib.Core.List.{List}
 use Prim.Native.Nat.{ℕ, _+_, _*_}
 use lib.Dec.{eqb}
-use Rattle.rules.specs.declared.Action.the-variants.{Lookup, Join, RequestLease, LeaseExpired, GrantExpired, Take}
+use Rattle.rules.specs.declared.Action.the-variants.{Lookup, Join, RequestLease, LeaseExpired, GrantExpired, Take, Deliver, Forward}
 use Rattle.rules.specs.Numbers.{refusalNumber, answerNumber}
 use Rattle.file.specs.declared.Wrote.{Wrote}
 use Rattle.face_table.specs.declared.Rest.{Rest}
@@ -27,13 +27,17 @@ restWord (NotAsked why) = refusalNumber why
 abbrev pub unknown : ℕ
 unknown = 4294967295
 
--- 1 Lookup, 2 Join, 3 RequestLease, 4 LeaseExpired, 5 GrantExpired, 6 Take
+-- 1 Lookup, 2 Join, 3 RequestLease, 4 LeaseExpired, 5 GrantExpired, 6 Take, 7 Deliver, 8 Forward
 unfoldable pub askedOf : ℕ → ℕ → ℕ → Asked
 askedOf k x y =
     cond (eqb k 1) (Is (Lookup x y))
     (cond (eqb k 2) (Is (Join x y))
     (cond (eqb k 3) (Is (RequestLease x))
-    (cond (eqb k 4) (Is (LeaseExpired x y)) (cond (eqb k 5) (Is (GrantExpired x y)) (cond (eqb k 6) (Is (Take x)) None)))))
+    (cond (eqb k 4) (Is (LeaseExpired x y))
+    (cond (eqb k 5) (Is (GrantExpired x y))
+    (cond (eqb k 6) (Is (Take x))
+    (cond (eqb k 7) (Is (Deliver x))
+    (cond (eqb k 8) (Is (Forward x)) None)))))))
 
 -- the word that answers a step
 unfoldable pub stepWord : Asked → List ℕ → List ℕ → ℕ

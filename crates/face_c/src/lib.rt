@@ -27,6 +27,8 @@ pub fn action_of(k: u64, x: u64, y: u64) -> Asked
         4 => Asked::Is(Action::LeaseExpired(x as usize, y as usize)),
         5 => Asked::Is(Action::GrantExpired(x as usize, y as usize)),
         6 => Asked::Is(Action::Take(x as usize)),
+        7 => Asked::Is(Action::Deliver(x as usize)),
+        8 => Asked::Is(Action::Forward(x as usize)),
         _ => Asked::None,
     }
 }

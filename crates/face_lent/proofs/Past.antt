@@ -15,7 +15,7 @@ use Rattle.marks.specs.declared.Found.the-variants.{At, Nothing}
 use Rattle.marks.proofs.Bools.{bool-same}
 use Rattle.marks.proofs.Laws.{all-same}
 use Rattle.rules.specs.declared.Action.{Action}
-use Rattle.rules.specs.declared.Action.the-variants.{Lookup, Join, RequestLease, LeaseExpired, GrantExpired, Take}
+use Rattle.rules.specs.declared.Action.the-variants.{Lookup, Join, RequestLease, LeaseExpired, GrantExpired, Take, Deliver, Forward}
 use Rattle.rules.specs.declared.Answer.{Answer}
 use Rattle.rules.specs.declared.Answer.the-variants.{Done, Refused}
 use Rattle.rules.specs.declared.Message.{Message}
@@ -70,6 +70,8 @@ module _ (t : Table) (n : ℕ) (xs ys : List Message) (same : take n xs ≡ take
   asked-same (LeaseExpired i j) e = refl
   asked-same (GrantExpired i j) e = refl
   asked-same (Take place) e = rw (place-same place (ltb-true place n e))
+  asked-same (Deliver place) e = rw (place-same place (ltb-true place n e))
+  asked-same (Forward place) e = rw (place-same place (ltb-true place n e))
 
 -- and every function says the same
 module _ (t : Table) (n : ℕ) (xs ys : List Message) (same : take n xs ≡ take n ys) where

@@ -7,7 +7,7 @@ use Prim.Native.Nat.{ℕ}
 use lib.ListN.{take}
 use Rattle.ring.specs.Distance.{fallOf, leftCoverOf, rightCoverOf, coversKey}
 use Rattle.marks.specs.Marks.{has, tally, allTo, sizeOf, listed}
-use Rattle.rules.specs.declared.Action.the-variants.{Lookup, Take}
+use Rattle.rules.specs.declared.Action.the-variants.{Lookup, Take, Deliver}
 use Rattle.rules.specs.declared.Refusal.the-variants as no
 use Rattle.rules.specs.Actions.{waits, planLookup}
 use Rattle.rules.specs.Fits.{numbersFit, idFits, sideFits, leafFits, othersFit, nodeFits, isBlank, slotFits}
@@ -17,7 +17,7 @@ use Rattle.rules.specs.Mail.{alike, allDifferent, firstFrom, firstEqual, added,
 use Rattle.rules.specs.Pick.{best}
 use Rattle.rules.specs.Plans.{mailed}
 use Rattle.rules.specs.Pool.{laid}
-use Rattle.rules.specs.Take.{planTakeLookup, planTake}
+use Rattle.rules.specs.Take.{planDeliver, planTake}
 use Rattle.table_type.specs.declared.Stepped.{Stepped}
 use Rattle.table_type.specs.declared.Table.{Table}
 use Rattle.table_type.specs.Start.{noTable}
@@ -62,9 +62,9 @@ looking k =
 abbrev looks : List ℕ → Claim
 looks file = record { action = Lookup 0 200; file = file }
 
--- Take(0), said to give this file
-abbrev takes : List ℕ → Claim
-takes file = record { action = Take 0; file = file }
+-- Deliver(0), said to give this file
+abbrev delivers : List ℕ → Claim
+delivers file = record { action = Deliver 0; file = file }
 
 -- a step that was done and left the table of no node with M = 2, one that was refused, and the file of it: 32 bytes
 abbrev left : Table
@@ -88,12 +88,12 @@ ended = record { verdict = Bad 4; steps = 3; table = noTable; pool = laid [] }
 
 pub record Cases : Type 0 where
   -- a whole rehearsal, good; possibly none; the first or second step bad, the second refused: that Lookup waits
-  pub good : verdictOf quiet (looks (looking 200) ∷ takes quiet ∷ []) ≡ Accepted
+  pub good : verdictOf quiet (looks (looking 200) ∷ delivers quiet ∷ []) ≡ Accepted
   pub none : verdictOf quiet [] ≡ Accepted
-  pub no-start : verdictOf [] (looks (looking 200) ∷ takes quiet ∷ []) ≡ Bad 0
-  pub byte-changed : verdictOf quiet (looks (looking 201) ∷ takes quiet ∷ []) ≡ Bad 1
+  pub no-start : verdictOf [] (looks (looking 200) ∷ delivers quiet ∷ []) ≡ Bad 0
+  pub byte-changed : verdictOf quiet (looks (looking 201) ∷ delivers quiet ∷ []) ≡ Bad 1
   pub refused : verdictOf quiet (looks (looking 200) ∷ looks (looking 200) ∷ []) ≡ Bad 2
-  pub singly : checkerOf quiet (looks (looking 200) ∷ takes quiet ∷ []) .verdict ≡ Accepted
+  pub singly : checkerOf quiet (looks (looking 200) ∷ delivers quiet ∷ []) .verdict ≡ Accepted
   -- precisely the stated file: the last byte, a byte more, a byte less
   pub same-bytes : agreesWith done bytes ≡ true
   pub last-byte : agreesWith done (take 31 bytes ++ (1 ∷ [])) ≡ false
@@ -125,7 +125,7 @@ pub record Cases : Type 0 where
 pub cases : Cases
 unfolding fallOf leftCoverOf rightCoverOf coversKey has tally allTo sizeOf listed waits planLookup numbersFit idFits sideFits leafFits
     othersFit nodeFits isBlank slotFits wordFits flagFits carriedFits ownerFits routingFits failedFits fieldsFit messageFits seenFrom
-    coversOf alike allDifferent firstFrom firstEqual added removedAt sentTo best mailed planTakeLookup planTake carriedOut settle
+    coversOf alike allDifferent firstFrom firstEqual added removedAt sentTo best mailed planDeliver planTake carriedOut settle
     isSound stepOf nodesFit messagesFit poolFits validOf bytesOf numberOf encode decode encodeAll decodeAll fileOf headerFits offsetsFit
     statusesFit fileTable partPool filePool loadOf loadedOf agreesWith verdictFrom verdictOf beginOf checkedOf handedOf
 cases =

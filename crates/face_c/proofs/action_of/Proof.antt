@@ -30,11 +30,28 @@ returns-6 c = rw (c .match .keys6)
 
 returns-7 : tie.Need-returns-7
 unfolding askedOf
-returns-7 c =
+returns-7 c = rw (c .match .keys7)
+
+returns-8 : tie.Need-returns-8
+unfolding askedOf
+returns-8 c = rw (c .match .keys8)
+
+returns-9 : tie.Need-returns-9
+unfolding askedOf
+returns-9 c =
     let k = c .before .args .k in
     let r = c .match .rest in
-    rw
-    (ne-eqb k 1 (r .0 .0 .0 .0 .0 .1), ne-eqb k 2 (r .0 .0 .0 .0 .1), ne-eqb k 3 (r .0 .0 .0 .1), ne-eqb k 4 (r .0 .0 .1), ne-eqb k 5 (r .0 .1), ne-eqb k 6 (r .1))
+    let q = r .0 .0 in
+    rw (
+      ne-eqb k 1 (q .0 .0 .0 .0 .0 .1),
+      ne-eqb k 2 (q .0 .0 .0 .0 .1),
+      ne-eqb k 3 (q .0 .0 .0 .1),
+      ne-eqb k 4 (q .0 .0 .1),
+      ne-eqb k 5 (q .0 .1),
+      ne-eqb k 6 (q .1),
+      ne-eqb k 7 (r .0 .1),
+      ne-eqb k 8 (r .1),
+    )
 
 pub action-of-spec : {M : Type 1} → statement M
-action-of-spec = tie.close (tie.spec returns returns-2 returns-3 returns-4 returns-5 returns-6 returns-7)
+action-of-spec = tie.close (tie.spec returns returns-2 returns-3 returns-4 returns-5 returns-6 returns-7 returns-8 returns-9)
