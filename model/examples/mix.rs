@@ -2,7 +2,7 @@
 
 use model::gen::Requests;
 use model::wire::{Request, Server};
-use model::{load, Action, Right, Table, EMPTY_POOL};
+use model::{load, Right, Table, EMPTY_POOL};
 use std::collections::BTreeMap;
 
 fn name(request: &[u8]) -> String {
@@ -22,11 +22,10 @@ fn name(request: &[u8]) -> String {
     };
     let (mut table, mut pool) = (Table::BLANK, EMPTY_POOL);
     let loaded = load(file, &mut table, &mut pool).is_ok();
-    match action {
-        Action::Take { place } if loaded && place < table.count => {
-            format!("take {}", pool[place].fields().kind)
-        }
-        _ => format!("{action:?}").split(' ').next().unwrap_or_default().to_lowercase(),
+    let name = format!("{action:?}").split(' ').next().unwrap_or_default().to_lowercase();
+    match action.place() {
+        Some(place) if loaded && place < table.count => format!("{name} {}", pool[place].fields().kind),
+        _ => name,
     }
 }
 

@@ -53,7 +53,7 @@ fn main() {
         let lookup = Action::Lookup { at: 0, key: 0x8000_1234 };
         let time = least(|| {
             step(&mut t, &mut p, black_box(lookup)).expect("there is room");
-            let last = Action::Take { place: t.count - 1 };
+            let last = Action::Forward { place: t.count - 1 };
             step(&mut t, &mut p, black_box(last)).expect("it is ready");
             t.count -= 1;
         });

@@ -396,6 +396,35 @@ slips! {
     /// A forwarded JoinRequest gains i itself too.
     ForwardGainsItself,
 
+    // Deliver and Forward (T-05).
+
+    /// Take still takes a Lookup.
+    TakeOfLookup,
+    /// Take gives 2 before 5 on a Lookup.
+    TakeTwoBeforeFive,
+    /// The pair gives 2 before 5 on another kind.
+    PairTwoBeforeFive,
+    /// The pair gives 5 by cover before 2.
+    CoverBeforeStatus,
+    /// Deliver forwards where the node does not cover the key.
+    DeliverForwards,
+    /// Deliver delivers whether or not the node covers the key.
+    DeliverUncovered,
+    /// Deliver also at a node that is ok.
+    DeliverAtOk,
+    /// Deliver takes a NoLegalRoute away.
+    DeliverOfNoRoute,
+    /// Forward delivers where the node covers the key.
+    ForwardDelivers,
+    /// Forward routes whether or not the node covers the key.
+    ForwardCovered,
+    /// Forward also at a node that is ok.
+    ForwardAtOk,
+    /// Forward takes a JoinRequest too.
+    ForwardOfJoin,
+    /// Forward gives 5 where there is no legal route.
+    ForwardNoRouteIsFive,
+
     // Take of kind 3.
 
     /// Kind 3 gives 5 before 4.

@@ -1,4 +1,4 @@
-//! A step: one of six actions on a valid table.
+//! A step: one of the actions on a valid table.
 
 use crate::change::{Change, Scene};
 use crate::index::Index;
@@ -10,7 +10,7 @@ use crate::table::{Status, Table};
 use crate::valid::{check, lent_mut};
 use crate::view::View;
 
-/// One of the six actions with its arguments, which may be out of range.
+/// One of the actions with its arguments, which may be out of range.
 #[derive(Clone, Copy, Debug, PartialEq, Eq)]
 pub enum Action {
     Lookup { at: usize, key: u64 },
@@ -19,6 +19,28 @@ pub enum Action {
     LeaseExpired { node: usize, partner: usize },
     GrantExpired { node: usize, partner: usize },
     Take { place: usize },
+    Deliver { place: usize },
+    Forward { place: usize },
+}
+
+impl Action {
+    /// The place of the message that the action handles, if it is one that does.
+    pub fn place(self) -> Option<usize> {
+        match self {
+            Action::Take { place } | Action::Deliver { place } | Action::Forward { place } => Some(place),
+            _ => None,
+        }
+    }
+
+    /// The same action on the message of another place.
+    pub fn at_place(self, place: usize) -> Action {
+        match self {
+            Action::Take { .. } => Action::Take { place },
+            Action::Deliver { .. } => Action::Deliver { place },
+            Action::Forward { .. } => Action::Forward { place },
+            other => other,
+        }
+    }
 }
 
 /// Makes the action on a valid table, or refuses and changes nothing.
@@ -72,6 +94,8 @@ impl<R: Reading> Scene<'_, R> {
                 self.grant_expired(change, self.partner(partner, change.node.status.is_member())?)
             }
             Action::Take { place } => self.take(change, self.place(place)?),
+            Action::Deliver { place } => self.deliver(change, self.place(place)?),
+            Action::Forward { place } => self.forward(change, self.place(place)?),
         }
     }
 

@@ -21,6 +21,9 @@ use crate::water::{Held, Record, Store};
 /// The longest request: the driver's buffer.
 pub const LONGEST: usize = 65_536;
 
+/// The highest number of an action.
+pub const ACTIONS: u64 = 8;
+
 /// The number for a request that is none.
 pub const MALFORMED: u32 = u32::MAX;
 
@@ -135,6 +138,8 @@ fn action(bytes: &[u8]) -> Option<(Action, &[u8])> {
         4 => Action::LeaseExpired { node, partner },
         5 => Action::GrantExpired { node, partner },
         6 => Action::Take { place: node },
+        7 => Action::Deliver { place: node },
+        8 => Action::Forward { place: node },
         _ => return None,
     };
     Some((action, rest))
@@ -148,6 +153,8 @@ fn action_words(action: Action) -> [u64; 3] {
         Action::LeaseExpired { node, partner } => [4, node as u64, partner as u64],
         Action::GrantExpired { node, partner } => [5, node as u64, partner as u64],
         Action::Take { place } => [6, place as u64, 0],
+        Action::Deliver { place } => [7, place as u64, 0],
+        Action::Forward { place } => [8, place as u64, 0],
     }
 }
 

@@ -1,5 +1,5 @@
 //! The driver's stored corpus has every number that a step can answer, and no other, for every action and
-//! for the Take of every kind. It tells every misreading apart, and its replies are the model's.
+//! for every kind of message that one is asked to handle. It tells every misreading apart, and its replies are the model's.
 
 mod common;
 
@@ -9,20 +9,20 @@ use model::wire::{Request, Server};
 use model::{Action, Right, Slip};
 use std::collections::BTreeSet;
 
-/// An action, for a Take the kind of the message or 0 for a place out of range, and a number answered.
+/// An action, the kind of the message that it is to handle or 0 for none, and a number answered.
 type Case = (&'static str, u32, u32);
 
-/// The numbers of 01, "Actions" and "Take, by kind". That there are no others is proved in
+/// The numbers of 01, "Actions" and "Take, by kind", and of T-05. That there are no others is proved in
 /// `crates/table_type/specs/Numbers.antt` (`step-numbers`, which has 0, 1 and 10 for all, and `take-kind-6`, that 0 is
 /// not answered there). 1 is left out where the place is in range, and 10, for a file that loads has a valid table.
-const NUMBERS: [(&str, u32, &[u32]); 14] = [
+const NUMBERS: [(&str, u32, &[u32]); 18] = [
     ("Lookup", 0, &[0, 1, 3, 6]),
     ("Join", 0, &[0, 1, 2, 3, 4, 6]),
     ("RequestLease", 0, &[0, 1, 2, 4, 6]),
     ("LeaseExpired", 0, &[0, 1, 2, 5]),
     ("GrantExpired", 0, &[0, 1, 2, 5]),
     ("Take", 0, &[1]),
-    ("Take", 1, &[0, 2]),
+    ("Take", 1, &[5]),
     ("Take", 2, &[0, 2, 5]),
     ("Take", 3, &[0, 2, 4, 5, 6]),
     ("Take", 4, &[0, 2, 4, 5, 6]),
@@ -30,6 +30,10 @@ const NUMBERS: [(&str, u32, &[u32]); 14] = [
     ("Take", 6, &[5]),
     ("Take", 7, &[0, 2, 4]),
     ("Take", 8, &[0, 2, 4, 5]),
+    ("Deliver", 0, &[1]),
+    ("Deliver", 1, &[0, 2, 5]),
+    ("Forward", 0, &[1]),
+    ("Forward", 1, &[0, 2, 5]),
 ];
 
 /// The requests or replies of a stored file, without their length words.
@@ -58,16 +62,18 @@ fn case(request: &[u8], reply: &[u8]) -> Option<Case> {
         return None;
     };
     let bench = Bench::load(file).ok()?;
-    let (name, kind) = match action {
-        Action::Lookup { .. } => ("Lookup", 0),
-        Action::Join { .. } => ("Join", 0),
-        Action::RequestLease { .. } => ("RequestLease", 0),
-        Action::LeaseExpired { .. } => ("LeaseExpired", 0),
-        Action::GrantExpired { .. } => ("GrantExpired", 0),
-        Action::Take { place } => ("Take", kind(&bench, place)),
+    let name = match action {
+        Action::Lookup { .. } => "Lookup",
+        Action::Join { .. } => "Join",
+        Action::RequestLease { .. } => "RequestLease",
+        Action::LeaseExpired { .. } => "LeaseExpired",
+        Action::GrantExpired { .. } => "GrantExpired",
+        Action::Take { .. } => "Take",
+        Action::Deliver { .. } => "Deliver",
+        Action::Forward { .. } => "Forward",
     };
     let number = reply.first_chunk().expect("a reply has a number");
-    Some((name, kind, u32::from_le_bytes(*number)))
+    Some((name, action.place().map_or(0, |place| kind(&bench, place)), u32::from_le_bytes(*number)))
 }
 
 /// The cases of the stored corpus.
@@ -82,6 +88,9 @@ fn can() -> BTreeSet<Case> {
     let mut can = BTreeSet::new();
     for (name, kind, numbers) in NUMBERS {
         can.extend(numbers.iter().map(|&number| (name, kind, number)));
+    }
+    for kind in 2..=8 {
+        can.extend([("Deliver", kind, 5), ("Forward", kind, 5)]);
     }
     can
 }

@@ -113,7 +113,7 @@ fn done_steps_blank_the_places_past_the_count_and_refused_ones_do_not() {
     assert_eq!(bench.table.count, 2, "both leases are held");
     assert!(bench.pool[2..].iter().all(|m| *m == Message::Blank));
     let mut bench = dirty();
-    assert_eq!(bench.take(0), 0);
+    assert_eq!(bench.forward(0), 0);
     assert_eq!(
         bench.waiting(),
         [Message::Lookup { to: 2, key: 200 }, Message::Lookup { to: bench.pool[1].to() as u8, key: 80 }]
@@ -137,6 +137,8 @@ fn arguments_out_of_range_are_1() {
         Action::Take { place: 2 },
         Action::Take { place: 256 },
         Action::Take { place: far },
+        Action::Deliver { place: 2 },
+        Action::Forward { place: 256 },
     ];
     for action in actions {
         let mut after = bench.clone();
@@ -225,7 +227,7 @@ fn the_pool_holds_256() {
     assert_eq!(bench.step(Action::Lookup { at: 0, key: 5 }), 6);
     assert_eq!(bench.step(Action::Lookup { at: 0, key: 1000 }), 3, "3 before 6");
     assert_eq!(bench, before);
-    assert_eq!(bench.take(0), 0, "the message taken makes room");
+    assert_eq!(bench.forward(0), 0, "the message taken makes room");
     assert_eq!(bench.table.count, 256);
 }
 

@@ -107,8 +107,8 @@ fn a_waiting_node_holds_a_key_up() {
     assert!(!bench.settled());
     bench.lookup(0, 2);
     assert_eq!(listing(&bench.file()), b"key from to hops\n2 0 - 1\n");
-    assert_eq!(bench.take(0), 0);
-    assert_eq!(bench.take(0), 2);
+    assert_eq!(bench.forward(0), 0);
+    assert_eq!([bench.deliver(0), bench.forward(0)], [2, 2]);
 }
 
 #[test]
@@ -136,9 +136,9 @@ fn two_lookups_of_a_key_merge() {
     let mut bench = Bench::start(2, 1, &[0, 2], &[0, 1]);
     bench.lookup(0, 2);
     bench.lookup(1, 2);
-    assert_eq!(bench.take(0), 0);
+    assert_eq!(bench.forward(0), 0);
     assert_eq!(bench.waiting(), [Message::Lookup { to: 1, key: 2 }]);
-    assert_eq!(bench.take(0), 0);
+    assert_eq!(bench.deliver(0), 0);
     assert!(bench.waiting().is_empty());
 }
 
@@ -146,9 +146,9 @@ fn two_lookups_of_a_key_merge() {
 fn a_step_between_holds_a_key_up() {
     let mut bench = Bench::start(2, 1, &[0, 2], &[0, 1]);
     bench.lookup(0, 2);
-    assert_eq!(bench.take(0), 0);
+    assert_eq!(bench.forward(0), 0);
     bench.done(Action::LeaseExpired { node: 1, partner: 0 });
-    assert_eq!(bench.take(0), 2);
+    assert_eq!([bench.deliver(0), bench.forward(0)], [2, 2]);
 }
 
 #[test]
@@ -172,6 +172,6 @@ fn no_legal_route_never_leaves() {
         let mut bench = Bench::of(2, 1, &[node(0, status, &[], &[])]);
         bench.pool[0] = Message::NoLegalRoute { to: 0, key: 3 };
         bench.table.count = 1;
-        assert_eq!(bench.take(0), 5);
+        assert_eq!([bench.take(0), bench.deliver(0), bench.forward(0)], [5, 5, 5]);
     }
 }

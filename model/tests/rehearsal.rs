@@ -80,12 +80,12 @@ fn a_bad_step_ends_the_check() {
 
 #[test]
 fn there_are_at_most_1000_steps() {
-    let take = Action::Take { place: 0 };
+    let deliver = Action::Deliver { place: 0 };
     let mut bench = Bench::start(2, 1, &[3], &[0]);
     let mut rehearsal = Rehearsal::begin(&bench.file());
     let mut steps = |rehearsal: &mut Rehearsal, count: usize| {
         for nth in 0..count {
-            let action = if nth % 2 == 0 { Action::Lookup { at: 0, key: 1 } } else { take };
+            let action = if nth % 2 == 0 { Action::Lookup { at: 0, key: 1 } } else { deliver };
             bench.done(action);
             assert_eq!(hand(rehearsal, action, &bench.file()), Verdict::Accepted, "step {nth}");
         }
@@ -94,10 +94,10 @@ fn there_are_at_most_1000_steps() {
     let mut other = rehearsal.clone();
     steps(&mut rehearsal, 2);
     for stated in [&worked().file()[..], &[]] {
-        assert_eq!(number(rehearsal.next(take, stated)), 12);
+        assert_eq!(number(rehearsal.next(deliver, stated)), 12);
         assert_eq!(rehearsal.verdict(), Verdict::Accepted);
     }
     steps(&mut other, 1);
-    assert_eq!(hand(&mut other, take, &[]), Verdict::Bad(1000));
-    assert_eq!(number(other.next(take, &[])), 12);
+    assert_eq!(hand(&mut other, deliver, &[]), Verdict::Bad(1000));
+    assert_eq!(number(other.next(deliver, &[])), 12);
 }

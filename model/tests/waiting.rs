@@ -29,7 +29,7 @@ fn the_first_of_each_node_is_told() {
     assert_eq!(firsts(&worked(&[])), [None; 4], "nothing waits");
     let mut bench = worked(&[(2, 0), (0, 80), (2, 200), (0, 3), (3, 3)]);
     assert_eq!(firsts(&bench), [Some(1), None, Some(0), Some(4)], "also for the dead one");
-    assert_eq!(bench.take(0), 0);
+    assert_eq!(bench.forward(0), 0);
     assert_eq!(bench.waiting().last(), Some(&Message::Lookup { to: 0, key: 0 }));
     assert_eq!(firsts(&bench), [Some(0), None, Some(1), Some(3)], "those behind it move up");
     assert_eq!(Bench::load(&bench.file()).map(|loaded| firsts(&loaded)), Ok(firsts(&bench)));

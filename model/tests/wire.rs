@@ -4,7 +4,7 @@ mod common;
 
 use common::{node, Bench, READY, WAIT};
 use model::gen::Requests;
-use model::wire::{Request, Server, LONGEST};
+use model::wire::{Request, Server, ACTIONS, LONGEST};
 use model::{Action, Record, Right, Slip, Slipped};
 
 fn reply_of(server: &mut Server<Right>, request: &[u8]) -> (u32, Vec<u8>) {
@@ -44,9 +44,12 @@ fn requests_get_their_results() {
     assert_eq!(ask(Request::Waiting { slot: 0, file: &after }), (0, vec![1, 0, 0, 0, 0]));
     assert_eq!(ask(Request::Waiting { slot: 1, file: &after }), (0, vec![0]));
     assert_eq!(ask(Request::Waiting { slot: 4, file: &after }), (1, vec![]));
-    let action = Action::Take { place: 0 };
+    let action = Action::Forward { place: 0 };
     let (number, routed) = ask(Request::Step { action, file: &after });
     assert_eq!((number, routed.len()), (0, after.len()));
+    for action in [Action::Take { place: 0 }, Action::Deliver { place: 0 }] {
+        assert_eq!(ask(Request::Step { action, file: &after }), (5, vec![]));
+    }
 }
 
 #[test]
@@ -79,12 +82,12 @@ fn malformed_requests_have_their_own_number() {
     assert_eq!(reply(&[9, 0]), malformed, "bytes behind a sum");
     assert_eq!(reply(&[0; LONGEST + 1]), malformed, "too long");
     assert_eq!(reply(&[0; LONGEST]), (8, vec![]));
-    for number in [0u64, 7, 1 << 32 | 1, u64::MAX] {
+    for number in [0, ACTIONS + 1, 1 << 32 | 1, u64::MAX] {
         let mut step = vec![1];
         step.extend_from_slice(&number.to_le_bytes());
         step.resize(25, 0);
         assert_eq!(reply(&step), malformed, "action {number}");
-        step[1..9].copy_from_slice(&6u64.to_le_bytes());
+        step[1..9].copy_from_slice(&ACTIONS.to_le_bytes());
         assert_eq!(reply(&step), (7, vec![]));
     }
     for odd in [1, 2, 3] {
@@ -117,7 +120,7 @@ fn a_rehearsal_is_held_between_requests() {
     assert_eq!(ask(Request::Begin { file: &stated }), (0, vec![1]));
     let mut no_action = Vec::new();
     next(lookup).put(&mut no_action);
-    no_action[1] = 7;
+    no_action[1] = 0;
     assert_eq!(reply_of(&mut server, &no_action), (u32::MAX, vec![]));
     let request = Request::Next { action: Action::Lookup { at: 2, key: 200 }, stated: &start };
     assert_eq!(ask_of(&mut server, request), (0, vec![0, 1, 0, 0, 0]), "the request before it did not count");

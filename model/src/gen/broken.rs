@@ -4,6 +4,7 @@ use super::case::Case;
 use super::messages::{fill, key, message};
 use super::rng::Rng;
 use super::tables;
+use super::taking::{fitting, three};
 use crate::marks::{below, bit};
 use crate::message::Message;
 use crate::reading::Right;
@@ -28,7 +29,7 @@ pub fn broken(rng: &mut Rng) -> (Case, Action) {
     fill(rng, &mut case, few);
     let i = rng.below(case.table.n);
     let j = rng.member(below(case.table.n) & !bit(i));
-    let kind = rng.below(20);
+    let kind = rng.below(26);
     let mut broken = Broken { rng, case, i, j, named: j };
     let action = match kind {
         0 => broken.lookup(),
@@ -37,6 +38,7 @@ pub fn broken(rng: &mut Rng) -> (Case, Action) {
         6 | 7 => broken.lease_expired(),
         8 | 9 => broken.grant_expired(),
         10 => broken.take_past(),
+        11..=16 => broken.pair(),
         _ => broken.take(),
     };
     (broken.case, action)
@@ -184,14 +186,42 @@ impl Broken<'_> {
         }
     }
 
-    /// A Take of a place where nothing waits.
+    /// A place where nothing waits.
     fn take_past(&mut self) -> Action {
         let lookup = Message::Lookup { to: self.i as u8, key: key(self.rng, &self.case.table) };
         self.case.push(lookup);
         let count = self.case.table.count;
         let within = self.rng.below(count);
-        Action::Take {
-            place: self.rng.pick(&[count, 256, usize::MAX, (1 << 8) + within, (1 << 32) + within]),
+        let place = self.rng.pick(&[count, 256, usize::MAX, (1 << 8) + within, (1 << 32) + within]);
+        self.rng.pick(&three(place))
+    }
+
+    /// One of the pair: for a Lookup at a ready node the right one, but for the faults.
+    fn pair(&mut self) -> Action {
+        let (i, j) = (self.i, self.j);
+        self.set_status(i, &[Status::Ready]);
+        let mut kind = 1;
+        let (mut take, mut other) = (false, false);
+        for fault in self.faults(7) {
+            match fault {
+                0 | 1 => self.set_status(i, &[Status::Dead, Status::Wait, Status::Ok, Status::Ok]),
+                2 | 3 => kind = self.rng.pick(&[2, 2, 2, 2, 2, 3, 4, 5, 6, 6, 6, 6, 7, 8]),
+                4 => take = true,
+                _ => other = true,
+            }
+        }
+        let message = message(self.rng, &self.case.table, kind, i, j);
+        self.case.push(message);
+        let place = self.case.place_of(&message).expect("it waits");
+        let [taken, delivered, forwarded] = three(place);
+        if take {
+            return taken;
+        }
+        let delivers = if kind == 1 { fitting(&self.case, place) == delivered } else { self.rng.one_in(2) };
+        if delivers != other {
+            delivered
+        } else {
+            forwarded
         }
     }
 

@@ -1,9 +1,10 @@
-//! Takes whose outcome hangs on one member of one set.
+//! Messages whose handling hangs on one member of one set.
 
 use super::case::Case;
 use super::messages::{carried, key_from};
 use super::rng::Rng;
 use super::tables;
+use super::taking::taking;
 use crate::marks::{below, bit, first_down, keep_up};
 use crate::message::Message;
 use crate::reading::Right;
@@ -11,34 +12,37 @@ use crate::step::Action;
 use crate::table::{Sides, Status};
 use crate::view::View;
 
-/// A valid table and a Take on it.
+/// A valid table, and the action for a message of it.
 pub fn keen(rng: &mut Rng) -> (Case, Action) {
     let mut case = tables::small(rng);
     let i = rng.below(case.table.n);
     let j = rng.member(below(case.table.n) & !bit(i));
-    let message = match rng.below(26) {
+    let message = match rng.below(27) {
         0..=5 => crossed(rng, &mut case, i, j),
         6..=8 => mixed(rng, &mut case, i, j),
         9..=11 => last_reply(rng, &mut case, i, j),
         12..=16 => failed_sender(rng, &mut case, i, j),
-        17 => asked(rng, &mut case, i),
-        18..=22 => neighbours_move(rng, &mut case, i),
-        23 | 24 => short_sides(rng, &mut case, i),
+        17 | 18 => asked(rng, &mut case, i),
+        19..=23 => neighbours_move(rng, &mut case, i),
+        24 | 25 => short_sides(rng, &mut case, i),
         _ => welcome(rng, &mut case, i, j),
     };
     case.push(message);
     let place = case.place_of(&message).expect("it waits");
-    (case, Action::Take { place })
+    let action = taking(rng, &case, place);
+    (case, action)
 }
 
-/// A BroadcastLSet for a node whose sides are short and share nothing.
+/// A BroadcastLSet for a node whose sides are short, and share nothing or one member.
 fn short_sides(rng: &mut Rng, case: &mut Case, i: usize) -> Message {
     let message = neighbours_move(rng, case, i);
     let others = below(case.table.n) & !bit(i);
     if others.count_ones() > 1 {
         let left = bit(rng.member(others));
-        case.table.l = case.table.l.max(2);
-        case.table.nodes[i].sides = Sides { left, right: bit(rng.member(others & !left)) };
+        let right = bit(rng.member(others & !left));
+        let both = rng.one_in(3);
+        case.table.l = case.table.l.max(if both { 3 } else { 2 });
+        case.table.nodes[i].sides = Sides { left, right: if both { left | right } else { right } };
     }
     message
 }
@@ -76,7 +80,7 @@ fn crossed(rng: &mut Rng, case: &mut Case, i: usize, j: usize) -> Message {
     routed(rng, case, i, j, key)
 }
 
-/// A lookup or join request at a node whose sides are any nodes and whose routing set is all.
+/// A lookup or join request at a node whose sides are any nodes and whose routing set is all. Mostly it is routed.
 fn mixed(rng: &mut Rng, case: &mut Case, i: usize, j: usize) -> Message {
     let others = below(case.table.n) & !bit(i);
     let most = case.table.l as usize;
@@ -87,7 +91,12 @@ fn mixed(rng: &mut Rng, case: &mut Case, i: usize, j: usize) -> Message {
     node.sides = Sides { left, right };
     node.routing = others;
     node.failed = rng.pick(&[0, 0, some]);
-    let key = key_from(rng, &case.table, i);
+    let mut key = key_from(rng, &case.table, i);
+    for _ in 0..3 {
+        if View::new(Right, &case.table).covers(i, key) {
+            key = key_from(rng, &case.table, i);
+        }
+    }
     routed(rng, case, i, j, key)
 }
 

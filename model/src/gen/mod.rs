@@ -14,6 +14,7 @@ mod requests;
 mod rng;
 mod starts;
 mod tables;
+mod taking;
 mod walk;
 
 pub use requests::Requests;

@@ -22,16 +22,20 @@ impl Polls {
         Polls { rng, walk }
     }
 
-    /// Whether the next request is a poll: one of fourteen.
+    /// Whether the next request is a poll: one of eighteen.
     pub fn due(&mut self) -> bool {
-        self.rng.one_in(14)
+        self.rng.one_in(18)
     }
 
     pub fn put(&mut self, out: &mut Vec<u8>) {
         let case = self.case();
         let rng = &mut self.rng;
-        let slot = slot(rng, &case);
-        let file = if rng.one_in(4) { damaged(rng, case.file()) } else { case.file() };
+        let mut slot = slot(rng, &case);
+        let mut file = case.file();
+        if rng.one_in(4) {
+            file = damaged(rng, file);
+            slot = if rng.one_in(4) { rng.pick(&[64, 256, u64::MAX]) } else { slot };
+        }
         let from = out.len();
         Request::Waiting { slot, file: &file }.put(out);
         match rng.below(200) {

@@ -4,6 +4,7 @@ use super::case::Case;
 use super::messages::{fill, key, message};
 use super::rng::Rng;
 use super::tables;
+use super::taking::taking;
 use crate::marks::{below, bit};
 use crate::message::Message;
 use crate::reading::Right;
@@ -106,7 +107,7 @@ fn take(rng: &mut Rng, case: &mut Case, i: usize, j: usize) -> Action {
     }
     let message = message(rng, &case.table, kind, i, from);
     case.push(message);
-    Action::Take { place: case.place_of(&message).expect("it waits") }
+    taking(rng, case, case.place_of(&message).expect("it waits"))
 }
 
 /// Makes the node fit to take a message of `kind`; the answer is who sends it.
@@ -205,10 +206,7 @@ fn fit_broadcast(rng: &mut Rng, case: &mut Case, i: usize, j: usize) -> usize {
 
 /// Lets some messages of the step wait already, and fills the pool: little, wholly or to the brink of 6.
 fn crowd(rng: &mut Rng, case: &mut Case, action: Action) -> Action {
-    let taken = match action {
-        Action::Take { place } => Some(case.pool[place]),
-        _ => None,
-    };
+    let taken = action.place().map(|place| case.pool[place]);
     let mut added = added(case, action);
     if rng.one_in(3) {
         let kept = rng.any();
@@ -235,7 +233,7 @@ fn crowd(rng: &mut Rng, case: &mut Case, action: Action) -> Action {
         rng.shuffle(&mut case.pool[..waiting]);
     }
     match taken {
-        Some(message) => Action::Take { place: case.place_of(&message).expect("it waits") },
+        Some(message) => action.at_place(case.place_of(&message).expect("it waits")),
         None => action,
     }
 }
@@ -303,6 +301,8 @@ pub fn stray(rng: &mut Rng, table: &Table, action: Action) -> Action {
         Action::GrantExpired { node, partner } => {
             Action::GrantExpired { node: slot(node), partner: slot(partner) }
         }
-        Action::Take { .. } => Action::Take { place: wide(rng, table.count) },
+        Action::Take { .. } | Action::Deliver { .. } | Action::Forward { .. } => {
+            action.at_place(wide(rng, table.count))
+        }
     }
 }

@@ -10,7 +10,7 @@ use crate::rehearsal::{Rehearsal, Verdict};
 use crate::start::start;
 use crate::step::{step, Action};
 use crate::table::Table;
-use crate::wire::{Request, LONGEST};
+use crate::wire::{Request, ACTIONS, LONGEST};
 
 /// Of so many rehearsals one goes to the last step but one or beyond, and one to a bad step above 255.
 const LONG: usize = 1_000;
@@ -189,7 +189,7 @@ impl Rehearsals {
             }
             1..=5 => out.truncate(from + 1 + rng.below(24)),
             _ => {
-                let number = rng.pick(&[0, 7, 8, u64::MAX, (1 << 32) + 1, 1 << 8]);
+                let number = rng.pick(&[0, ACTIONS + 1, ACTIONS + 2, u64::MAX, (1 << 32) + 1, 1 << 8]);
                 out[from + 1..from + 9].copy_from_slice(&number.to_le_bytes());
             }
         }

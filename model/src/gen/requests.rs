@@ -14,7 +14,7 @@ use super::starts::start;
 use super::tables;
 use super::walk::Walk;
 use crate::message::Message;
-use crate::wire::{Request, LONGEST};
+use crate::wire::{Request, ACTIONS, LONGEST};
 
 /// One kind that is none, and all but the start of a rehearsal, those of records and polls: what is held goes on.
 const KINDS: [u8; 7] = [0, 1, 2, 3, 4, 11, 6];
@@ -52,28 +52,28 @@ impl Requests {
             0..=17 => {
                 let (mut case, action) = primed(rng);
                 // A pool that is nearly full, or full, behind the message that is taken.
-                if rng.one_in(20) {
+                if rng.one_in(14) {
                     let count = rng.pick(&[254, 255, 256]);
                     fill(rng, &mut case, count);
                 }
                 Request::Step { action, file: &case.file() }.put(out);
             }
-            18..=38 => {
+            18..=40 => {
                 let (case, action) = broken(rng);
                 Request::Step { action, file: &case.file() }.put(out);
             }
-            39..=54 => {
+            41..=59 => {
                 let (case, action) = keen(rng);
                 Request::Step { action, file: &case.file() }.put(out);
             }
-            55..=59 => {
+            60..=63 => {
                 let walk = rng.below(self.walks.len());
                 let (case, action) = self.walks[walk].advance(rng);
                 Request::Step { action, file: &case.file() }.put(out);
             }
-            60..=74 => self.put_damaged(out),
-            75..=84 => start(rng).put(out),
-            85..=91 => Request::Settled { file: &self.calm().file() }.put(out),
+            64..=77 => self.put_damaged(out),
+            78..=85 => start(rng).put(out),
+            86..=91 => Request::Settled { file: &self.calm().file() }.put(out),
             92..=96 => {
                 let case = self.with_lookups();
                 Request::List { file: &case.file() }.put(out);
@@ -165,7 +165,7 @@ impl Requests {
             2 => {
                 let (case, action) = primed(rng);
                 Request::Step { action, file: &case.file() }.put(out);
-                let number = rng.pick(&[0, 7, 8, u64::MAX, (1 << 32) + 1, 1 << 8, 6]);
+                let number = rng.pick(&[0, ACTIONS + 1, ACTIONS + 2, u64::MAX, (1 << 32) + 1, 1 << 8, 6]);
                 out[from + 1..from + 9].copy_from_slice(&number.to_le_bytes());
             }
             3 | 4 => {

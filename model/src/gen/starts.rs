@@ -14,8 +14,10 @@ pub fn start(rng: &mut Rng) -> Request<'static> {
     let faults = rng.pick(&[0, 0, 0, 1, 1, 2]);
     for _ in 0..faults {
         match rng.below(10) {
-            0 => m = rng.pick(&[0, 1, 33, 34, 64, 1 << 32, (1 << 32) | m, (1 << 32) | m, u64::MAX, 2, 32]),
-            1 => l = rng.pick(&[0, 9, 10, 1 << 32, (1 << 32) | l, (1 << 32) | l, u64::MAX, 1, 8]),
+            0 if rng.one_in(3) => m |= 1 << 32,
+            0 => m = rng.pick(&[0, 1, 33, 34, 64, 1 << 32, u64::MAX, 2, 32]),
+            1 if rng.one_in(3) => l |= 1 << 32,
+            1 => l = rng.pick(&[0, 9, 10, 1 << 32, u64::MAX, 1, 8]),
             2 => ids.clear(),
             3 => {
                 let last = ids.last().copied().unwrap_or(0);

@@ -5,6 +5,7 @@ use super::messages::key;
 use super::prime::stray;
 use super::rng::Rng;
 use super::tables::ring;
+use super::taking::taking;
 use crate::marks::below;
 use crate::message::EMPTY_POOL;
 use crate::start::start;
@@ -86,8 +87,11 @@ pub fn any(rng: &mut Rng, case: &Case) -> Action {
             let node = with(rng, Status::Ready);
             Action::GrantExpired { node, partner: partner(rng, table.nodes[node].grant) }
         }
-        9..=13 => Action::Take { place: 0 },
-        _ => Action::Take { place: rng.below(table.count.max(1)) },
+        9..=13 => taking(rng, case, 0),
+        _ => {
+            let place = rng.below(table.count.max(1));
+            taking(rng, case, place)
+        }
     };
     stray(rng, table, action)
 }

@@ -1,4 +1,4 @@
-//! Take, by kind of message. The change stands at the destination i.
+//! Take, by kind of message, and the pair for Lookups. The change stands at the destination i.
 
 mod lease;
 mod probe;
@@ -13,10 +13,7 @@ impl<R: Reading> Scene<'_, R> {
     /// Handles the message of a place that is in range.
     #[inline]
     pub(crate) fn take(&self, change: &mut Change, place: usize) -> Result<(), Refusal> {
-        let message = &self.pool[place];
-        change.at(self, message.to());
-        change.taken = Some(place);
-        match *message {
+        match *self.found(change, place) {
             Message::Lookup { key, .. } => self.take_lookup(change, key),
             Message::JoinRequest { node, routing, .. } => {
                 self.take_join_request(change, node.into(), routing)
@@ -36,5 +33,14 @@ impl<R: Reading> Scene<'_, R> {
             }
             Message::NoLegalRoute { .. } | Message::Blank => self.take_no_route(change),
         }
+    }
+
+    /// The message of a place, which goes if the step is done.
+    #[inline]
+    fn found(&self, change: &mut Change, place: usize) -> &Message {
+        let message = &self.pool[place];
+        change.at(self, message.to());
+        change.taken = Some(place);
+        message
     }
 }

@@ -1,4 +1,4 @@
-//! Messages that are routed: kinds 1, 2 and 6.
+//! Messages that are routed: kinds 1, 2 and 6. Kind 1 has a pair of actions (T-05).
 
 use crate::change::{Change, Scene};
 use crate::marks::{bit, has};
@@ -9,19 +9,86 @@ use crate::slip::Slip;
 use crate::table::{Node, Status};
 
 impl<R: Reading> Scene<'_, R> {
-    /// Delivers where i covers the key, else routes.
+    /// A Lookup is for Deliver and Forward.
     #[inline]
     pub(super) fn take_lookup(&self, change: &mut Change, key: u32) -> Result<(), Refusal> {
-        let i = change.slot;
+        let r = self.view.r;
+        if r.takes(Slip::TakeTwoBeforeFive) {
+            self.needs_ready(change)?;
+        }
+        refuse_if(!r.takes(Slip::TakeOfLookup), Refusal::Partner)?;
         self.needs_ready(change)?;
-        if self.covers(i, key) {
+        if self.covers(change.slot, key) {
             return Ok(());
         }
+        self.route(change, key)
+    }
+
+    /// Delivers a Lookup, where i covers its key.
+    #[inline]
+    pub(crate) fn deliver(&self, change: &mut Change, place: usize) -> Result<(), Refusal> {
+        let r = self.view.r;
+        if r.takes(Slip::DeliverOfNoRoute) && matches!(self.pool[place], Message::NoLegalRoute { .. }) {
+            self.found(change, place);
+            return Ok(());
+        }
+        let key = self.lookup_at(change, place)?;
+        let covered = self.covers(change.slot, key);
+        refuse_if(!covered && r.takes(Slip::CoverBeforeStatus), Refusal::Partner)?;
+        self.pair_needs_ready(change, Slip::DeliverAtOk)?;
+        if !covered && r.takes(Slip::DeliverForwards) {
+            return self.route(change, key);
+        }
+        refuse_if(!covered && !r.takes(Slip::DeliverUncovered), Refusal::Partner)
+    }
+
+    /// Forwards a Lookup, where i does not cover its key.
+    #[inline]
+    pub(crate) fn forward(&self, change: &mut Change, place: usize) -> Result<(), Refusal> {
+        let r = self.view.r;
+        if r.takes(Slip::ForwardOfJoin) && matches!(self.pool[place], Message::JoinRequest { .. }) {
+            return self.take(change, place);
+        }
+        let key = self.lookup_at(change, place)?;
+        let covered = self.covers(change.slot, key);
+        refuse_if(covered && r.takes(Slip::CoverBeforeStatus), Refusal::Partner)?;
+        self.pair_needs_ready(change, Slip::ForwardAtOk)?;
+        if covered && r.takes(Slip::ForwardDelivers) {
+            return Ok(());
+        }
+        refuse_if(covered && !r.takes(Slip::ForwardCovered), Refusal::Partner)?;
+        let stuck = r.takes(Slip::ForwardNoRouteIsFive) && self.view.next_hop(change.slot, key).is_none();
+        refuse_if(stuck, Refusal::Partner)?;
+        self.route(change, key)
+    }
+
+    /// The key of the Lookup at a place. Another kind is refused whatever the status.
+    fn lookup_at(&self, change: &mut Change, place: usize) -> Result<u32, Refusal> {
+        if let Message::Lookup { key, .. } = *self.found(change, place) {
+            return Ok(key);
+        }
+        if self.view.r.takes(Slip::PairTwoBeforeFive) {
+            self.needs_ready(change)?;
+        }
+        Err(Refusal::Partner)
+    }
+
+    /// Sends a Lookup on from i, or says that there is no legal route.
+    fn route(&self, change: &mut Change, key: u32) -> Result<(), Refusal> {
+        let i = change.slot;
         let Some(hop) = self.view.next_hop(i, key) else {
             return self.no_route(change, i, key);
         };
         change.send(self, Message::Lookup { to: hop as u8, key });
         Ok(())
+    }
+
+    /// As `needs_ready`; the slip is that of one of the pair.
+    fn pair_needs_ready(&self, change: &Change, at_ok: Slip) -> Result<(), Refusal> {
+        if change.node.status == Status::Ok && self.view.r.takes(at_ok) {
+            return Ok(());
+        }
+        self.needs_ready(change)
     }
 
     fn needs_ready(&self, change: &Change) -> Result<(), Refusal> {

@@ -60,6 +60,14 @@ impl Bench {
         self.step(Action::Take { place })
     }
 
+    pub fn deliver(&mut self, place: usize) -> u32 {
+        self.step(Action::Deliver { place })
+    }
+
+    pub fn forward(&mut self, place: usize) -> u32 {
+        self.step(Action::Forward { place })
+    }
+
     pub fn lookup(&mut self, at: usize, key: u64) {
         self.done(Action::Lookup { at, key });
     }
@@ -88,14 +96,20 @@ impl Bench {
         load(file, &mut bench.table, &mut bench.pool).map(|()| bench)
     }
 
-    /// Where the lookup of `key` at `at` goes, as the only message, in one Take.
+    /// Where the lookup of `key` at `at` goes, as the only message, by the one of the pair that is done.
     pub fn hop(&self, at: usize, key: u64) -> Hop {
         let mut bench = self.clone();
         bench.table.count = 0;
         bench.lookup(at, key);
-        assert_eq!(bench.take(0), 0);
+        let mut delivered = bench.clone();
+        match (delivered.deliver(0), bench.forward(0)) {
+            (0, 5) => {
+                assert!(delivered.waiting().is_empty());
+                return Hop::Delivered;
+            }
+            numbers => assert_eq!(numbers, (5, 0), "one of the pair is done"),
+        }
         match bench.waiting() {
-            [] => Hop::Delivered,
             [Message::Lookup { to, .. }] => Hop::To(usize::from(*to)),
             [Message::NoLegalRoute { to, .. }] if usize::from(*to) == at => Hop::NoRoute,
             other => panic!("{other:?}"),

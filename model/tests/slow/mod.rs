@@ -1,4 +1,4 @@
-//! The bench once more, slowly, with sets of slots and straight from the sentences of 01, T-06, T-09 and T-13.
+//! The bench once more, slowly, with sets of slots and straight from the sentences of 01, T-05, T-06, T-09 and T-13.
 //! It shares no code with the model and takes the same requests.
 
 #![allow(dead_code)]
@@ -112,7 +112,7 @@ pub fn judge(memory: &mut Memory, request: &[u8]) -> Verdict {
         .collect();
     let rest = &request[1 + arguments..];
     match request[0] {
-        1 | 6 if !(1..=6).contains(&words[0]) => malformed(),
+        1 | 6 if !(1..=8).contains(&words[0]) => malformed(),
         2 if !rest.len().is_multiple_of(4) => malformed(),
         2 => others::start(words[0], words[1], words[2], rest),
         4 => Verdict::done(others::listing(rest)),

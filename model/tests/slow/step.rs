@@ -1,5 +1,5 @@
-//! The six actions, as written. Every refusal that applies is collected; the effect is worked out
-//! whether or not one does.
+//! The actions, as written. Every refusal that applies is collected; the effect is worked out
+//! whether or not one does. Where 5 is given whatever the status, 2 does not apply.
 
 use super::leaf::{covers, next_hop, Leaf};
 use super::{file, Message, Set, Table, Verdict, DEAD, OK, READY, WAIT};
@@ -29,7 +29,8 @@ pub fn judge(table: &Table, action: u64, first: u64, second: u64) -> Verdict {
         3 => request_lease(table, i),
         4 => lease_expired(table, i, j),
         5 => grant_expired(table, i, j),
-        _ => take(table, i),
+        6 => take(table, i),
+        _ => deliver_or_forward(table, i, action == 7),
     };
     let mut after = effect.table;
     for message in effect.additions {
@@ -111,11 +112,10 @@ fn take(table: &Table, place: usize) -> (BTreeSet<u32>, Effect) {
     let mut after = table.clone();
     after.pool.remove(place);
     match m.kind {
-        1 => take_lookup(table, after, &m),
         2 => take_join_request(table, after, &m),
         3 => take_join_reply(table, after, &m),
         4 | 5 => take_probe(table, after, &m),
-        6 => (BTreeSet::from([5]), Effect { table: after, additions: Vec::new() }),
+        1 | 6 => (BTreeSet::from([5]), Effect { table: after, additions: Vec::new() }),
         7 => take_lease_request(table, after, &m),
         _ => take_broadcast(table, after, &m),
     }
@@ -125,16 +125,21 @@ fn no_route(i: usize, k: i64) -> Message {
     Message { kind: 6, to: i, node_or_key: k, ..Message::default() }
 }
 
-fn take_lookup(table: &Table, after: Table, m: &Message) -> (BTreeSet<u32>, Effect) {
+/// 5 from either of the pair on another kind, whatever the status; 2 unless ready; 5 from Deliver when not covered and
+/// from Forward when covered.
+fn deliver_or_forward(table: &Table, place: usize, deliver: bool) -> (BTreeSet<u32>, Effect) {
+    let m = &table.pool[place];
     let (i, k) = (m.to, m.node_or_key);
-    let found = numbers([(2, table.nodes[i].status != READY)]);
-    let additions = if covers(table, i, k) {
-        Vec::new()
-    } else {
-        match next_hop(table, i, k) {
-            Some(h) => vec![Message { to: h, ..m.clone() }],
-            None => vec![no_route(i, k)],
-        }
+    let mut after = table.clone();
+    after.pool.remove(place);
+    if m.kind != 1 {
+        return (BTreeSet::from([5]), Effect { table: after, additions: Vec::new() });
+    }
+    let found = numbers([(2, table.nodes[i].status != READY), (5, covers(table, i, k) != deliver)]);
+    let additions = match next_hop(table, i, k) {
+        _ if deliver => vec![],
+        Some(h) => vec![Message { to: h, ..m.clone() }],
+        None => vec![no_route(i, k)],
     };
     (found, Effect { table: after, additions })
 }

@@ -3,7 +3,7 @@
 use model::wire::Request;
 use model::{load, Action, Table, EMPTY_POOL};
 
-/// The call, for a step its action, for a Take the kind of the message.
+/// The call, for a step its action, and the kind of the message where it handles one.
 pub fn name(request: &[u8]) -> String {
     match Request::parse(request) {
         None => "malformed".to_string(),
@@ -24,7 +24,7 @@ pub fn name(request: &[u8]) -> String {
 fn action_name(action: Action, file: &[u8]) -> String {
     let name = format!("{action:?}");
     let name = name.split(' ').next().unwrap_or_default().to_string();
-    let Action::Take { place } = action else {
+    let Some(place) = action.place() else {
         return name;
     };
     let (mut table, mut pool) = (Table::BLANK, EMPTY_POOL);
