@@ -31,7 +31,9 @@ enum {
     TARPUDHRIV_REQUEST_LEASE = 3, /* x slot */
     TARPUDHRIV_LEASE_EXPIRED = 4, /* x slot, y slot */
     TARPUDHRIV_GRANT_EXPIRED = 5, /* x slot, y slot */
-    TARPUDHRIV_TAKE = 6           /* x place of the message, from 0 */
+    TARPUDHRIV_TAKE = 6,          /* x place of the message, from 0 */
+    TARPUDHRIV_DELIVER = 7,       /* x place of a Lookup: delivered where its node covers the key */
+    TARPUDHRIV_FORWARD = 8        /* x place of a Lookup: to the next hop where it does not */
 };
 
 /* The number of a step whose action is none of these. */

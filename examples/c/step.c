@@ -15,12 +15,14 @@ static const struct action {
     {"lease-expired", TARPUDHRIV_LEASE_EXPIRED, 2},
     {"grant-expired", TARPUDHRIV_GRANT_EXPIRED, 2},
     {"take", TARPUDHRIV_TAKE, 1},
+    {"deliver", TARPUDHRIV_DELIVER, 1},
+    {"forward", TARPUDHRIV_FORWARD, 1},
 };
 
 static const struct action *action_of(const char *name) {
     for (size_t k = 0; k < sizeof actions / sizeof *actions; k++)
         if (strcmp(name, actions[k].name) == 0) return &actions[k];
-    misuse(name, "no action; it is lookup, join, request-lease, lease-expired, grant-expired or take");
+    misuse(name, "no action; it is lookup, join, request-lease, lease-expired, grant-expired, take, deliver or forward");
     return NULL;
 }
 

@@ -18,6 +18,8 @@ pub enum Action {
     LeaseExpired { slot: u64, other: u64 },
     GrantExpired { slot: u64, other: u64 },
     Take { place: u64 },
+    Deliver { place: u64 },
+    Forward { place: u64 },
 }
 
 /// 01's number, 1 to 11.
@@ -89,6 +91,8 @@ impl Action {
             Action::LeaseExpired { slot, other } => (4, slot, other),
             Action::GrantExpired { slot, other } => (5, slot, other),
             Action::Take { place } => (6, place, 0),
+            Action::Deliver { place } => (7, place, 0),
+            Action::Forward { place } => (8, place, 0),
         }
     }
 }

@@ -57,6 +57,8 @@ fn action(rest: &[u8]) -> Result<Action, Refused> {
         4 => Ok(Action::LeaseExpired { slot, other: second }),
         5 => Ok(Action::GrantExpired { slot, other: second }),
         6 => Ok(Action::Take { place: slot }),
+        7 => Ok(Action::Deliver { place: slot }),
+        8 => Ok(Action::Forward { place: slot }),
         _ => Err(MALFORMED),
     }
 }
