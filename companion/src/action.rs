@@ -47,8 +47,29 @@ pub const ROWS: &[Row] = &[
         words: &["NODE", "PARTNER"],
         says: "the grant that NODE gave PARTNER ends",
     },
-    Row { number: 6, form: "take PLACE", words: &["PLACE"], says: "the message at place PLACE is taken" },
+    Row {
+        number: 6,
+        form: "take PLACE",
+        words: &["PLACE"],
+        says: "the message at place PLACE is taken, unless it is a lookup",
+    },
+    Row {
+        number: DELIVER,
+        form: "deliver PLACE",
+        words: &["PLACE"],
+        says: "the lookup at place PLACE is delivered where it waits",
+    },
+    Row {
+        number: FORWARD,
+        form: "forward PLACE",
+        words: &["PLACE"],
+        says: "the lookup at place PLACE is sent on",
+    },
 ];
+
+/// The two that handle a lookup: at a ready node one of them is done.
+pub const DELIVER: u64 = 7;
+pub const FORWARD: u64 = 8;
 
 /// The words of a form.
 fn form(row: &Row) -> impl Iterator<Item = &'static str> {

@@ -1,4 +1,4 @@
-//! `list`, `who`, `why`, `diff`, `waiting`: questions about tables.
+//! `list`, `who`, `why`, `safe`, `diff`, `waiting`: questions about tables.
 
 use crate::args::{self, Given};
 use crate::change;
@@ -14,6 +14,7 @@ use crate::rules::Rules;
 use crate::survey::{unshared, Survey};
 use crate::table::{Names, Node, Table};
 use crate::trouble::{Fault, Trouble};
+use crate::turn;
 use crate::why::Why;
 use crate::words::number;
 use std::ffi::OsString;
@@ -101,6 +102,16 @@ fn why_table(desk: &mut Desk, table: Table) -> Result<(), Trouble> {
     Err(Trouble::No(String::new()))
 }
 
+pub fn safe(desk: &mut Desk, given: &Given) -> Result<(), Trouble> {
+    let [path] = given.exactly(["TABLE"])?;
+    let hindrances = turn::hindrances(&desk.table(path)?);
+    if hindrances.is_empty() {
+        return files::print(b"safe to join\n");
+    }
+    files::print(format!("not safe to join\n   {}\n", hindrances.join("\n   ")).as_bytes())?;
+    Err(Trouble::No(String::new()))
+}
+
 fn why_node(given: &Given, text: &str, table: &Table) -> Result<(), Trouble> {
     let mut line = args::line(text);
     let slot = parse::listed(&mut line, &Names::new(table.ids())).and_then(|slot| line.end().map(|()| slot));
@@ -120,7 +131,10 @@ fn why_action(desk: &mut Desk, given: &Given, text: &str, table: Table) -> Resul
     };
     let step = Play::new(desk.driver()?, table).step(words)?;
     match step.refusal {
-        None => files::print(format!("{text}: would be done: {}\n", step.sentence).as_bytes()),
+        None => {
+            let warning = step.warning.map_or(String::new(), |warning| format!("   warning: {warning}\n"));
+            files::print(format!("{text}: would be done: {}\n{warning}", step.sentence).as_bytes())
+        }
         Some(refusal) => {
             files::print(format!("{text}: {refusal}\n").as_bytes())?;
             Err(Trouble::No(String::new()))

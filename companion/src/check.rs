@@ -13,6 +13,7 @@ use crate::files;
 use crate::plan::{self, Ask};
 use crate::table::{Names, Table};
 use crate::trouble::{Fault, Refusal, Trouble};
+use crate::turn;
 use crate::why::Why;
 use crate::words::{lines, Line};
 use std::ffi::{OsStr, OsString};
@@ -38,6 +39,7 @@ pub fn check(desk: &mut Desk, given: &Given) -> Result<(), Trouble> {
     let names = Names::new(file::known(&good)?.ids());
     let steps =
         claims.into_iter().map(|claim| step(claim, &names)).collect::<Result<Vec<_>, _>>().map_err(bad)?;
+    let mut warnings = String::new();
     for (nth, (said, action, path)) in steps.iter().enumerate() {
         let stated = desk.bytes(path)?;
         let verdict = desk.driver()?.next_of_rehearsal(*action, &stated);
@@ -46,10 +48,14 @@ pub fn check(desk: &mut Desk, given: &Given) -> Result<(), Trouble> {
             let what = what_is_wrong(desk, &good, *action, &stated, path)?;
             return Err(Trouble::No(format!("bad step {number}: {said}\n   {what}")));
         }
+        if let Some(warning) = turn::warning(*action, &file::known(&good)?) {
+            warnings += &format!("   warning: step {}, {said}: {warning}\n", nth + 1);
+        }
         good = stated;
     }
     let count = steps.len();
-    files::print(format!("accepted, {count} step{}\n", if count == 1 { "" } else { "s" }).as_bytes())
+    let plural = if count == 1 { "" } else { "s" };
+    files::print(format!("accepted, {count} step{plural}\n{warnings}").as_bytes())
 }
 
 /// The file to start with, and the claims.

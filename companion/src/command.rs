@@ -24,10 +24,35 @@ const KEEP_GOING: Opt =
     Opt { name: "-k", value: None, says: "goes on after a refused action; the status is 1 all the same" };
 const LONG: Opt = Opt { name: "-v", value: None, says: "tells what every step changed" };
 
+/// Options of `explore`, with and without a value.
+const fn bound(name: &'static str, value: &'static str, says: &'static str) -> Opt {
+    Opt { name, value: Some(value), says }
+}
+const fn flag(name: &'static str, says: &'static str) -> Opt {
+    Opt { name, value: None, says }
+}
+const SEARCH: &[Opt] = &[
+    bound("--ask", "NAME,..", "the questions: one-holder, flanked, nearest, stuck, full, ready, or a row's name; the first three where none is named"),
+    bound("--joining", "K", "a Join only while fewer than K nodes are wait or ok"),
+    bound("--waiting", "K", "a Join only while fewer than K nodes are wait"),
+    flag("--in-order", "a Join only after those before it in the plan"),
+    flag("--expiries", "every LeaseExpired and GrantExpired too"),
+    bound("--states", "N", "stops at so many states"),
+    bound("--depth", "N", "stops at so many actions in turn"),
+    bound("--memory", "MB", "stops at so much memory; at 4096 where it is not given"),
+    bound("--time", "S", "stops after so many seconds; after 3600 where it is not given"),
+    flag("--every", "asks for every step on the whole state; else each different step is asked once and remembered (docs/PLANS.md)"),
+    bound("--audit", "K", "in one state of K every step is asked again on the whole state, those too that a status or a message's kind forbids (1000; 0: in none)"),
+    flag("--core", "tells states apart without routing sets and grants; ends where these would be looked at"),
+    bound("--evidence", "DIR", "what is found as table files and actions, DIR/QUESTION/.."),
+    flag("--by-driver", "asks the driver, also where the library is linked"),
+    flag("--quiet", "nothing on standard error"),
+];
+
 /// What every help page ends with.
 pub const UNPROVED: &str =
-    "Answers (numbers, tables, listings, settled, who covers a key) are the proved code's. This command, its reasons\n\
-     and its pictures are not proved.";
+    "Answers (numbers, tables, listings, settled, who covers a key) are the proved code's. This command, its reasons,\n\
+     its test for safe to join and its pictures are not proved.";
 
 pub const COMMANDS: &[Command] = &[
     Command {
@@ -88,6 +113,16 @@ pub const COMMANDS: &[Command] = &[
         run: ask::why,
     },
     Command {
+        name: "safe",
+        usage: "TABLE",
+        says: "whether it is safe to join: nobody is wait, and the clauses hold that joins in turn keep",
+        help: "The test of crate join_laws (specs/Safe), as this command reads it. From a table that passes, while nobody joins as another\n\
+               is wait, no two ready nodes come to cover one key, whatever is done: that is proved (docs/CLAIMS.md, Join in turn). The\n\
+               status is 1 where the table does not pass, and what keeps it from passing is told.",
+        options: &[],
+        run: ask::safe,
+    },
+    Command {
         name: "diff",
         usage: "TABLE TABLE",
         says: "what differs between two tables",
@@ -111,6 +146,20 @@ pub const COMMANDS: &[Command] = &[
                Files are looked for beside it. `#` begins a comment.",
         options: &[],
         run: check::check,
+    },
+    Command {
+        name: "explore",
+        usage: "TABLE PLAN [OPTIONS]",
+        says: "searches every order of a join plan: what can go wrong, by the fewest actions",
+        help: "Every order of taking messages, of lease requests and of the plan's actions. PLAN has a line for each action: `join NODE at\n\
+               SEED`, `lookup KEY at NODE`, `lease expired NODE PARTNER`, `grant expired NODE PARTNER`; nodes by id, and `any` for a second\n\
+               node is each other one. Each may be done at any time, as often as the step lets it.\n\
+               `001 ROW` in place of TABLE PLAN is a row of document 001's table 4.1, with its nodes, plan and property; `001 all` the whole\n\
+               table beside 001's, with times.\n\
+               Status: 0 all searched and nothing found, 1 found, 3 stopped before the end and nothing found, 2 else.\n\
+               Every step is made by the proved code. That every order is met is tested, not proved.",
+        options: SEARCH,
+        run: by_wrapper,
     },
     Command {
         name: "water",
@@ -152,6 +201,11 @@ pub const COMMANDS: &[Command] = &[
         run: table_commands::picture,
     },
 ];
+
+/// `explore` is a program of its own, which bin/ring runs.
+fn by_wrapper(_: &mut Desk, _: &Given) -> Result<(), Trouble> {
+    Err(Trouble::Failed("run this command by bin/ring".to_string()))
+}
 
 pub fn named(name: &str) -> Option<&'static Command> {
     COMMANDS.iter().find(|command| command.name == name)

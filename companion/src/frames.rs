@@ -1,5 +1,5 @@
 //! The steps of a plan as a page shows them: for each the sentence and what is new since the step before, as JSON. What nodes cover,
-//! the paths of lookups and whether the table is settled are asked of the proved code.
+//! the paths of lookups, which action handles a message and whether the table is settled are asked of the proved code.
 
 use crate::file;
 use crate::json::{list, object, text, texts};
@@ -10,6 +10,7 @@ use crate::rules::Rules;
 use crate::survey::{unshared, Arc, End as Fate, Journey, Survey};
 use crate::table::{members, Message, Names, Node, Table};
 use crate::trouble::Trouble;
+use crate::turn;
 use crate::why::Why;
 
 /// What a frame says of its step.
@@ -19,6 +20,7 @@ pub struct Said<'a> {
     pub words: &'a str,
     pub sentence: String,
     pub refused: String,
+    pub warning: &'a str,
     pub changes: &'a [String],
     pub table: &'a Table,
 }
@@ -32,6 +34,7 @@ pub fn said<'a>(before: &'a Table, after: &'a Table, played: &'a [Played]) -> Ve
         words: "",
         sentence: first,
         refused: String::new(),
+        warning: "",
         changes: &[],
         table: before,
     }];
@@ -40,7 +43,15 @@ pub fn said<'a>(before: &'a Table, after: &'a Table, played: &'a [Played]) -> Ve
         if let End::Stuck(why) = &line.end {
             let refused = format!("not done: {why}");
             let sentence = "nothing more is done".to_string();
-            all.push(Said { line: &line.words, words: "", sentence, refused, changes: &[], table: after });
+            all.push(Said {
+                line: &line.words,
+                words: "",
+                sentence,
+                refused,
+                warning: "",
+                changes: &[],
+                table: after,
+            });
         }
     }
     all
@@ -49,7 +60,8 @@ pub fn said<'a>(before: &'a Table, after: &'a Table, played: &'a [Played]) -> Ve
 fn of_step<'a>(line: &'a str, step: &'a Step) -> Said<'a> {
     let refused = step.refusal.as_ref().map(ToString::to_string).unwrap_or_default();
     let sentence = if refused.is_empty() { step.sentence.clone() } else { "nothing changes".to_string() };
-    Said { line, words: &step.words, sentence, refused, changes: &step.changes, table: &step.after }
+    let warning = step.warning.as_deref().unwrap_or_default();
+    Said { line, words: &step.words, sentence, refused, warning, changes: &step.changes, table: &step.after }
 }
 
 /// What the frame before showed.
@@ -70,6 +82,7 @@ fn frame(survey: &mut Survey, said: &Said, shown: &mut Shown) -> Result<String, 
     let names = Names::new(table.ids());
     let arcs = survey.arcs(table)?;
     let journeys = survey.journeys(table)?;
+    let offers = survey.offers(table)?;
     let settled = survey.driver.settled(&file::write(table))?;
     let reasons = if settled { vec![] } else { Why::new(table).not_settled() };
     let (nobody, several) = unshared(&arcs, Rules(table).last());
@@ -83,14 +96,16 @@ fn frame(survey: &mut Survey, said: &Said, shown: &mut Shown) -> Result<String, 
         ("words", text(said.words)),
         ("sentence", text(&said.sentence)),
         ("refused", text(&said.refused)),
+        ("warning", text(said.warning)),
         ("changes", texts(said.changes)),
         ("settled", settled.to_string()),
+        ("safe", text(&turn::told(table))),
         ("reasons", texts(&reasons)),
         ("nodes", nodes),
         ("covers", covers),
         ("nobody", list(nobody.into_iter().map(arc))),
         ("several", list(several.into_iter().map(arc))),
-        ("messages", list(table.messages.iter().map(|message| self::message(message, &names)))),
+        ("messages", list(table.messages.iter().zip(&offers).map(|(it, offer)| message(it, offer, &names)))),
         ("lookups", list(journeys.iter().map(|journey| lookup(journey, table, &names)))),
     ]))
 }
@@ -105,14 +120,15 @@ fn node(node: &Node) -> String {
     format!("{},{}", node.status, list(sets))
 }
 
-/// Kind, destination, sender or -1, words.
-fn message(message: &Message, names: &Names) -> String {
+/// Kind, destination, sender or -1, words, the action that handles it now.
+fn message(message: &Message, offer: &str, names: &Names) -> String {
     let sender = match message.kind {
         Message::LOOKUP | Message::NO_LEGAL_ROUTE => "-1".to_string(),
         Message::JOIN_REPLY | Message::BROADCAST => message.owner.to_string(),
         _ => message.word.to_string(),
     };
-    format!("[{},{},{sender},{}]", message.kind, message.at, text(&print::message(message, names)))
+    let words = text(&print::message(message, names));
+    format!("[{},{},{sender},{words},{}]", message.kind, message.at, text(offer))
 }
 
 /// Key, path as slots, whether it is delivered, the path in words.

@@ -1,5 +1,6 @@
 //! Help, version, completion for bash and the manual page, all made from the table of commands.
 
+use crate::args::Opt;
 use crate::command::{self, Command, COMMANDS, UNPROVED};
 use crate::plan;
 use std::ffi::OsString;
@@ -67,11 +68,18 @@ fn page(command: &Command) -> String {
     }
     if !command.options.is_empty() {
         text += "\noptions:\n";
-        for option in command.options {
-            text += &format!("  {:14}{}\n", [option.name, option.value.unwrap_or("")].join(" "), option.says);
+        let names: Vec<String> = command.options.iter().map(written).collect();
+        let wide = names.iter().map(|name| name.len() + 2).max().unwrap_or(0).max(14);
+        for (name, option) in names.iter().zip(command.options) {
+            text += &format!("  {name:wide$}{}\n", option.says);
         }
     }
     text + "\n" + UNPROVED + "\n"
+}
+
+/// An option, with what its value is called.
+fn written(option: &Opt) -> String {
+    [option.name, option.value.unwrap_or("")].join(" ")
 }
 
 /// With a capital in front.
@@ -118,8 +126,8 @@ fn manual() -> String {
         );
         text += &roff(command.help);
         for option in command.options {
-            let name = [option.name, option.value.unwrap_or("")].join(" ");
-            text += &format!(".RS\n.TP\n.B {}\n{}.RE\n", roff(&name).trim_end(), roff(option.says));
+            text +=
+                &format!(".RS\n.TP\n.B {}\n{}.RE\n", roff(&written(option)).trim_end(), roff(option.says));
         }
     }
     for (name, usage, says) in OTHERS {

@@ -40,6 +40,7 @@ mod tell;
 mod tests;
 mod trouble;
 mod try_commands;
+mod turn;
 mod water;
 mod why;
 mod words;

@@ -8,6 +8,7 @@ use crate::plan::{Ask, Asked};
 use crate::table::{Names, Node, Table};
 use crate::tell;
 use crate::trouble::{Refusal, Trouble};
+use crate::turn;
 use crate::why::Why;
 
 /// More steps than any drain of a table makes.
@@ -19,6 +20,8 @@ pub struct Step {
     pub words: String,
     pub sentence: String,
     pub refusal: Option<Refusal>,
+    /// What is to be known of a done step, beside what it did.
+    pub warning: Option<String>,
     /// What a done step changed.
     pub changes: Vec<String>,
     /// The table after it, done or refused.
@@ -103,6 +106,7 @@ impl<'a> Play<'a> {
             words: written,
             sentence: String::new(),
             refusal,
+            warning: None,
             changes: vec![],
             after: self.table.clone(),
         })
@@ -112,8 +116,10 @@ impl<'a> Play<'a> {
         let after = file::known(result)?;
         let sentence = tell::step(words, &self.table, &after);
         let changes = change::between(&self.table, &after);
+        let warning = turn::warning(words, &self.table);
         self.table = after.clone();
-        Ok(Step { words: action::written(words, &self.names), sentence, refusal: None, changes, after })
+        let words = action::written(words, &self.names);
+        Ok(Step { words, sentence, refusal: None, warning, changes, after })
     }
 
     /// The oldest message whose step is done, until none is.

@@ -2,7 +2,9 @@
 //! give is not the proved code's, no reason is given. A new action asks for a line in `rule`; without one its refusals are told
 //! by their number alone.
 
+use crate::action::{DELIVER, FORWARD};
 use crate::driver::ActionWords;
+use crate::print;
 use crate::table::{Message, Node};
 use crate::why::Why;
 
@@ -30,6 +32,8 @@ impl Why<'_> {
             4 => self.slot(x).or_else(|| self.slot(y)).or_else(|| self.lease_expired(x as u32, y as u32)),
             5 => self.slot(x).or_else(|| self.slot(y)).or_else(|| self.grant_expired(x as u32, y as u32)),
             6 => self.place(x).or_else(|| self.take(&self.table().messages[x as usize])),
+            DELIVER => self.place(x).or_else(|| self.deliver(x as usize)),
+            FORWARD => self.place(x).or_else(|| self.forward(x as usize)),
             _ => None,
         }
     }
@@ -131,7 +135,7 @@ impl Why<'_> {
         let (at, from) = (message.at, message.word);
         let own = |from: u32| (from == at).then(|| (5, format!("it comes from {} itself", self.name(at))));
         match message.kind {
-            Message::LOOKUP => self.asks(at, &[Node::READY], "a Lookup (01, Take 1)"),
+            Message::LOOKUP => Some((5, "a Lookup is delivered or sent on, never taken (T-05)".to_string())),
             Message::JOIN_REQUEST => {
                 self.asks(at, &[Node::READY], "a JoinRequest (01, Take 2)").or_else(|| self.known(at, from))
             }
@@ -153,6 +157,32 @@ impl Why<'_> {
             }
             _ => self.take_broadcast(at, message.owner),
         }
+    }
+
+    /// 5 on another kind, then 2 unless ready.
+    fn is_lookup(&self, message: &Message, by: &str) -> Reason {
+        let other = || format!("{} is no Lookup ({by})", print::message(message, &self.names));
+        let other = (message.kind != Message::LOOKUP).then(|| (5, other()));
+        other.or_else(|| self.asks(message.at, &[Node::READY], by))
+    }
+
+    fn deliver(&self, place: usize) -> Reason {
+        let message = &self.table().messages[place];
+        self.is_lookup(message, "Deliver, T-05").or_else(|| {
+            let (at, key, rules) = (message.at, message.word, &self.rules);
+            let covers = format!("{} to {}", rules.right_cover(at), rules.left_cover(at));
+            let reason = || format!("{} covers {covers}, not {key}: `forward {place}`", self.name(at));
+            (!rules.covers(at, key)).then(|| (5, reason()))
+        })
+    }
+
+    fn forward(&self, place: usize) -> Reason {
+        let message = &self.table().messages[place];
+        self.is_lookup(message, "Forward, T-05").or_else(|| {
+            let (at, key) = (message.at, message.word);
+            let reason = || format!("{} covers {key}: `deliver {place}`", self.name(at));
+            self.rules.covers(at, key).then(|| (5, reason()))
+        })
     }
 
     fn alive(&self, slot: u32, by: &str) -> Reason {

@@ -1,10 +1,10 @@
 //! What a table says of keys and lookups, found by asking the proved code.
 
-use crate::action;
+use crate::action::{self, DELIVER, FORWARD};
 use crate::driver::Driver;
 use crate::file;
 use crate::rules::Rules;
-use crate::table::{Message, Node, Table};
+use crate::table::{Message, Names, Node, Table};
 use crate::trouble::Trouble;
 use std::collections::HashMap;
 
@@ -75,6 +75,22 @@ impl<'a> Survey<'a> {
         Ok(holders)
     }
 
+    /// For each waiting message the action that handles it now, as it is written; empty where none is done.
+    pub fn offers(&mut self, table: &Table) -> Result<Vec<String>, Trouble> {
+        let (names, file) = (Names::new(table.ids()), file::write(table));
+        let mut offers = vec![String::new(); table.messages.len()];
+        for (offer, place) in offers.iter_mut().zip(0..) {
+            for row in action::on_messages() {
+                let words = [row.number, place, 0];
+                if self.driver.step(words, &file)?.number == 0 {
+                    *offer = action::written(words, &names);
+                    break;
+                }
+            }
+        }
+        Ok(offers)
+    }
+
     pub fn journeys(&mut self, table: &Table) -> Result<Vec<Journey>, Trouble> {
         let lookups = table.messages.iter().filter(|message| message.kind == Message::LOOKUP);
         lookups.map(|lookup| Asked { driver: self.driver, table }.journey(lookup)).collect()
@@ -136,9 +152,14 @@ impl Asked<'_> {
         Ok(within)
     }
 
+    /// Whether the node delivers a lookup of the key.
     fn covers(&mut self, slot: u32, key: u32) -> Result<bool, Trouble> {
-        let fate = self.handled(&Message::lookup(key, slot))?;
-        Ok(matches!(fate, Fate::Ended(End::Delivered)))
+        let file = file::write(&self.table.with_only(Message::lookup(key, slot)));
+        match self.driver.step([DELIVER, 0, 0], &file)?.number {
+            0 => Ok(true),
+            2 | 5 => Ok(false),
+            number => Err(Trouble::refused(number)),
+        }
     }
 
     fn journey(&mut self, lookup: &Message) -> Result<Journey, Trouble> {
@@ -152,30 +173,26 @@ impl Asked<'_> {
         }
     }
 
-    /// Handles a lookup as the only message, by the action that is done.
+    /// Handles a lookup as the only message: it is delivered, or else sent on.
     fn handled(&mut self, lookup: &Message) -> Result<Fate, Trouble> {
-        let file = file::write(&self.table.with_only(*lookup));
-        let mut refused = 0;
-        for row in action::on_messages() {
-            let reply = self.driver.step([row.number, 0, 0], &file)?;
-            if reply.number == 0 {
-                return Ok(fate(&file::known(&reply.result)?));
-            }
-            refused = if refused == 0 { reply.number } else { refused.min(reply.number) };
+        if self.covers(lookup.at, lookup.word)? {
+            return Ok(Fate::Ended(End::Delivered));
         }
-        match refused {
+        let file = file::write(&self.table.with_only(*lookup));
+        let reply = self.driver.step([FORWARD, 0, 0], &file)?;
+        match reply.number {
+            0 => Ok(fate(&file::known(&reply.result)?)),
             2 => Ok(Fate::Ended(End::NotReady)),
             number => Err(Trouble::refused(number)),
         }
     }
 }
 
-/// What became of the only message.
+/// What became of the only message, a lookup that was sent on.
 fn fate(after: &Table) -> Fate {
     match after.messages.first() {
-        None => Fate::Ended(End::Delivered),
         Some(message) if message.kind == Message::LOOKUP => Fate::Routed(message.at),
-        Some(_) => Fate::Ended(End::NoLegalRoute),
+        _ => Fate::Ended(End::NoLegalRoute),
     }
 }
 

@@ -8,6 +8,7 @@ use crate::play::{End, Play, Played};
 use crate::print;
 use crate::table::{Names, Node, Table};
 use crate::trouble::{Fault, Trouble};
+use crate::turn;
 use std::ffi::OsString;
 
 pub fn play(desk: &mut Desk, given: &Given) -> Result<(), Trouble> {
@@ -17,7 +18,7 @@ pub fn play(desk: &mut Desk, given: &Given) -> Result<(), Trouble> {
     }
     let table = desk.table(path)?;
     let plan = plan_of(given, words, &Names::new(table.ids()))?;
-    let before = format!("before: {}\n", summary(&table));
+    let before = format!("before: {}; {}\n", summary(&table), turn::told(&table));
     let mut play = Play::new(desk.driver()?, table);
     let played = play.run(&plan, given.has("-k"))?;
     let refused = played.iter().any(Played::refused);
@@ -78,7 +79,7 @@ fn after(play: &mut Play) -> Result<String, Trouble> {
     let reasons = play.not_settled()?;
     let settled = if reasons.is_empty() { "settled" } else { "not settled" };
     let names = Names::new(play.table.ids());
-    let mut text = format!("after: {}; {settled}\n", summary(&play.table));
+    let mut text = format!("after: {}; {settled}; {}\n", summary(&play.table), turn::told(&play.table));
     for (message, place) in play.table.messages.iter().zip(0..) {
         text += &format!("   place {place}: {}\n", print::message(message, &names));
     }
@@ -108,8 +109,9 @@ fn told(line: &Played, long: bool) -> String {
             Some(refusal) => text += &format!("{refusal}\n"),
             None => text += &format!("{}\n", step.sentence),
         }
+        let indent = if single { "   " } else { "      " };
+        step.warning.iter().for_each(|warning| text += &format!("{indent}warning: {warning}\n"));
         if step.refusal.is_none() && (single || long) {
-            let indent = if single { "   " } else { "      " };
             step.changes.iter().for_each(|change| text += &format!("{indent}{change}\n"));
         }
     }

@@ -185,7 +185,8 @@ mod tests {
     fn a_node_that_is_ok_is_told_by_its_leaf_set() {
         let table = small(Node::OK, vec![]);
         let said = Why::new(&table).node(3);
-        let both = "120 is ok: leaf set 3 of 4 a side, no lease of its neighbours 17 and 95 (01, Take 8); none";
+        let both =
+            "120 is ok: leaf set 3 of 4 a side, no lease of its neighbours 17 and 95 (01, Take 8); none";
         assert!(said.starts_with(both), "{said}");
         let mut short = small(Node::OK, vec![]);
         short.nodes[3].sets[..2].copy_from_slice(&[1, 4]);

@@ -14,7 +14,7 @@ pub enum Form {
     At,
     /// `lookup KEY at NODE`
     Lookup,
-    /// `take PLACE`
+    /// `WORDS PLACE`
     Place,
 }
 
@@ -34,19 +34,23 @@ pub const REQUEST_LEASE: u64 = 3;
 pub const LEASE_EXPIRED: u64 = 4;
 pub const GRANT_EXPIRED: u64 = 5;
 pub const TAKE: u64 = 6;
+pub const DELIVER: u64 = 7;
+pub const FORWARD: u64 = 8;
 
 /// Every kind that the proved step knows.
-pub const KINDS: [Kind; 6] = [
+pub const KINDS: [Kind; 8] = [
     Kind { number: LOOKUP, words: "lookup", form: Form::Lookup, local: true },
     Kind { number: JOIN, words: "join", form: Form::At, local: true },
     Kind { number: REQUEST_LEASE, words: "request lease", form: Form::Node, local: true },
     Kind { number: LEASE_EXPIRED, words: "lease expired", form: Form::Pair, local: true },
     Kind { number: GRANT_EXPIRED, words: "grant expired", form: Form::Pair, local: true },
     Kind { number: TAKE, words: "take", form: Form::Place, local: true },
+    Kind { number: DELIVER, words: "deliver", form: Form::Place, local: true },
+    Kind { number: FORWARD, words: "forward", form: Form::Place, local: true },
 ];
 
-/// The kinds that take a message; each is tried on every message.
-pub const TAKING: [u64; 1] = [TAKE];
+/// The kinds that handle a message, each with whether it is for lookups: on another kind of message it is refused with 5, whatever else (T-05).
+pub const TAKING: [(u64, bool); 3] = [(TAKE, false), (DELIVER, true), (FORWARD, true)];
 
 pub fn kind(number: u64) -> &'static Kind {
     KINDS.iter().find(|kind| kind.number == number).expect("a kind of the table")
@@ -74,7 +78,8 @@ pub fn parse(line: &str, frame: &Frame) -> Result<Vec<Words>, String> {
             return arguments(kind, rest, frame);
         }
     }
-    let known: Vec<&str> = KINDS.iter().filter(|kind| kind.number != TAKE).map(|kind| kind.words).collect();
+    let known: Vec<&str> =
+        KINDS.iter().filter(|kind| kind.form != Form::Place).map(|kind| kind.words).collect();
     Err(format!("{line}: no action; a plan has {}", known.join(", ")))
 }
 
@@ -90,7 +95,9 @@ fn arguments(kind: &Kind, rest: &[&str], frame: &Frame) -> Result<Vec<Words>, St
             let others = (0..frame.ids.len() as u64).filter(|other| *other != node);
             Ok(others.map(|other| [kind.number, node, other]).collect())
         }
-        (Form::Pair, [node, other]) | (Form::At, [node, "at", other]) => Ok(vec![[kind.number, slot(node)?, slot(other)?]]),
+        (Form::Pair, [node, other]) | (Form::At, [node, "at", other]) => {
+            Ok(vec![[kind.number, slot(node)?, slot(other)?]])
+        }
         (Form::Lookup, [key, "at", node]) => {
             let key = key.parse().map_err(|_| format!("{key}: a key is expected"))?;
             Ok(vec![[kind.number, slot(node)?, key]])

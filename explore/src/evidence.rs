@@ -1,6 +1,6 @@
 //! What was found as a rehearsal: actions from the start, each with the table file after it, for the proved checker.
 
-use crate::action::{self, TAKE};
+use crate::action::{self, DELIVER, FORWARD};
 use crate::engine::{room, Driver, Engine, Words};
 use crate::file::{self, Frame, Message};
 use crate::moves::Move;
@@ -65,7 +65,7 @@ pub fn shown(shown: &[Shown]) -> Vec<Done> {
         Shown::Do(words) => Done::Do(words),
         Shown::Deliver(slot, key) => {
             let kind = u64::from(file::LOOKUP);
-            Done::Take(TAKE, Message([kind | (slot as u64) << 32, key.into(), 0, 0, 0, 0, 0]))
+            Done::Take(DELIVER, Message([kind | (slot as u64) << 32, key.into(), 0, 0, 0, 0, 0]))
         }
     };
     shown.iter().map(done).collect()
@@ -86,7 +86,7 @@ impl Rehearsal {
                     let place = file::messages(before).position(looks);
                     let place = place
                         .ok_or_else(|| Trouble::Failed("a message of the way does not wait".to_string()))?;
-                    ([kind, place as u64, 0], taken(&rehearsal.frame, &message))
+                    ([kind, place as u64, 0], taken(&rehearsal.frame, kind, &message))
                 }
             };
             let answer = engine.step(before, action, &mut out)?;
@@ -125,7 +125,7 @@ impl Rehearsal {
 }
 
 /// The taking of a message in words.
-fn taken(frame: &Frame, message: &Message) -> String {
+fn taken(frame: &Frame, kind: u64, message: &Message) -> String {
     let id = |slot: u32| frame.ids[slot as usize];
     let name = file::KINDS[message.kind() as usize - 1];
     let about = match message.kind() {
@@ -135,5 +135,10 @@ fn taken(frame: &Frame, message: &Message) -> String {
         8 => format!("from {}", id(message.owner())),
         _ => format!("from {}", id(message.word())),
     };
-    format!("{} takes {name} {about}", id(message.to()))
+    let does = match kind {
+        DELIVER => "delivers",
+        FORWARD => "forwards",
+        _ => "takes",
+    };
+    format!("{} {does} {name} {about}", id(message.to()))
 }

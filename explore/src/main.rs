@@ -1,4 +1,5 @@
-//! `explore`: searches every order of a join plan. The first argument is the driver's path, which bin/explore gives.
+//! `ring explore`: searches every order of a join plan. The first argument is the driver's path, which bin/explore gives. `ring explore --help`, of
+//! the companion, has its words.
 
 mod report;
 
@@ -16,31 +17,9 @@ use explore::trouble::Trouble;
 use std::process::ExitCode;
 use std::time::{Duration, Instant};
 
-const USAGE: &str = "usage:
-  explore TABLE PLAN [options]   every order of taking messages, of lease requests and of the plan's actions, from a table file
-  explore 001 ROW [options]      the same for a row of document 001's table 4.1, with its nodes, plan and property
-  explore 001 all [options]      the whole table beside 001's, with times
-PLAN has a line for each action: `join NODE SEED`, `lookup KEY at NODE`, `lease expired NODE PARTNER`, `grant expired NODE PARTNER`; nodes by id, and
-`any` for a second node is each other one. Each may be done at any time, as often as the step lets it.
-  --ask NAME,..     the questions: one-holder, flanked, nearest, stuck, full, ready, or a row's name (one-holder,flanked,nearest)
-  --joining K       a Join only while fewer than K nodes are wait or ok
-  --waiting K       a Join only while fewer than K nodes are wait
-  --in-order        a Join only after those before it in the plan
-  --expiries        every LeaseExpired and GrantExpired too
-  --states N, --depth N, --memory MB, --time S
-                    where to stop (4096 MB, 3600 s)
-  --every           asks for every step on the whole state; else each different step is asked once and remembered (docs/PLANS.md)
-  --audit K         in one state of K every step is asked again on the whole state, those too that the statuses forbid (1000; 0: in none)
-  --core            tells states apart without routing sets and grants; ends where these would be looked at
-  --evidence DIR    what is found as table files and actions, DIR/QUESTION/..
-  --by-driver       asks the driver, also where the library is linked
-  --quiet           nothing on standard error
-Status: 0 all searched and nothing found, 1 found, 3 stopped before the end and nothing found, 2 else.
-The search is not proved. Every step is made by the proved code.
-";
-
 fn main() -> ExitCode {
-    let args: Vec<String> = std::env::args().skip(1).collect();
+    let args: Vec<String> =
+        std::env::args_os().skip(1).map(|word| word.to_string_lossy().into_owned()).collect();
     let args: Vec<&str> = args.iter().map(String::as_str).collect();
     match run(&args) {
         Ok(status) => ExitCode::from(status),
@@ -57,34 +36,31 @@ fn failed(what: String) -> Trouble {
 
 fn run(args: &[&str]) -> Result<u8, Trouble> {
     match *args {
-        [_, "help"] | [_] => {
-            print!("{USAGE}");
-            Ok(0)
-        }
         [driver, "001", "all", ref words @ ..] => {
-            println!("{}", Row::HEAD);
+            report::say(Row::HEAD);
             for row in &ROWS {
-                let mut options = Options::parse(words).map_err(failed)?;
+                let mut options = options(words)?;
                 options.questions.push(row.question());
                 let mut engine = engine(driver, &options)?;
                 let start = row.start(engine.as_mut())?;
                 searched(engine.as_mut(), &start, row.plan, &options, &mut |search, end, seconds| {
-                    println!("{}", row.line(search, end, seconds.cpu));
+                    report::say(&row.line(search, end, seconds.cpu));
                     Ok(0)
                 })?;
             }
             Ok(0)
         }
         [driver, "001", name, ref words @ ..] => {
-            let mut options = Options::parse(words).map_err(failed)?;
-            let row = Row::named(name).ok_or_else(|| failed(format!("{name}: table 4.1 has no such row")))?;
+            let mut options = options(words)?;
+            let row = Row::named(name)
+                .ok_or_else(|| Trouble::Misuse(format!("{name}: table 4.1 has no such row")))?;
             options.questions.push(row.question());
             let mut engine = engine(driver, &options)?;
             let start = row.start(engine.as_mut())?;
             explore(driver, engine.as_mut(), &start, row.plan, &options)
         }
         [driver, table, plan, ref words @ ..] => {
-            let mut options = Options::parse(words).map_err(failed)?;
+            let mut options = options(words)?;
             if options.questions.is_empty() {
                 options.questions = QUESTIONS[..3].iter().collect();
             }
@@ -92,8 +68,14 @@ fn run(args: &[&str]) -> Result<u8, Trouble> {
             let plan = String::from_utf8(read(plan)?).map_err(|_| failed(format!("{plan}: no text")))?;
             explore(driver, engine(driver, &options)?.as_mut(), &read(table)?, &plan, &options)
         }
-        _ => Err(failed(format!("not a command\n{}", USAGE.trim_end()))),
+        [_, "001"] => Err(Trouble::Misuse("ROW is missing".to_string())),
+        [_, _] => Err(Trouble::Misuse("PLAN is missing".to_string())),
+        _ => Err(Trouble::Misuse("TABLE is missing".to_string())),
     }
+}
+
+fn options(words: &[&str]) -> Result<Options, Trouble> {
+    Options::parse(words).map_err(Trouble::Misuse)
 }
 
 fn engine(driver: &str, options: &Options) -> Result<Box<dyn Engine>, Trouble> {
@@ -117,7 +99,7 @@ fn explore(
             figures(search, name, seconds);
         }
         let table = file::read(start);
-        println!("from: M={} L={}, {}", table.frame.m, table.frame.l, statuses(&table.nodes));
+        report::say(&format!("from: M={} L={}, {}", table.frame.m, table.frame.l, statuses(&table.nodes)));
         report::tell(driver, search, start, end, options)
     })
 }

@@ -69,25 +69,22 @@ impl<'a> Mover<'a> {
         self.dead = state.nodes.iter().enumerate().map(dead).fold(0, |marks, mark| marks | mark);
     }
 
-    /// The moves of this state that may be tried, but for those that the statuses forbid.
+    /// The moves of this state that may be tried, but for those that the statuses or a message's kind forbid.
     pub fn moves(&self, records: &Records, state: &State, moves: &mut Vec<Move>) {
         moves.clear();
-        moves.extend(
-            TAKING
-                .iter()
-                .flat_map(|&kind| (0..state.messages.len()).map(move |place| Move::Take(kind, place))),
-        );
+        moves.extend(takings(records, state, true));
         let actions = self.plan.actions.iter().enumerate();
         let actions = actions.filter(|(_, &action)| !Plan::forbids(action, records, state));
         let allowed = actions.filter(|(_, &action)| self.plan.allows(action, records, state));
         moves.extend(allowed.map(|(at, _)| Move::Do(at)));
     }
 
-    /// The actions that the statuses forbid.
-    pub fn forbidden(&self, records: &Records, state: &State) -> Vec<Move> {
+    /// The actions that the statuses forbid, with 2, and those that a message's kind forbids, with 5.
+    pub fn forbidden(&self, records: &Records, state: &State) -> Vec<(Move, u32)> {
         let actions = self.plan.actions.iter().enumerate();
         let actions = actions.filter(|(_, &action)| Plan::forbids(action, records, state));
-        actions.map(|(at, _)| Move::Do(at)).collect()
+        let takings = takings(records, state, false).map(|step| (step, 5));
+        actions.map(|(at, _)| (Move::Do(at), 2)).chain(takings).collect()
     }
 
     /// Makes a move: 01's number, and where it is 0 the state after it.
@@ -265,6 +262,16 @@ impl<'a> Mover<'a> {
         let memory = self.memory.as_ref();
         memory.map_or(0, |memory| memory.handed.bytes() + memory.effects.capacity() * size_of::<Effect>())
     }
+}
+
+/// The handling of each message by each kind of action that is for messages of its kind, or that is not.
+fn takings<'s>(records: &'s Records, state: &'s State, fits: bool) -> impl Iterator<Item = Move> + 's {
+    let lookup = |place: usize| records.message(state.messages[place]).kind() == file::LOOKUP;
+    let of = move |(kind, lookups): (u64, bool)| {
+        let places = (0..state.messages.len()).filter(move |&place| (lookup(place) == lookups) == fits);
+        places.map(move |place| Move::Take(kind, place))
+    };
+    TAKING.into_iter().flat_map(of)
 }
 
 /// A number that a step of a state can answer; 7 to 11 would say that the state is none.

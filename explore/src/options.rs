@@ -79,7 +79,7 @@ impl Options {
             "--by-driver" => self.by_driver = true,
             "--evidence" => self.evidence = Some(rest.next().ok_or("a folder is missing")?.into()),
             "--quiet" => self.quiet = true,
-            _ => return Err("no option".to_string()),
+            _ => return Err("no option of this command".to_string()),
         }
         Ok(())
     }

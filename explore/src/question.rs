@@ -25,7 +25,7 @@ pub struct Finding {
 #[derive(Clone, Copy, Debug, PartialEq, Eq)]
 pub enum Shown {
     Do(Words),
-    /// Takes the lookup of a key that waits at a slot.
+    /// Delivers the lookup of a key that waits at a slot.
     Deliver(usize, u32),
 }
 

@@ -6,6 +6,18 @@ use explore::options::Options;
 use explore::question::{Question, Shown};
 use explore::search::{End, Found, NodeAnswer, Search};
 use explore::trouble::Trouble;
+use std::io::{self, Write};
+use std::process;
+
+/// A line on standard output. Ends the program where it cannot be written; silently where nobody reads it.
+pub fn say(line: &str) {
+    if let Err(error) = writeln!(io::stdout(), "{line}") {
+        if error.kind() != io::ErrorKind::BrokenPipe {
+            writeln!(io::stderr(), "{}", Trouble::io("standard output", &error)).ok();
+        }
+        process::exit(2);
+    }
+}
 
 /// What the report is made with.
 struct Report<'r, 's> {
@@ -34,12 +46,14 @@ pub fn tell(
     let (states, depth) = (report.search.store.len(), report.search.depth());
     let most = report.search.most;
     match end {
-        End::Searched => println!("all searched: {states} states, depth {depth}, at most {most} messages"),
+        End::Searched => {
+            say(&format!("all searched: {states} states, depth {depth}, at most {most} messages"))
+        }
         End::Answered => {
-            println!("stopped at {states} states, depth {depth}, because every question is answered")
+            say(&format!("stopped at {states} states, depth {depth}, because every question is answered"))
         }
         End::Stopped(bound) => {
-            println!("stopped at {states} states, depth {depth}, because of the bound of {bound}")
+            say(&format!("stopped at {states} states, depth {depth}, because of the bound of {bound}"))
         }
     }
     Ok(match (report.is_found, is_whole) {
@@ -52,10 +66,12 @@ pub fn tell(
 impl Report<'_, '_> {
     fn question(&mut self, question: &Question, found: &Found) -> Result<(), Trouble> {
         match found {
-            Found::Nothing if self.is_whole => println!("{}: not found ({})", question.name, question.asks),
-            Found::Nothing => println!("{}: not found so far ({})", question.name, question.asks),
+            Found::Nothing if self.is_whole => {
+                say(&format!("{}: not found ({})", question.name, question.asks))
+            }
+            Found::Nothing => say(&format!("{}: not found so far ({})", question.name, question.asks)),
             Found::At(number, finding) => {
-                println!("{}: found: {}", question.name, question.asks);
+                say(&format!("{}: found: {}", question.name, question.asks));
                 self.evidence(question.name, *number, &finding.words, &finding.shown)?;
             }
             Found::Nodes(answers) => {
@@ -73,16 +89,16 @@ impl Report<'_, '_> {
         match (answer.ready, answer.lost) {
             (Some(state), None) => {
                 let after = self.search.way(state).len() - 1;
-                println!("{name}: {id} can become ready, after {after} actions at the least, and still can whatever was done");
+                say(&format!("{name}: {id} can become ready, after {after} actions at the least, and still can whatever was done"));
                 Ok(())
             }
             (None, _) => {
-                println!("{name}: {id} never becomes ready");
+                say(&format!("{name}: {id} never becomes ready"));
                 self.is_found = true;
                 Ok(())
             }
             (Some(_), Some(lost)) => {
-                println!("{name}: {id} can become ready, but not in every order");
+                say(&format!("{name}: {id} can become ready, but not in every order"));
                 self.evidence(&format!("{name}-{id}"), lost, &format!("{id} can no longer become ready"), &[])
             }
         }
@@ -96,17 +112,16 @@ impl Report<'_, '_> {
         let way = [way, evidence::shown(shown)].concat();
         let engine = self.search.mover.engine();
         let rehearsal = Rehearsal::make(engine, self.options.key(), self.start, &way)?;
-        println!("  after {actions} actions {words}");
+        say(&format!("  after {actions} actions {words}"));
         for (step, nth) in rehearsal.steps.iter().zip(1..) {
-            let delivered = if nth > actions && step.words.contains("takes") { ": delivered" } else { "" };
-            println!("  {nth}. {}{delivered}", step.words);
+            say(&format!("  {nth}. {}", step.words));
         }
         let accepted = rehearsal.is_accepted(&mut Driver::run(self.driver)?)?;
         let verdict = if accepted { "accepts" } else { "REFUSES" };
-        println!("  the proved checker {verdict} these {} steps", rehearsal.steps.len());
+        say(&format!("  the proved checker {verdict} these {} steps", rehearsal.steps.len()));
         if let Some(folder) = &self.options.evidence {
             rehearsal.write(&folder.join(name))?;
-            println!("  written to {}", folder.join(name).display());
+            say(&format!("  written to {}", folder.join(name).display()));
         }
         Ok(())
     }

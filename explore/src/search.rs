@@ -253,13 +253,12 @@ impl<'a> Search<'a> {
         ))
     }
 
-    /// Asks for the actions that the statuses forbid: each must be refused.
+    /// Asks for the actions that are forbidden: each must be refused, with its number.
     fn ask_forbidden(&mut self) -> Result<(), Trouble> {
-        for step in self.mover.forbidden(&self.records, &self.now) {
-            if self.mover.ask(&mut self.records, &self.now, step, &mut self.again)? != 2 {
-                return Err(Trouble::Failed(
-                    "an action that the statuses forbid is not refused with 2".to_string(),
-                ));
+        for (step, wanted) in self.mover.forbidden(&self.records, &self.now) {
+            if self.mover.ask(&mut self.records, &self.now, step, &mut self.again)? != wanted {
+                let what = format!("an action that is forbidden is not refused with {wanted}");
+                return Err(Trouble::Failed(what));
             }
         }
         Ok(())

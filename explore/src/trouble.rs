@@ -7,8 +7,10 @@ use std::io;
 pub enum Trouble {
     /// The proved code refuses the table or the start with this number.
     Refused(u32),
-    /// Words that cannot be read, a file or a program that fails, or an answer that cannot be.
+    /// A plan that cannot be read, a file or a program that fails, or an answer that cannot be.
     Failed(String),
+    /// Words that are no use of the command.
+    Misuse(String),
 }
 
 impl Trouble {
@@ -21,7 +23,8 @@ impl fmt::Display for Trouble {
     fn fmt(&self, f: &mut fmt::Formatter) -> fmt::Result {
         match self {
             Trouble::Refused(number) => write!(f, "refused {number}"),
-            Trouble::Failed(what) => write!(f, "explore: {what}"),
+            Trouble::Failed(what) => write!(f, "ring explore: {what}"),
+            Trouble::Misuse(what) => write!(f, "ring explore: {what}; `ring explore --help` has its words"),
         }
     }
 }

@@ -192,7 +192,7 @@ function halo(svg, p, words, look) {
 
 function drawMessages(svg, state) {
   const stacked = new Map(), side = MANY ? 7 : 11, most = MANY ? 5 : 6;
-  state.messages.forEach(([kind, to, from, words], nth) => {
+  state.messages.forEach(([kind, to, from, words, offer], nth) => {
     const depth = stacked.get(to) || 0;
     stacked.set(to, depth + 1);
     if (depth > most) return;
@@ -205,7 +205,7 @@ function drawMessages(svg, state) {
     if (from >= 0 && from !== to) line(svg, edge(place(from), p), p, KIND_COLOURS[kind], 1, { opacity: 0.55 });
     const box = { x: p.x - side / 2, y: p.y - side / 2, width: side, height: side, fill: KIND_COLOURS[kind] };
     Object.assign(box, { stroke: "white", class: "message" });
-    make("title", {}, make("rect", box, svg), `place ${nth}: ${words}`);
+    make("title", {}, make("rect", box, svg), `place ${nth}: ${words}` + (offer ? `; ${offer}` : ""));
   });
 }
 
@@ -330,6 +330,13 @@ function tellList(id, words) {
   part(id).hidden = words.length === 0;
 }
 
+/* The waiting messages, each with the action that handles it now. */
+function tellMessages(state) {
+  tellList("messages", state.messages.map((message) => message[3]));
+  const lines = part("messages").lastElementChild.children;
+  state.messages.forEach((message, nth) => { if (message[4]) put("span", lines[nth], message[4], "offer"); });
+}
+
 function tellCovers(state) {
   const box = part("covers").lastElementChild;
   box.replaceChildren();
@@ -389,13 +396,14 @@ function show() {
   part("where").textContent = [`Step ${at} of ${states.length - 1}`, state.line, words].filter(Boolean).join(": ");
   part("sentence").textContent = state.sentence;
   part("refused").textContent = state.refused;
-  part("settled").textContent = settled;
+  part("warning").textContent = state.warning && `Warning: ${state.warning}.`;
+  part("settled").textContent = `${settled}; ${state.safe}`;
   draw(state);
   tellKeys(state);
   tellNode(state);
   tellList("reasons", state.reasons);
   tellList("changes", state.changes);
-  tellList("messages", state.messages.map((message) => message[3]));
+  tellMessages(state);
   tellCovers(state);
   tellListing(state);
   part("slider").value = at;

@@ -184,7 +184,10 @@ fn written(table: &model::Table, pool: &model::Pool) -> Vec<u8> {
 fn successors(case: &Case, plan: &Plan, state: &[u8]) -> Vec<Vec<u8>> {
     let (mut table, mut pool) = (model::Table::BLANK, model::EMPTY_POOL);
     model::load(state, &mut table, &mut pool).expect("a table file");
-    let takes = (0..table.count).map(|place| model::Action::Take { place });
+    let handled = |place| {
+        [model::Action::Take { place }, model::Action::Deliver { place }, model::Action::Forward { place }]
+    };
+    let takes = (0..table.count).flat_map(handled);
     let joins: Vec<usize> =
         plan.actions.iter().filter(|action| action[0] == 2).map(|action| action[1] as usize).collect();
     let allowed = |action: &&[u64; 3]| action[0] != 2 || may_join(case, &table, &joins, action[1] as usize);

@@ -21,12 +21,13 @@ fn delivers(engine: &mut dyn Engine, file: &[u8], slot: usize, key: u32) -> bool
     let mut out = room();
     let asked = engine.step(&alone, [1, slot as u64, key.into()], &mut out).expect("a reply");
     let asked = out[..asked.count].to_vec();
-    let taken = engine.step(&asked, [6, 0, 0], &mut out).expect("a reply");
-    assert_eq!(taken.number, 0);
-    taken.count == alone.len()
+    let answer = engine.step(&asked, [7, 0, 0], &mut out).expect("a reply");
+    assert!(answer.number == 5 || answer.count == alone.len());
+    answer.number == 0
 }
 
-const NOT_FLANKED: Case = Case::new(4, 1, 17, &[0, 1, 8, 12, 14], "join 1 at 0\njoin 8 at 14\njoin 12 at 14\n");
+const NOT_FLANKED: Case =
+    Case::new(4, 1, 17, &[0, 1, 8, 12, 14], "join 1 at 0\njoin 8 at 14\njoin 12 at 14\n");
 const TWO_AT_ONCE: Case = Case {
     limits: Limits { joining: Some(2), waiting: None, in_order: false },
     ..Case::new(4, 1, 17, &[0, 1, 2, 9, 14], "join 1 at 0\njoin 2 at 0\njoin 9 at 14\n")

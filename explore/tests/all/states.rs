@@ -107,7 +107,7 @@ enum Slip {
 
 impl<F: Fn(&[u8], Words, Option<Message>) -> Slip> Engine for Wrong<F> {
     fn step(&mut self, table: &[u8], action: Words, out: &mut Room) -> Result<Answer, Trouble> {
-        let taken = if action[0] == 6 { file::messages(table).nth(action[1] as usize) } else { None };
+        let taken = if action[0] >= 6 { file::messages(table).nth(action[1] as usize) } else { None };
         let answer = self.inner.step(table, action, out)?;
         match (self.wrong)(table, action, taken) {
             Slip::Skips => return Ok(Answer { number: 5, count: 0 }),
