@@ -1,14 +1,10 @@
 //! Instructions of one round, counted by callgrind on a second run of this program, and bytes moved, counted
 //! by the program `moved` beside it.
 
+use crate::callgrind;
 use benchmarks::lines::Line;
 use benchmarks::{measured, room, Side};
-use std::fs;
-use std::process::{Command, Stdio};
-
-/// Callgrind counts each byte of a `rep movsb` as an instruction, so the C library is told to copy by vectors.
-const NO_REP: &str =
-    "glibc.cpu.x86_rep_movsb_threshold=0x40000000:glibc.cpu.x86_rep_stosb_threshold=0x40000000";
+use std::process::Command;
 
 /// The argument that makes this program run what is counted, in order, and nothing else.
 pub const WORD: &str = "counted";
@@ -28,38 +24,11 @@ pub fn run_all(lines: &[Line]) {
     }
 }
 
-/// Instructions of one round of each side, by line; none where valgrind is not there.
+/// Instructions of one round of each side, by line; none where valgrind does not count them.
 pub fn of(lines: &[Line]) -> Option<Vec<Each>> {
-    let folder = std::env::temp_dir().join(format!("counts-{}", std::process::id()));
-    fs::create_dir_all(&folder).expect("a temporary folder");
-    let out = folder.join("out");
-    let ran = Command::new("valgrind")
-        .env("GLIBC_TUNABLES", NO_REP)
-        .args([
-            "--tool=callgrind",
-            "--collect-atstart=no",
-            "--toggle-collect=measured",
-            "--dump-after=measured",
-        ])
-        .arg(format!("--callgrind-out-file={}", out.display()))
-        .arg(std::env::current_exe().expect("this program has a path"))
-        .arg(WORD)
-        .stderr(Stdio::null())
-        .status();
-    let counts = ran.is_ok_and(|status| status.success()).then(|| {
-        let dump =
-            |k: usize| total(&fs::read_to_string(format!("{}.{}", out.display(), k + 1)).expect("a dump"));
-        let side = |at: usize| round([dump(at), dump(at + 1), dump(at + 2)]);
-        (0..lines.len()).map(|line| [0, 1, 2].map(|s| side((line * 3 + s) * 3))).collect()
-    });
-    fs::remove_dir_all(&folder).expect("the folder is ours");
-    counts
-}
-
-/// The instructions of a dump.
-fn total(dump: &str) -> u64 {
-    let line = dump.lines().find_map(|line| line.strip_prefix("totals: ")).expect("a dump has totals");
-    line.split(' ').next().and_then(|word| word.parse().ok()).expect("a number")
+    let calls = callgrind::of("measured", &[WORD], lines.len() * Side::ALL.len() * ROUNDS.len())?;
+    let side = |at: usize| round([calls[at], calls[at + 1], calls[at + 2]]);
+    Some((0..lines.len()).map(|line| [0, 1, 2].map(|s| side((line * 3 + s) * 3))).collect())
 }
 
 /// The instructions of a round, from those of no round, of one and of eleven. Later rounds must cost what

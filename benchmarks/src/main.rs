@@ -1,6 +1,9 @@
 //! Measures the proved calls beside the model's and prints the figures as markdown. `tools/benchmark` runs it.
 
+mod callgrind;
 mod counts;
+mod numbers;
+mod paint;
 mod stack;
 mod table;
 mod times;

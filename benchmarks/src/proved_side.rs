@@ -1,4 +1,4 @@
-//! The proved calls, as crate `timing` exports them. A Rattle slice is a pointer and a length.
+//! The proved calls, as crate `face_timing` exports them. A Rattle slice is a pointer and a length.
 
 use crate::lines::{Call, Line};
 

@@ -1,49 +1,23 @@
-//! Stack used by a step: the stack below is painted, the call made, and then one looks how deep the paint is
-//! gone.
+//! Stack used by a step.
 
+use crate::paint::{frame, used};
 use benchmarks::lines::{Call, Line};
 use benchmarks::{measured, model_side, room, Side};
 use std::hint::black_box;
 
-const ROOM: usize = 1 << 20;
-const PAINT: u8 = 0xa5;
-
 /// Frames of the proved module's functions, as its compiler tells them: `file:function`, a tab, bytes.
-const FRAMES: &str = include_str!(concat!(env!("NATIVE"), "/timing.su"));
+const FRAMES: &str = include_str!(concat!(env!("NATIVE"), "/face_timing.su"));
 
 /// Bytes of stack.
 pub struct Stack {
     /// A step of the model.
     pub model: usize,
-    /// A loop of crate `timing` that makes one step, with all that it calls.
+    /// A loop of crate `face_timing` that makes one step, with all that it calls.
     pub whole: usize,
     /// The part of it below the loop's own frame; none where that is not known.
     pub step: Option<usize>,
     /// Whether the load before the step uses as much, so that the step may use less.
     pub at_most: bool,
-}
-
-#[inline(never)]
-fn paint() -> *const u8 {
-    let mut room = [0u8; ROOM];
-    black_box(&mut room).fill(PAINT);
-    black_box(room.as_ptr())
-}
-
-/// Bytes below this frame that a call writes to.
-#[inline(never)]
-fn used(call: &mut dyn FnMut()) -> usize {
-    let low = paint();
-    call();
-    // The room is on this thread's stack, below this frame, where nothing lives now.
-    let touched = (0..ROOM).find(|&at| unsafe { low.add(at).read_volatile() } != PAINT);
-    ROOM - touched.unwrap_or(ROOM)
-}
-
-fn frame(function: &str) -> Option<usize> {
-    let line =
-        FRAMES.lines().find(|line| line.split('\t').next().is_some_and(|at| at.ends_with(function)))?;
-    line.split('\t').nth(1)?.parse().ok()
 }
 
 fn of_line(line: &Line, nothing: usize) -> Option<Stack> {
@@ -61,7 +35,7 @@ fn of_line(line: &Line, nothing: usize) -> Option<Stack> {
         let (table, pool) = &mut *held;
         black_box(model::step(table, pool, action)).expect("it is done");
     }) - nothing;
-    let step = frame(":tarpudhriv_steps").map(|own| whole - own);
+    let step = frame(FRAMES, ":tarpudhriv_steps").map(|own| whole - own);
     Some(Stack { model, whole, step, at_most: load >= whole })
 }
 

@@ -1,6 +1,7 @@
 //! The figures as markdown.
 
 use crate::counts::Each;
+use crate::numbers::grouped;
 use crate::stack::Stack;
 use crate::times::POOL;
 use benchmarks::lines::Line;
@@ -17,17 +18,6 @@ pub struct Figures {
     pub moved: Vec<Each>,
     pub stack: Stack,
     pub copy: f64,
-}
-
-/// A number with a comma before each three digits.
-fn grouped(number: u64) -> String {
-    let digits = number.to_string();
-    let comma = |at: usize| at > 0 && (digits.len() - at).is_multiple_of(3);
-    digits
-        .chars()
-        .enumerate()
-        .flat_map(|(at, digit)| comma(at).then_some(',').into_iter().chain([digit]))
-        .collect()
 }
 
 fn kilobytes(bytes: usize) -> f64 {

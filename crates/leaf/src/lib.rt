@@ -1,9 +1,11 @@
 // Leaf sets: what they hold, their neighbours and ends, adding nodes, and what they cover.
 ghost use mathlib.Core.Path.{_≡_};
+ghost use mathlib.Core.Bool.{true};
 ghost use Prim.Native.Nat.{ℕ, _^_, _<_, _≤_};
+ghost use Rattle.marks.specs.Marks.{has};
 ghost use Rattle.rules.specs.InnerAsks.{Listed};
 ghost use Rattle.rules.specs.Closest.{closest};
-ghost use Rattle.rules.specs.InnerSteps.{stepsOf, otherThan};
+ghost use Rattle.rules.specs.InnerSteps.{stepsOf, otherThan, lookedAt};
 ghost use Rattle.rules.specs.Leaf.{contentOf, seenFrom, leafWith, leafWithOne, overlaps, isComplete, isFull, isEmpty, coversOf};
 use marks::Found;
 use rules::Ring;
@@ -42,6 +44,14 @@ fn along(up: bool, i: usize, n: usize, d: usize) -> usize
     }
 }
 
+// Is slot s in the set? The walk from i asks it of no slot before which l members stand.
+fn looked(up: bool, set: u64, i: usize, n: usize, l: u32, s: usize) -> bool
+    requires { ⌜ lookedAt up set i n l s ≡ true ⌝ }
+    ensures { λ r. ⌜ r ≡ has set s ⌝ }
+{
+    marks::is_in(set, s)
+}
+
 // The at most l nodes of a set that come first on the way up from slot i, or down. The owner is passed over.
 fn first_along(up: bool, set: u64, i: usize, n: usize, l: u32) -> u64
     requires { ⌜ (i < n) × (n ≤ 64) ⌝ }
@@ -55,7 +65,7 @@ fn first_along(up: bool, set: u64, i: usize, n: usize, l: u32) -> u64
             return out;
         }
         let s = along(up, i, n, d);
-        if marks::is_in(set, s) {
+        if looked(up, set, i, n, l, s) {
             out = marks::added(out, s);
             got += 1;
         }

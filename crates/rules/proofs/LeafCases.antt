@@ -3,11 +3,13 @@ use mathlib.Core.Path.{_≡_, refl}
 use mathlib.Core.Bool.{Bool, true, false}
 use mathlib.Core.List.{List, [], _∷_}
 use Prim.Native.Nat.{ℕ}
+use Rattle.marks.specs.Marks.{gather}
 use Rattle.rules.specs.declared.Ring.{Ring}
 use Rattle.rules.specs.declared.Sides.{Sides}
 use Rattle.rules.specs.Letters.{noSides}
 use Rattle.rules.specs.Leaf.{contentOf, leftNeighbour, rightNeighbour, leftmost, rightmost, leafWith, leafWithOne}
 use Rattle.rules.specs.Leaf.{overlaps, isComplete, isEmpty, coversOf}
+use Rattle.rules.specs.InnerSteps.{lookedAt}
 use Rattle.rules.proofs.Small.{opened, four, ids, six, sixIds, sides}
 
 -- ids all round the ring; the owner is id 0 in slot 0
@@ -30,6 +32,10 @@ adds l left right d = leafWith (six l) sixIds 0 (sides left right) d
 abbrev addsOne : ℕ → ℕ → ℕ → ℕ → Sides
 addsOne l left right j = leafWithOne (six l) sixIds 0 (sides left right) j
 
+-- the slots looked at from slot i of n, up for the left side and down for the right
+abbrev looks : ℕ → ℕ → ℕ → ℕ → List ℕ
+looks set i n l = gather n (lookedAt true set i n l) ∷ gather n (lookedAt false set i n l) ∷ []
+
 pub record LeafSets : Type 0 where
   -- content = left, right and i
   pub content : (contentOf (sides 6 48) 0 ≡ 55) × (contentOf (sides 2 2) 3 ≡ 10) × (contentOf noSides 5 ≡ 32)
@@ -51,6 +57,12 @@ pub record LeafSets : Type 0 where
   pub farther-stays-away : adds 2 6 48 8 ≡ sides 6 48
   pub nothing-added : adds 2 2 16 0 ≡ sides 2 16
   pub owner-left-out : adds 2 2 16 1 ≡ sides 2 16
+  -- outwards from the owner's slot, wrapping at the ends, until L members are found (T-04): of six slots two on each side, and one from the last
+  pub looked-until : (looks 63 0 6 2 ≡ 6 ∷ 48 ∷ []) × (looks 63 5 6 1 ≡ 1 ∷ 16 ∷ [])
+  -- past slots that are not in the set, and all round where members are few
+  pub looked-past : (looks 8 0 6 1 ≡ 14 ∷ 56 ∷ []) × (looks 8 0 6 2 ≡ 62 ∷ 62 ∷ [])
+  -- as few among 64 slots as among six
+  pub looked-of-64 : looks 18446744073709551615 0 64 1 ≡ 2 ∷ 9223372036854775808 ∷ []
   -- with j added unless in it
   pub one-new : addsOne 2 4 16 1 ≡ sides 6 18
   pub one-in-left : addsOne 2 2 16 1 ≡ sides 2 16
@@ -91,6 +103,9 @@ leaf-sets =
       farther-stays-away = refl;
       nothing-added = refl;
       owner-left-out = refl;
+      looked-until = (refl, refl);
+      looked-past = (refl, refl);
+      looked-of-64 = refl;
       one-new = refl;
       one-in-left = refl;
       one-in-right = refl;

@@ -1,11 +1,12 @@
 -- The slots as a ring of their own: how many steps up, or down, lead from slot i to slot s, wrapping at n. Ids rise by slot, so the order
 -- of steps is the order of ways, and the nearest in a direction are the first on the walk (`side-walk-up`, `side-walk-down`).
--- The walk's invariant, `Walked`: what was taken are the members other than i at fewer than d steps, and they are at most l.
+-- The walk's invariant, `Walked`: what was taken are the members other than i at fewer than d steps, and they are at most l. It looks at no slot
+-- before which l members stand (`walk-looks`, `looked-near`), and these are enough (`looked-kept`).
 -- Assumes nothing.
 use mathlib.Core.Path.{_≡_, refl, sym, _∙_, ap}
 use mathlib.Core.Logic.{_⊎_, inl, inr, ⊎-elim}
 use mathlib.Core.List.{List}
-use mathlib.Core.Bool.{Bool, true, false, cond, _&&_, _||_, not, or-false, and-false, and-or-distrib-left}
+use mathlib.Core.Bool.{Bool, true, false, cond, _&&_, _||_, not, or-false, and-false, and-assoc, and-or-distrib-left}
 use Prim.Native.Nat.{ℕ, zero, suc, _+_, _-_, _^_, _<_, _≤_}
 use native.Mathlib.Nat.{eq-or-lt-of-le, le-of-suc-le-suc}
 use native.Mathlib.Omega.{arith}
@@ -24,7 +25,7 @@ use Rattle.rules.specs.Pick.{idAt}
 use Rattle.rules.specs.Closest.{closest, nearerThan}
 use Rattle.rules.specs.Leaf.{wayUp, wayDown, joinedWith}
 use Rattle.rules.proofs.Closest.{closest-same}
-use Rattle.rules.specs.InnerSteps.{stepsOf, otherThan}
+use Rattle.rules.specs.InnerSteps.{stepsOf, otherThan, lookedAt}
 
 -- ---- steps
 
@@ -103,6 +104,30 @@ module _ (up : Bool) (set i n l : ℕ) (hi : i < n) (hn : n ≤ 64) where
         counted = sym (tally-none n _ none-yet);
       }
 
+  -- what is passed at fewer steps is passed at more
+  passed-mono : (x y : ℕ) → x ≤ y → (t : ℕ) → t < n → passedBy up set i n x t ≡ true → passedBy up set i n y t ≡ true
+  passed-mono x y h t k p =
+      let a : stepsOf up n i t < x = ltb-true (stepsOf up n i t) x (and-right (otherThan set i t) (ltb (stepsOf up n i t) x) p) in
+      and-both (and-left (otherThan set i t) (ltb (stepsOf up n i t) x) p) (lt-ltb (stepsOf up n i t) y (omega arith))
+
+  -- where l members stand at fewer than d steps, no slot at d steps or more is looked at, however many there are
+  pub looked-near : (d : ℕ) → l ≤ tally n (passedBy up set i n d) → (s : ℕ) → s < n → lookedAt up set i n l s ≡ true → stepsOf up n i s < d
+  looked-near d near s h p = go (lt-or-le (stepsOf up n i s) d)
+    where
+      go : (stepsOf up n i s < d) ⊎ (d ≤ stepsOf up n i s) → stepsOf up n i s < d
+      go (inl a) = a
+      go (inr a) =
+          absurd (omega (
+            arith,
+            ltb-true (nearerThan (stepsOf up n i) n (otherThan set i) s) _ (and-right (not (eqb s i)) _ p),
+            tally-mono n (passedBy up set i n d) (passedBy up set i n (stepsOf up n i s)) (passed-mono d (stepsOf up n i s) a),
+          ))
+
+  -- what is kept is what is looked at and in the set
+  pub looked-kept : closest (stepsOf up n i) n l (otherThan set i) ≡ gather n (λ s. has set s && lookedAt up set i n l s)
+  unfolding closest
+  looked-kept = gather-same n _ _ (λ s h. and-assoc (has set s) (not (eqb s i)) _)
+
   module _ (d s : ℕ) (hs : s < n) (at-d : stepsOf up n i s ≡ d) where
     -- the slot at d steps is the only one that one step more passes
     reached : (t : ℕ) → t < n → ltb (stepsOf up n i t) (d + 1) ≡ (ltb (stepsOf up n i t) d || eqb t s)
@@ -127,13 +152,20 @@ module _ (up : Bool) (set i n l : ℕ) (hi : i < n) (hn : n ≤ 64) where
         same (inr e) = rw (ne-eqb t s e) (and-false (otherThan set i t) ∙ sym (and-false (otherThan set i s)))
 
     module _ {out got : ℕ} (w : Walked up set i n l d out got) where
+      -- the slot at d steps is not i
+      not-owner : not (eqb s i) ≡ true
+      not-owner =
+          false-not (ne-eqb s i (λ e.
+          let z : stepsOf up n i s ≡ 0 = ap (stepsOf up n i) e ∙ steps-self n i hi up in
+          omega (arith, w .from, at-d)))
+
+      -- a walk that has not taken l may look at it
+      pub walk-looks : (got ≡ l → ⊥) → lookedAt up set i n l s ≡ true
+      walk-looks apart = rw at-d (and-both not-owner (lt-ltb _ l (omega (arith, w .few, w .counted))))
+
       -- a member at d steps is passed, and was not before
       other-at : has set s ≡ true → otherThan set i s ≡ true
-      other-at p =
-          and-both p
-          (false-not (ne-eqb s i (λ e.
-          let z : stepsOf up n i s ≡ 0 = ap (stepsOf up n i) e ∙ steps-self n i hi up in
-          omega (arith, w .from, at-d))))
+      other-at p = and-both p not-owner
 
       new-at : passedBy up set i n d s ≡ false
       new-at = rw at-d (and-fails-right (otherThan set i s) (le-ltb d d (omega arith)))
@@ -161,12 +193,6 @@ module _ (up : Bool) (set i n l : ℕ) (hi : i < n) (hn : n ≤ 64) where
             taken = w .taken ∙ gather-same n _ _ more;
             counted = w .counted ∙ tally-same n _ _ more;
           }
-
-  -- what is passed at fewer steps is passed at more
-  passed-mono : (x y : ℕ) → x ≤ y → (t : ℕ) → t < n → passedBy up set i n x t ≡ true → passedBy up set i n y t ≡ true
-  passed-mono x y h t k p =
-      let a : stepsOf up n i t < x = ltb-true (stepsOf up n i t) x (and-right (otherThan set i t) (ltb (stepsOf up n i t) x) p) in
-      and-both (and-left (otherThan set i t) (ltb (stepsOf up n i t) x) p) (lt-ltb (stepsOf up n i t) y (omega arith))
 
   -- a walk that has taken l, or gone round, has taken the closest
   module _ {d out got : ℕ} (w : Walked up set i n l d out got) where

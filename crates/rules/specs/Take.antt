@@ -1,4 +1,5 @@
--- Take(place), by kind, in 01's order, with Deliver(place) and Forward(place) for a Lookup (T-05): message m at its destination i, whose node is v. Each kind is refused with the lowest number that applies, or makes a plan.
+-- Take(place), by kind, in 01's order, with Deliver(place) and Forward(place) for a Lookup (T-05): message m at its destination i, whose node is v.
+-- Each kind is refused with the lowest number that applies, or makes a plan.
 -- 01's words stand above each kind; "several probes are sent in rising slot order" is Mail.sent. Definitions only. Assumes nothing.
 use mathlib.Core.Bool.{Bool, cond, _&&_, _||_, not}
 use mathlib.Core.List.{List}

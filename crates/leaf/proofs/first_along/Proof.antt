@@ -5,7 +5,7 @@ use mathlib.Core.Path.{sym, _∙_}
 use mathlib.Core.Logic.{⊎-elim}
 use Prim.Native.Nat.{_-_}
 use native.Mathlib.Omega.{arith}
-use Rattle.rules.proofs.Steps.{Walked, walk-begin, walk-took, walk-passed, walk-full, walk-end}
+use Rattle.rules.proofs.Steps.{Walked, walk-begin, walk-took, walk-passed, walk-looks, walk-full, walk-end}
 use Rattle.leaf.proofs.first_along.Statement.{statement}
 use Rattle.leaf.proofs.first_along.Tie as tie
 
@@ -26,8 +26,10 @@ returns c =
 along-requires : tie.Need-along-requires Inv-loop μ-loop
 along-requires c κs = omega arith
 
-is-in-requires : tie.Need-is-in-requires Inv-loop μ-loop
-is-in-requires c κs = search needs
+looked-requires : tie.Need-looked-requires Inv-loop μ-loop
+looked-requires c κs =
+    let b = c .before .before .before in
+    walk-looks _ _ _ _ _ (b .before .pre .0) (b .before .pre .1) _ _ (c .along .ensures .0) (c .along .ensures .1) (b .loop .inv) (λ e. omega arith)
 
 added-requires : tie.Need-added-requires Inv-loop μ-loop
 added-requires c κs = search needs
@@ -47,7 +49,7 @@ loop-again c =
     let a = b .before .before .before in
     let pre = a .before .pre in
     let at = b .along .ensures in
-    let member = sym (c .before .is-in .ensures) in
+    let member = sym (c .before .looked .ensures) in
     ⊎-elim
     (λ w.
     rw (w .2, w .1 .ensures, w .3)
@@ -69,7 +71,7 @@ first-along-spec =
     loop-holds
     returns
     along-requires
-    is-in-requires
+    looked-requires
     added-requires
     add-got
     add-d
