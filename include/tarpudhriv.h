@@ -33,7 +33,14 @@ enum {
     TARPUDHRIV_GRANT_EXPIRED = 5, /* x slot, y slot */
     TARPUDHRIV_TAKE = 6,          /* x place of the message, from 0 */
     TARPUDHRIV_DELIVER = 7,       /* x place of a Lookup: delivered where its node covers the key */
-    TARPUDHRIV_FORWARD = 8        /* x place of a Lookup: to the next hop where it does not */
+    TARPUDHRIV_FORWARD = 8,       /* x place of a Lookup: to the next hop where it does not */
+    TARPUDHRIV_NODE_LEFT = 9,       /* x slot */
+    TARPUDHRIV_SUSPECT_FAULTY = 10, /* x slot, y slot */
+    TARPUDHRIV_PROBE_TIME_OUT = 11, /* x slot, y slot */
+    TARPUDHRIV_DECLARE_DEAD = 12,   /* x slot, y slot */
+    TARPUDHRIV_LS_REPAIR = 13,      /* x slot */
+    TARPUDHRIV_RESIGN_NODE = 14,    /* x slot, y slot of a ready node */
+    TARPUDHRIV_RECOVER = 15         /* x slot */
 };
 
 /* The number of a step whose action is none of these. */

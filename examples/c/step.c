@@ -17,12 +17,20 @@ static const struct action {
     {"take", TARPUDHRIV_TAKE, 1},
     {"deliver", TARPUDHRIV_DELIVER, 1},
     {"forward", TARPUDHRIV_FORWARD, 1},
+    {"node-left", TARPUDHRIV_NODE_LEFT, 1},
+    {"suspect-faulty", TARPUDHRIV_SUSPECT_FAULTY, 2},
+    {"probe-time-out", TARPUDHRIV_PROBE_TIME_OUT, 2},
+    {"declare-dead", TARPUDHRIV_DECLARE_DEAD, 2},
+    {"ls-repair", TARPUDHRIV_LS_REPAIR, 1},
+    {"resign-node", TARPUDHRIV_RESIGN_NODE, 2},
+    {"recover", TARPUDHRIV_RECOVER, 1},
 };
 
 static const struct action *action_of(const char *name) {
     for (size_t k = 0; k < sizeof actions / sizeof *actions; k++)
         if (strcmp(name, actions[k].name) == 0) return &actions[k];
-    misuse(name, "no action; it is lookup, join, request-lease, lease-expired, grant-expired, take, deliver or forward");
+    misuse(name, "no action; it is lookup, join, request-lease, lease-expired, grant-expired, take, deliver, forward, node-left, "
+                 "suspect-faulty, probe-time-out, declare-dead, ls-repair, resign-node or recover");
     return NULL;
 }
 

@@ -5,6 +5,7 @@ use Prim.Native.Nat.{ℕ}
 use Rattle.rules.specs.declared.Answer.the-variants.{Done, Refused}
 use Rattle.rules.specs.declared.Refusal.the-variants as no
 use Rattle.rules.specs.declared.Action.the-variants.{Lookup, Join, RequestLease, LeaseExpired, GrantExpired, Take, Deliver, Forward}
+use Rattle.rules.specs.declared.Action.the-variants.{NodeLeft, SuspectFaulty, ProbeTimeOut, DeclareDead, LSRepair, ResignNode, Recover}
 use Rattle.face_table.specs.declared.Rest.the-variants.{Settled, Unsettled, NotAsked}
 use Rattle.face_c.specs.declared.Asked.the-variants.{Is, None}
 use Rattle.face_c.specs.Words.{packOf, restWord, unknown, askedOf}
@@ -16,7 +17,10 @@ pub record WordsOf : Type 0 where
   pub none : unknown ≡ 4294967295
   pub actions : (askedOf 1 7 9 ≡ Is (Lookup 7 9)) × (askedOf 2 7 9 ≡ Is (Join 7 9)) × (askedOf 3 7 9 ≡ Is (RequestLease 7))
       × (askedOf 4 7 9 ≡ Is (LeaseExpired 7 9)) × (askedOf 5 7 9 ≡ Is (GrantExpired 7 9)) × (askedOf 6 7 9 ≡ Is (Take 7))
-      × (askedOf 7 7 9 ≡ Is (Deliver 7)) × (askedOf 8 7 9 ≡ Is (Forward 7)) × (askedOf 0 7 9 ≡ None) × (askedOf 9 7 9 ≡ None)
+      × (askedOf 7 7 9 ≡ Is (Deliver 7)) × (askedOf 8 7 9 ≡ Is (Forward 7)) × (askedOf 0 7 9 ≡ None) × (askedOf 16 7 9 ≡ None)
+  pub departures : (askedOf 9 7 9 ≡ Is (NodeLeft 7)) × (askedOf 10 7 9 ≡ Is (SuspectFaulty 7 9)) × (askedOf 11 7 9 ≡ Is (ProbeTimeOut 7 9))
+      × (askedOf 12 7 9 ≡ Is (DeclareDead 7 9)) × (askedOf 13 7 9 ≡ Is (LSRepair 7)) × (askedOf 14 7 9 ≡ Is (ResignNode 7 9))
+      × (askedOf 15 7 9 ≡ Is (Recover 7))
 
 pub words-of : WordsOf
 unfolding askedOf
@@ -26,4 +30,5 @@ words-of =
       rest = (refl, refl, refl);
       none = refl;
       actions = (refl, refl, refl, refl, refl, refl, refl, refl, refl, refl);
+      departures = (refl, refl, refl, refl, refl, refl, refl);
     }

@@ -5,6 +5,7 @@ use mathlib.Core.List.{List}
 use Prim.Native.Nat.{ℕ, _+_, _*_}
 use lib.Dec.{eqb}
 use Rattle.rules.specs.declared.Action.the-variants.{Lookup, Join, RequestLease, LeaseExpired, GrantExpired, Take, Deliver, Forward}
+use Rattle.rules.specs.declared.Action.the-variants.{NodeLeft, SuspectFaulty, ProbeTimeOut, DeclareDead, LSRepair, ResignNode, Recover}
 use Rattle.rules.specs.Numbers.{refusalNumber, answerNumber}
 use Rattle.file.specs.declared.Wrote.{Wrote}
 use Rattle.face_table.specs.declared.Rest.{Rest}
@@ -27,7 +28,8 @@ restWord (NotAsked why) = refusalNumber why
 abbrev pub unknown : ℕ
 unknown = 4294967295
 
--- 1 Lookup, 2 Join, 3 RequestLease, 4 LeaseExpired, 5 GrantExpired, 6 Take, 7 Deliver, 8 Forward
+-- 1 Lookup, 2 Join, 3 RequestLease, 4 LeaseExpired, 5 GrantExpired, 6 Take, 7 Deliver, 8 Forward, 9 NodeLeft, 10 SuspectFaulty, 11 ProbeTimeOut,
+-- 12 DeclareDead, 13 LSRepair, 14 ResignNode, 15 Recover
 unfoldable pub askedOf : ℕ → ℕ → ℕ → Asked
 askedOf k x y =
     cond (eqb k 1) (Is (Lookup x y))
@@ -37,7 +39,14 @@ askedOf k x y =
     (cond (eqb k 5) (Is (GrantExpired x y))
     (cond (eqb k 6) (Is (Take x))
     (cond (eqb k 7) (Is (Deliver x))
-    (cond (eqb k 8) (Is (Forward x)) None)))))))
+    (cond (eqb k 8) (Is (Forward x))
+    (cond (eqb k 9) (Is (NodeLeft x))
+    (cond (eqb k 10) (Is (SuspectFaulty x y))
+    (cond (eqb k 11) (Is (ProbeTimeOut x y))
+    (cond (eqb k 12) (Is (DeclareDead x y))
+    (cond (eqb k 13) (Is (LSRepair x))
+    (cond (eqb k 14) (Is (ResignNode x y))
+    (cond (eqb k 15) (Is (Recover x)) None))))))))))))))
 
 -- the word that answers a step
 unfoldable pub stepWord : Asked → List ℕ → List ℕ → ℕ

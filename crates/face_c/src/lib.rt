@@ -29,6 +29,13 @@ pub fn action_of(k: u64, x: u64, y: u64) -> Asked
         6 => Asked::Is(Action::Take(x as usize)),
         7 => Asked::Is(Action::Deliver(x as usize)),
         8 => Asked::Is(Action::Forward(x as usize)),
+        9 => Asked::Is(Action::NodeLeft(x as usize)),
+        10 => Asked::Is(Action::SuspectFaulty(x as usize, y as usize)),
+        11 => Asked::Is(Action::ProbeTimeOut(x as usize, y as usize)),
+        12 => Asked::Is(Action::DeclareDead(x as usize, y as usize)),
+        13 => Asked::Is(Action::LSRepair(x as usize)),
+        14 => Asked::Is(Action::ResignNode(x as usize, y as usize)),
+        15 => Asked::Is(Action::Recover(x as usize)),
         _ => Asked::None,
     }
 }

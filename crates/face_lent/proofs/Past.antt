@@ -10,12 +10,11 @@ use lib.Dec.{eqb, leb, ltb}
 use lib.ListN.{length, getD, take}
 use lib.Seq.{getD-take}
 use borrow.Author.Tests.{eq-eqb, ltb-true}
-use Rattle.marks.specs.declared.Found.{Found}
-use Rattle.marks.specs.declared.Found.the-variants.{At, Nothing}
 use Rattle.marks.proofs.Bools.{bool-same}
 use Rattle.marks.proofs.Laws.{all-same}
 use Rattle.rules.specs.declared.Action.{Action}
 use Rattle.rules.specs.declared.Action.the-variants.{Lookup, Join, RequestLease, LeaseExpired, GrantExpired, Take, Deliver, Forward}
+use Rattle.rules.specs.declared.Action.the-variants.{NodeLeft, SuspectFaulty, ProbeTimeOut, DeclareDead, LSRepair, ResignNode, Recover}
 use Rattle.rules.specs.declared.Answer.{Answer}
 use Rattle.rules.specs.declared.Answer.the-variants.{Done, Refused}
 use Rattle.rules.specs.declared.Message.{Message}
@@ -31,6 +30,7 @@ use Rattle.table_type.specs.declared.Stepped.{Stepped}
 use Rattle.table_type.specs.declared.Table.{Table}
 use Rattle.table.specs.Settle.{refusedOf, doneOf, carriedOut, settle}
 use Rattle.table_type.specs.Start.{startOf}
+use Rattle.table.specs.Step.{Gone, all-stay, one-goes, probes-go}
 use Rattle.table.specs.Step.{Asked, asked, remaining, plannedOf, actOf, isSound, stepOf}
 use Rattle.table_type.specs.Table.{ringOf}
 use Rattle.table.specs.Valid.{messagesFit, poolFits, validOf}
@@ -72,6 +72,13 @@ module _ (t : Table) (n : ℕ) (xs ys : List Message) (same : take n xs ≡ take
   asked-same (Take place) e = rw (place-same place (ltb-true place n e))
   asked-same (Deliver place) e = rw (place-same place (ltb-true place n e))
   asked-same (Forward place) e = rw (place-same place (ltb-true place n e))
+  asked-same (NodeLeft i) e = refl
+  asked-same (SuspectFaulty i j) e = refl
+  asked-same (ProbeTimeOut i j) e = refl
+  asked-same (DeclareDead i j) e = refl
+  asked-same (LSRepair i) e = refl
+  asked-same (ResignNode i k) e = rw same
+  asked-same (Recover i) e = refl
 
 -- and every function says the same
 module _ (t : Table) (n : ℕ) (xs ys : List Message) (same : take n xs ≡ take n ys) where
@@ -94,9 +101,10 @@ module _ (t : Table) (n : ℕ) (xs ys : List Message) (same : take n xs ≡ take
   settle-alike ws i (No why) = refused-alike why
   settle-alike ws i (Go x) = cond-alike (leb (length (mailed x ws)) 256) (λ e. same-alike _) (refused-alike no.Full)
 
-  remaining-same : (gone : Found) → remaining (poolOf n xs) gone ≡ remaining (poolOf n ys) gone
-  remaining-same (At place) = rw same
-  remaining-same Nothing = same
+  remaining-same : (gone : Gone) → remaining (poolOf n xs) gone ≡ remaining (poolOf n ys) gone
+  remaining-same all-stay = same
+  remaining-same (one-goes place) = rw same
+  remaining-same (probes-go i j) = rw same
 
   act-alike : (a : Action) → asked t (poolOf n xs) a .range ≡ true
       → Alike (actOf t (poolOf n xs) (asked t (poolOf n xs) a)) (actOf t (poolOf n ys) (asked t (poolOf n ys) a))

@@ -1,12 +1,12 @@
 -- Every plan is good: one law for each action, and for Take one for each kind. Assumes nothing.
-use mathlib.Core.Path.{_≡_, refl, ap}
+use mathlib.Core.Path.{_≡_, refl, sym, ap}
 use mathlib.Core.Logic.{inl, inr}
 use mathlib.Core.Bool.{Bool, true, false}
 use Prim.Native.Nat.{ℕ, _<_}
 use native.Mathlib.Omega.{arith}
 use lib.Dec.{ltb}
 use borrow.Author.Tests.{ltb-true}
-use Rattle.marks.proofs.Bools.{and-left}
+use Rattle.marks.proofs.Bools.{clash, and-left}
 use Rattle.rules.specs.declared.Status.the-variants as status
 use Rattle.rules.specs.declared.Node.{Node}
 use Rattle.rules.specs.declared.Message.{Message}
@@ -17,6 +17,7 @@ use Rattle.rules.specs.declared.Planned.{Planned}
 use Rattle.rules.specs.declared.Planned.the-variants.{No, Go}
 use Rattle.rules.specs.declared.Action.{Action}
 use Rattle.rules.specs.declared.Action.the-variants.{Lookup, Join, RequestLease, LeaseExpired, GrantExpired, Take, Deliver, Forward}
+use Rattle.rules.specs.declared.Action.the-variants.{NodeLeft, SuspectFaulty, ProbeTimeOut, DeclareDead, LSRepair, ResignNode, Recover}
 use Rattle.rules.specs.Actions.{waits, joinWaits, planJoin}
 use Rattle.rules.specs.Fits.{hasLeaf}
 use Rattle.rules.specs.Letters.{lookup, joinRequest}
@@ -35,7 +36,7 @@ use Rattle.table.proofs.By.{slot-in-range}
 use Rattle.table.proofs.Comes.{Comes, says-no, goes, go-comes, by-take}
 use Rattle.join_laws.specs.Clauses.{View, viewOf, Calm, Fair, Clauses}
 use Rattle.join_laws.proofs.Good.{Fitting, Good, sends-one}
-use Rattle.join_laws.specs.Claims.{NoneWaits}
+use Rattle.join_laws.specs.Claims.{NoneWaits, nobodyLeaves}
 use Rattle.join_laws.proofs.Lasting.{ready-up, lookup-good, request-lease-good, lease-expired-good, grant-expired-good}
 use Rattle.join_laws.proofs.Lasting.{deliver-good, forward-lookup-good, take-lease-request-good}
 use Rattle.join_laws.proofs.Request.{take-join-request-good}
@@ -97,23 +98,31 @@ pub fitting : {t : Table} {p : Pool} → Sound t p → Fitting (viewOf t)
 fitting {t} s = record { listed = s .listed; one = s .numbers .l-low; rules = λ i h. node-rules (ringOf t) i (nodeAt t i) (s .node i h) }
 
 module _ {t : Table} {p : Pool} (s : Sound t p) (c : Clauses t p) where
-  pub planned-good : (a : Action) → asked t p a .range ≡ true → ((i seed : ℕ) → a ≡ Join i seed → NoneWaits t) → (x : Plan)
+  pub planned-good : (a : Action) → asked t p a .range ≡ true → nobodyLeaves a ≡ true → ((i seed : ℕ) → a ≡ Join i seed → NoneWaits t)
+      → (x : Plan)
       → plannedOf (asked t p a) ≡ Go x → Good (viewOf t) (asked t p a .slot) x
-  planned-good (Lookup i k) e none =
+  planned-good (Lookup i k) e stay none =
       lookup-good (viewOf t) i (c .nodes) (slot-in-range s (Lookup i k) e) (waits (waiting p) (placed (lookup k) i)) k
-  planned-good (Join i seed) e none =
+  planned-good (Join i seed) e stay none =
       join-good (viewOf t) i (c .nodes) (slot-in-range s (Join i seed) e) (none i seed refl) (joinWaits (waiting p) i) seed
       (ltb-true seed (t .n) (and-left (ltb seed (t .n)) _ e))
-  planned-good (RequestLease i) e none = request-lease-good (viewOf t) i (c .nodes) (slot-in-range s (RequestLease i) e)
-  planned-good (LeaseExpired i j) e none = lease-expired-good (viewOf t) i (c .nodes) (slot-in-range s (LeaseExpired i j) e) j
-  planned-good (GrantExpired i j) e none = grant-expired-good (viewOf t) i (c .nodes) (slot-in-range s (GrantExpired i j) e) j j
-  planned-good (Take place) e none =
+  planned-good (RequestLease i) e stay none = request-lease-good (viewOf t) i (c .nodes) (slot-in-range s (RequestLease i) e)
+  planned-good (LeaseExpired i j) e stay none = lease-expired-good (viewOf t) i (c .nodes) (slot-in-range s (LeaseExpired i j) e) j
+  planned-good (GrantExpired i j) e stay none = grant-expired-good (viewOf t) i (c .nodes) (slot-in-range s (GrantExpired i j) e) j j
+  planned-good (Take place) e stay none =
       let h = ltb-true place (p .count) e in
       let m = messageAt p place in
       take-good (viewOf t) (deadSet t) m (c .nodes) (fitting s) (obeys (ringOf t) m (s .message place h)) (c .mail place h)
-  planned-good (Deliver place) e none =
+  planned-good (Deliver place) e stay none =
       let m = messageAt p place in
       deliver-good (viewOf t) (m .dest) (c .nodes) (slot-in-range s (Deliver place) e) (m .kind) (m .word)
-  planned-good (Forward place) e none =
+  planned-good (Forward place) e stay none =
       let m = messageAt p place in
       forward-lookup-good (viewOf t) (m .dest) (c .nodes) (slot-in-range s (Forward place) e) (m .kind) (deadSet t) (m .word)
+  planned-good (NodeLeft i) e stay none = absurd (clash (sym stay))
+  planned-good (SuspectFaulty i j) e stay none = absurd (clash (sym stay))
+  planned-good (ProbeTimeOut i j) e stay none = absurd (clash (sym stay))
+  planned-good (DeclareDead i j) e stay none = absurd (clash (sym stay))
+  planned-good (LSRepair i) e stay none = absurd (clash (sym stay))
+  planned-good (ResignNode i n) e stay none = absurd (clash (sym stay))
+  planned-good (Recover i) e stay none = absurd (clash (sym stay))

@@ -19,20 +19,19 @@ use Rattle.rules.specs.declared.Pool.{Pool}
 use Rattle.rules.specs.declared.Plan.{Plan}
 use Rattle.rules.specs.declared.Action.{Action}
 use Rattle.rules.specs.declared.Action.the-variants.{Join}
-use Rattle.marks.specs.declared.Found.{Found}
-use Rattle.marks.specs.declared.Found.the-variants.{At, Nothing}
 use Rattle.rules.specs.declared.Answer.{Answer}
 use Rattle.rules.specs.declared.Answer.the-variants.{Done, Refused}
 use Rattle.rules.specs.Nodes.{noNode}
 use Rattle.rules.specs.Pick.{idAt}
 use Rattle.rules.specs.Plans.{isDead, mailed}
 use Rattle.rules.specs.Pool.{waiting, messageAt}
+use Rattle.pool.proofs.Probes.{all-left}
 use Rattle.pool.proofs.Laws.{All, all-map, all-at, all-index, all-removed, all-mailed, waiting-at, waiting-short, laid-at}
 use Rattle.rules.proofs.Steps.{ids-rise}
 use Rattle.table_type.specs.declared.Table.{Table}
 use Rattle.table_type.proofs.IdLaws.{ids-at}
 use Rattle.table.specs.Settled.{readySet}
-use Rattle.table.specs.Step.{asked, remaining, stepOf}
+use Rattle.table.specs.Step.{Gone, all-stay, one-goes, probes-go, asked, remaining, stepOf}
 use Rattle.table_type.specs.Table.{nodeAt, withNode, idsOf, ringOf}
 use Rattle.table.specs.Valid.{validOf}
 use Rattle.table.proofs.Nodes.{both}
@@ -47,7 +46,7 @@ use Rattle.lookup_laws.proofs.Tracks.{ready-is, same-node}
 use Rattle.join_laws.proofs.Acts.{fitting, planned-good}
 use Rattle.join_laws.specs.Clauses.{View, viewOf, Alive, Calm, Fair, Clauses}
 use Rattle.join_laws.proofs.Guarding.{guards-flank}
-use Rattle.join_laws.specs.Claims.{NoneWaits, InTurn, Patient, Throughout, IsUp, Held, ClausesHeld, ClausesStay}
+use Rattle.join_laws.specs.Claims.{NoneWaits, nobodyLeaves, InTurn, Patient, Throughout, IsUp, Held, ClausesHeld, ClausesStay}
 use Rattle.join_laws.proofs.Lasting.{ready-up}
 use Rattle.join_laws.proofs.Written.{seen, put, putAt, put-written}
 
@@ -80,17 +79,18 @@ module _ {t : Table} {p : Pool} (s : Sound t p) where
 
 -- ---- the messages that wait
 
-left-all : {P : Message → Type 0} (p : Pool) (gone : Found) → All P (waiting p) → All P (remaining p gone)
-left-all p (At place) h = all-removed place h
-left-all p Nothing h = h
+left-all : {P : Message → Type 0} (p : Pool) (gone : Gone) → All P (waiting p) → All P (remaining p gone)
+left-all p all-stay h = h
+left-all p (one-goes place) h = all-removed place h
+left-all p (probes-go i j) h = all-left i j h
 
 -- ---- a step
 
 module _ {t : Table} {p : Pool} (c : Clauses t p) (a : Action) where
-  done-clauses : (x : Plan) → DoneWith t p 256 a x → ((i seed : ℕ) → a ≡ Join i seed → NoneWaits t)
+  done-clauses : (x : Plan) → DoneWith t p 256 a x → nobodyLeaves a ≡ true → ((i seed : ℕ) → a ≡ Join i seed → NoneWaits t)
       → Clauses (leavesOf t p a x .table) (leavesOf t p a x .pool)
-  done-clauses x d none =
-      let good = planned-good (d .sound) c a (d .in-range) none x (d .plan) in
+  done-clauses x d stay none =
+      let good = planned-good (d .sound) c a (d .in-range) stay none x (d .plan) in
       let i = asked t p a .slot in
       let u = withNode t i (x .node) in
       let seen-so : viewOf u ≡ put (viewOf t) i (x .node) =
@@ -112,7 +112,7 @@ module _ {t : Table} {p : Pool} (c : Clauses t p) (a : Action) where
       go : (r : Answer) → stepOf t p 256 a .answer ≡ r → Clauses (stepOf t p 256 a .table) (stepOf t p 256 a .pool)
       go Done e =
           let (x, d, same) = step-done t p 256 a e in
-          rw same (done-clauses x d (λ i seed q. turn i seed q e))
+          rw same (done-clauses x d (turn .0) (λ i seed q. turn .1 i seed q e))
       go (Refused why) e = rw (step-refused t p 256 a why e .1) c
 
 step-valid : (t : Table) (p : Pool) (a : Action) → validOf t p ≡ true → validOf (stepOf t p 256 a .table) (stepOf t p 256 a .pool) ≡ true

@@ -9,6 +9,7 @@ use Rattle.marks.proofs.Bools.{clash, and-both, false-not}
 use Rattle.marks.proofs.Laws.{each, all-of}
 use Rattle.rules.specs.declared.Action.{Action}
 use Rattle.rules.specs.declared.Action.the-variants.{Lookup, Join, RequestLease, LeaseExpired, GrantExpired, Take, Deliver, Forward}
+use Rattle.rules.specs.declared.Action.the-variants.{NodeLeft, SuspectFaulty, ProbeTimeOut, DeclareDead, LSRepair, ResignNode, Recover}
 use Rattle.rules.specs.declared.Answer.{Answer}
 use Rattle.rules.specs.declared.Answer.the-variants.{Done, Refused}
 use Rattle.rules.specs.declared.Pool.{Pool}
@@ -19,7 +20,7 @@ use Rattle.table.specs.Step.{stepOf}
 use Rattle.table_type.specs.Table.{nodeAt}
 use Rattle.table.proofs.Nodes.{both}
 use Rattle.join_laws.specs.Safe.{nobodyWaits}
-use Rattle.join_laws.specs.Claims.{NoneWaits, InTurn, Patient, Throughout}
+use Rattle.join_laws.specs.Claims.{NoneWaits, nobodyLeaves, InTurn, Patient, Throughout}
 
 -- the action is a Join
 abbrev pub isJoin : Action → Bool
@@ -31,12 +32,19 @@ isJoin (GrantExpired i j) = false
 isJoin (Take place) = false
 isJoin (Deliver place) = false
 isJoin (Forward place) = false
+isJoin (NodeLeft i) = false
+isJoin (SuspectFaulty i j) = false
+isJoin (ProbeTimeOut i j) = false
+isJoin (DeclareDead i j) = false
+isJoin (LSRepair i) = false
+isJoin (ResignNode i n) = false
+isJoin (Recover i) = false
 
 abbrev pub isDone : Answer → Bool
 isDone Done = true
 isDone (Refused why) = false
 
--- a list of actions, run: whether every action is done, whether no Join is done while some node is wait, and what is left
+-- a list of actions, run: whether every action is done, whether nobody leaves and no Join is done while some node is wait, and what is left
 pub record Ran : Type 0 where
   pub done : Bool
   pub turns : Bool
@@ -49,7 +57,7 @@ ran (a ∷ acts) s =
     let r = ran acts u in
     record {
       done = isDone (u .answer) && r .done;
-      turns = (not (isJoin a && isDone (u .answer)) || nobodyWaits (s .table)) && r .turns;
+      turns = (nobodyLeaves a && (not (isJoin a && isDone (u .answer)) || nobodyWaits (s .table))) && r .turns;
       left = r .left;
     }
 
@@ -63,9 +71,9 @@ pub none-of : (t : Table) → NoneWaits t → nobodyWaits t ≡ true
 unfolding nobodyWaits
 none-of t none = all-of (t .n) (λ s. not (isWait (nodeAt t s .status))) (λ s h. false-not (none s h))
 
-turn-told : (t : Table) (p : Pool) (a : Action) → (not (isJoin a && isDone (stepOf t p 256 a .answer)) || nobodyWaits t) ≡ true
-    → InTurn t p a
-turn-told t p a e i seed join done = none-told t (rw (done, join) at e)
+turn-told : (t : Table) (p : Pool) (a : Action)
+    → (nobodyLeaves a && (not (isJoin a && isDone (stepOf t p 256 a .answer)) || nobodyWaits t)) ≡ true → InTurn t p a
+turn-told t p a e = let b = both (nobodyLeaves a) _ e in (b .0, λ i seed join done. none-told t (rw (done, join) at (b .1)))
 
 pub turns-told : (acts : List Action) (s : Stepped) → ran acts s .turns ≡ true → Patient (s .table) (s .pool) acts
 turns-told [] s e = tt
@@ -82,19 +90,27 @@ joins-told (GrantExpired i j) e = absurd (clash (sym e))
 joins-told (Take place) e = absurd (clash (sym e))
 joins-told (Deliver place) e = absurd (clash (sym e))
 joins-told (Forward place) e = absurd (clash (sym e))
+joins-told (NodeLeft i) e = absurd (clash (sym e))
+joins-told (SuspectFaulty i j) e = absurd (clash (sym e))
+joins-told (ProbeTimeOut i j) e = absurd (clash (sym e))
+joins-told (DeclareDead i j) e = absurd (clash (sym e))
+joins-told (LSRepair i) e = absurd (clash (sym e))
+joins-told (ResignNode i n) e = absurd (clash (sym e))
+joins-told (Recover i) e = absurd (clash (sym e))
 
 done-told : (r : Answer) → isDone r ≡ true → r ≡ Done
 done-told Done e = refl
 done-told (Refused why) e = absurd (clash (sym e))
 
-turn-of : (t : Table) (p : Pool) (a : Action) → InTurn t p a → (not (isJoin a && isDone (stepOf t p 256 a .answer)) || nobodyWaits t) ≡ true
-turn-of t p a turn = go (isJoin a && isDone (stepOf t p 256 a .answer)) refl
+turn-of : (t : Table) (p : Pool) (a : Action) → InTurn t p a
+    → (nobodyLeaves a && (not (isJoin a && isDone (stepOf t p 256 a .answer)) || nobodyWaits t)) ≡ true
+turn-of t p a turn = and-both (turn .0) (go (isJoin a && isDone (stepOf t p 256 a .answer)) refl)
   where
     go : (b : Bool) → (isJoin a && isDone (stepOf t p 256 a .answer)) ≡ b → (not b || nobodyWaits t) ≡ true
     go true e =
         let c = both (isJoin a) (isDone (stepOf t p 256 a .answer)) e in
         let (i, seed, join) = joins-told a (c .0) in
-        none-of t (turn i seed join (done-told (stepOf t p 256 a .answer) (c .1)))
+        none-of t (turn .1 i seed join (done-told (stepOf t p 256 a .answer) (c .1)))
     go false e = refl
 
 pub turns-of : (acts : List Action) (s : Stepped) → Patient (s .table) (s .pool) acts → ran acts s .turns ≡ true

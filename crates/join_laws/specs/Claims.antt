@@ -1,14 +1,15 @@
 -- Join in turn, and there is one holder. From every start, and from every valid table that satisfies the clauses, through every list of
--- actions of the real step: if no Join is done while some node is wait, then after every action no two ready nodes cover one key. Only
+-- actions of the real step: if nobody leaves and no Join is done while some node is wait, then after every action no two ready nodes cover one key. Only
 -- statements: the proofs are named in Proved. Assumes nothing.
 use mathlib.Core.Path.{_≡_}
-use mathlib.Core.Bool.{true, false}
+use mathlib.Core.Bool.{Bool, true, false}
 use mathlib.Core.List.{List, [], _∷_}
 use mathlib.Core.Logic.{_↔_}
 use Prim.Native.Nat.{ℕ, _^_, _<_}
 use Rattle.rules.specs.declared.Pool.{Pool}
 use Rattle.rules.specs.declared.Action.{Action}
-use Rattle.rules.specs.declared.Action.the-variants.{Join}
+use Rattle.rules.specs.declared.Action.the-variants.{Lookup, Join, RequestLease, LeaseExpired, GrantExpired, Take, Deliver, Forward}
+use Rattle.rules.specs.declared.Action.the-variants.{NodeLeft, SuspectFaulty, ProbeTimeOut, DeclareDead, LSRepair, ResignNode, Recover}
 use Rattle.rules.specs.declared.Answer.the-variants.{Done}
 use Rattle.rules.specs.Plans.{isWait, isUp}
 use Rattle.rules.specs.Pool.{laid}
@@ -27,11 +28,29 @@ use Rattle.join_laws.specs.Safe.{nobodyWaits, safeToJoin}
 abbrev pub NoneWaits : Table → Type 0
 NoneWaits t = (i : ℕ) → i < t .n → isWait (nodeAt t i .status) ≡ false
 
--- if the action is a Join and is done, no node was wait
-abbrev pub InTurn : Table → Pool → Action → Type 0
-InTurn t p a = (i seed : ℕ) → a ≡ Join i seed → stepOf t p 256 a .answer ≡ Done → NoneWaits t
+-- the action is none of the departures and repairs of T-03, of which nothing is said here
+abbrev pub nobodyLeaves : Action → Bool
+nobodyLeaves (Lookup i k) = true
+nobodyLeaves (Join i seed) = true
+nobodyLeaves (RequestLease i) = true
+nobodyLeaves (LeaseExpired i j) = true
+nobodyLeaves (GrantExpired i j) = true
+nobodyLeaves (Take place) = true
+nobodyLeaves (Deliver place) = true
+nobodyLeaves (Forward place) = true
+nobodyLeaves (NodeLeft i) = false
+nobodyLeaves (SuspectFaulty i j) = false
+nobodyLeaves (ProbeTimeOut i j) = false
+nobodyLeaves (DeclareDead i j) = false
+nobodyLeaves (LSRepair i) = false
+nobodyLeaves (ResignNode i n) = false
+nobodyLeaves (Recover i) = false
 
--- no Join of the list is done while some node is wait
+-- nobody leaves; and if the action is a Join and is done, no node was wait
+abbrev pub InTurn : Table → Pool → Action → Type 0
+InTurn t p a = (nobodyLeaves a ≡ true) × ((i seed : ℕ) → a ≡ Join i seed → stepOf t p 256 a .answer ≡ Done → NoneWaits t)
+
+-- nobody of the list leaves, and no Join of it is done while some node is wait
 abbrev pub Patient : Table → Pool → List Action → Type 0
 Patient t p [] = Unit {0}
 Patient t p (a ∷ acts) = InTurn t p a × Patient (stepOf t p 256 a .table) (stepOf t p 256 a .pool) acts

@@ -1,16 +1,18 @@
 -- Where a message stands in a list, and where it stands after messages are removed, added and laid out as a pool. In a valid pool every
 -- message of kind 1 is a Lookup, and a message equal to a Lookup is that Lookup. Assumes nothing.
-use mathlib.Core.Path.{_≡_, refl, _∙_, ap}
+use mathlib.Core.Path.{_≡_, refl, sym, _∙_, ap}
 use mathlib.Core.Logic.{_⊎_, inl, inr}
 use mathlib.Core.Bool.{Bool, true, false, cond, _&&_}
 use mathlib.Core.List.{List, [], _∷_, _++_}
-use Prim.Native.Nat.{ℕ, suc, pred, _+_, _-_, _<_, _≤_}
+use Prim.Native.Nat.{ℕ, zero, suc, pred, _+_, _-_, _<_, _≤_}
 use native.Mathlib.Omega.{arith}
 use lib.Dec.{eqb, ltb}
 use borrow.Author.Tests.{eqb-true}
 use lib.ListN.{getD, length, length-append, length-take, List·getD-append, List·getD-eq-default}
 use lib.Seq.{getD-append-seam}
+use Rattle.marks.specs.Marks.{tally}
 use Rattle.marks.proofs.Bools.{lt-or-le}
+use Rattle.marks.proofs.Laws.{tally-same}
 use Rattle.marks.specs.declared.Found.the-variants.{At, Nothing}
 use Rattle.rules.specs.declared.Ring.{Ring}
 use Rattle.rules.specs.declared.Sides.{Sides}
@@ -18,18 +20,21 @@ use Rattle.rules.specs.declared.Message.{Message}
 use Rattle.rules.specs.declared.Pool.{Pool}
 use Rattle.rules.specs.declared.Plan.{Plan}
 use Rattle.rules.specs.Fits.{isKind, hasFlag, hasRouting, hasFailed, wordFits, flagFits, carriedFits, fieldsFit, messageFits}
+use Rattle.rules.specs.Leave.{isProbeFrom, withoutProbes}
 use Rattle.rules.specs.Letters.{lookup}
 use Rattle.rules.specs.Mail.{fieldsOf, alike, firstFrom, firstEqual, removedAt}
 use Rattle.rules.specs.Nodes.{carriedOf, placed}
 use Rattle.rules.specs.Plans.{mailed}
 use Rattle.rules.specs.Pool.{blank, messageAt, waiting, laid}
 use Rattle.pool.proofs.Laws.{All, all-at, alike-same, waiting-at, laid-at, removed-length, removed-low, removed-high, mailed-after}
+use Rattle.pool.proofs.Probes as probes
+use Rattle.pool.proofs.Probes.{goneBefore}
 use Rattle.table_type.specs.declared.Table.{Table}
 use Rattle.table_type.specs.Table.{ringOf}
 use Rattle.table.proofs.Nodes.{both}
 use Rattle.table.proofs.Obeys.{obeys}
 use Rattle.table.proofs.Sound.{Sound}
-use Rattle.lookup_laws.specs.Journey.{LookupAt}
+use Rattle.lookup_laws.specs.Journey.{LookupAt, probesBefore}
 
 -- message m stands at place r of a list
 pub record Stands (xs : List Message) (r : ℕ) (m : Message) : Type 0 where
@@ -63,7 +68,39 @@ module _ {r : ℕ} {m : Message} where
 pub stands-last : (xs : List Message) (m : Message) → Stands (xs ++ (m ∷ [])) (length xs) m
 stands-last xs m = record { below = rw length-append (omega arith); same = getD-append-seam xs m [] blank }
 
+-- ---- after probes have gone
+
+tally-shift : (q : ℕ) (f : ℕ → Bool) → tally (suc q) f ≡ cond (f 0) 1 0 + tally q (λ r. f (suc r))
+unfolding tally
+tally-shift zero f = omega arith
+tally-shift (suc q) f = omega (arith, tally-shift q f)
+
+gone-tally : (i j : ℕ) (xs : List Message) (q : ℕ) → q ≤ length xs → goneBefore xs i j q ≡ tally q (λ r. isProbeFrom i j (getD xs r blank))
+unfolding goneBefore tally
+gone-tally i j [] zero l = refl
+gone-tally i j [] (suc q) l = absurd (omega arith)
+gone-tally i j (x ∷ xs) zero l = refl
+gone-tally i j (x ∷ xs) (suc q) l =
+    ap (λ (n : ℕ). cond (isProbeFrom i j x) 1 0 + n) (gone-tally i j xs q (omega arith))
+    ∙ sym (tally-shift q (λ r. isProbeFrom i j (getD (x ∷ xs) r blank)))
+
+-- a message that is none of them comes to the front by as many as went before it
+stands-left : (i j : ℕ) {xs : List Message} {r : ℕ} {m : Message} → isProbeFrom i j m ≡ false → Stands xs r m
+    → Stands (withoutProbes xs i j) (r - tally r (λ s. isProbeFrom i j (getD xs s blank))) m
+stands-left i j {xs} {r} e s =
+    let h = probes.stays i j xs r (s .below) (ap (isProbeFrom i j) (s .same) ∙ e) in
+    let n : goneBefore xs i j r ≡ tally r (λ q. isProbeFrom i j (getD xs q blank)) = gone-tally i j xs r (omega (arith, s .below)) in
+    rw (← n) (record { below = h .0; same = h .1 ∙ s .same })
+
 -- ---- in pools
+
+-- the same, as places of a pool
+pub stands-probes : (i j : ℕ) (p : Pool) {r : ℕ} {m : Message} → isProbeFrom i j m ≡ false → r < p .count → Stands (waiting p) r m
+    → Stands (withoutProbes (waiting p) i j) (r - probesBefore p i j r) m
+stands-probes i j p {r} e l s =
+    let n : tally r (λ q. isProbeFrom i j (getD (waiting p) q blank)) ≡ probesBefore p i j r =
+    tally-same r _ _ (λ q h. ap (isProbeFrom i j) (waiting-at p q (omega arith))) in
+    rw (← n) (stands-left i j e s)
 
 pub stands-laid : {ys : List Message} {r k d : ℕ} → Stands ys r (placed (lookup k) d) → LookupAt (laid ys) r k d
 stands-laid {ys} {r} s = record { waits = s .below; is = laid-at ys r (s .below) ∙ s .same }

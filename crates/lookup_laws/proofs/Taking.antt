@@ -9,7 +9,6 @@ use native.Mathlib.Omega.{arith}
 use lib.ListN.{length}
 use borrow.Author.Tests.{eq-eqb, lt-ltb}
 use Rattle.marks.proofs.Bools.{opposed}
-use Rattle.marks.specs.declared.Found.the-variants.{At}
 use Rattle.marks.specs.Marks.{sizeOf}
 use Rattle.marks.proofs.Laws.{size-zero}
 use Rattle.rules.specs.declared.Status.the-variants as status
@@ -29,7 +28,7 @@ use Rattle.rules.specs.Take.{forwardPlan, planDeliver, planForward}
 use Rattle.pool.proofs.Laws.{removed-length, mailed-length}
 use Rattle.table_type.specs.declared.Table.{Table}
 use Rattle.table_type.specs.Table.{nodeAt}
-use Rattle.table.specs.Step.{asked, plannedOf, isSound}
+use Rattle.table.specs.Step.{one-goes, asked, plannedOf, isSound}
 use Rattle.table.specs.Valid.{validOf}
 use Rattle.table.proofs.Sound.{sound}
 use Rattle.table.proofs.By.{goes, go-same, never-go, RefusedFor, invalid, out-of-range, forbidden, full, step-refused}
@@ -58,7 +57,7 @@ module _ (t : Table) (p : Pool) (q k d : ℕ) (e : validOf t p ≡ true) (l : Lo
       omega (arith, adds-one x (others p q) f, removed-length (waiting p) q q-in, count-is v, v .counted)
 
   -- an action on place q that has a plan, which adds at most one message
-  module _ (a : Action) (g : asked t p a .gone ≡ At q) (x : Plan) (made : plannedOf (asked t p a) ≡ Go x) (small : x .all ≡ 0) where
+  module _ (a : Action) (g : asked t p a .gone ≡ one-goes q) (x : Plan) (made : plannedOf (asked t p a) ≡ Go x) (small : x .all ≡ 0) where
     never-refused : (why : Refusal) → RefusedFor t p 256 a why → ⊥
     unfolding isSound
     never-refused why (invalid f) = opposed e f

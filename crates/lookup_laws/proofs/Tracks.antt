@@ -4,7 +4,7 @@
 use mathlib.Core.Path.{_≡_, refl, sym, _∙_, ap, ap₂, subst}
 use mathlib.Core.Bool.{Bool, true, false, cond, not}
 use mathlib.Core.List.{List}
-use Prim.Native.Nat.{ℕ, pred, _^_, _<_}
+use Prim.Native.Nat.{ℕ, pred, _-_, _^_, _<_}
 use native.Mathlib.Omega.{arith}
 use lib.Dec.{eqb, ltb}
 use lib.ListN.{length}
@@ -24,6 +24,7 @@ use Rattle.rules.specs.declared.Planned.{Planned}
 use Rattle.rules.specs.declared.Planned.the-variants.{No, Go}
 use Rattle.rules.specs.declared.Action.{Action}
 use Rattle.rules.specs.declared.Action.the-variants.{Lookup, Join, RequestLease, LeaseExpired, GrantExpired, Take, Deliver, Forward}
+use Rattle.rules.specs.declared.Action.the-variants.{NodeLeft, SuspectFaulty, ProbeTimeOut, DeclareDead, LSRepair, ResignNode, Recover}
 use Rattle.rules.specs.declared.Refusal.the-variants as no
 use Rattle.rules.specs.declared.Answer.{Answer}
 use Rattle.rules.specs.declared.Answer.the-variants.{Done, Refused}
@@ -43,12 +44,13 @@ use Rattle.table.specs.Valid.{validOf}
 use Rattle.table.proofs.Obeys.{obeys}
 use Rattle.table.proofs.Sound.{Sound, sound}
 use Rattle.table.proofs.By.{goes, go-same, never-go, DoneWith, leavesOf, step-refused, step-done}
+use Rattle.table.specs.Step.{Gone, all-stay, one-goes, probes-go}
 use Rattle.table.specs.Step.{takenOf, deliveredOf, forwardedOf, asked, remaining, plannedOf}
 use Rattle.lookup_laws.specs.Fates.{others, coversAt, hopAt, Took, Ends, Tracked}
-use Rattle.lookup_laws.specs.Journey.{stepped, LookupAt, stays, landing, onward, fateTaken, fateDone}
+use Rattle.lookup_laws.specs.Journey.{stepped, LookupAt, stays, landing, onward, fateTaken, probesBefore, fateDone}
 use Rattle.lookup_laws.specs.Journey.{fateBy, fateOf}
 use Rattle.lookup_laws.proofs.Stands.{Stands, stands-mailed, stands-down, stands-still, stands-last, stands-laid, stands-waiting}
-use Rattle.lookup_laws.proofs.Stands.{count-is, first-stands}
+use Rattle.lookup_laws.proofs.Stands.{count-is, first-stands, stands-probes}
 
 -- ---- ready
 
@@ -210,8 +212,11 @@ module _ (t : Table) (p : Pool) (q k d : ℕ) (v : Sound t p) (l : LookupAt p q 
 
 -- ---- every step
 
-none : {place : ℕ} → Nothing ≡ At place → ⊥
+none : {place : ℕ} → all-stay ≡ one-goes place → ⊥
 none e = let z : _≡_ {A = ℕ} 0 1 = cc in omega arith
+
+no-probes : {i j place : ℕ} → probes-go i j ≡ one-goes place → ⊥
+no-probes e = let z : _≡_ {A = ℕ} 0 1 = cc in omega arith
 
 module _ (t : Table) (p : Pool) (q k d : ℕ) (v : Sound t p) (l : LookupAt p q k d) where
   waits-on : (a : Action) (x : Plan) (r : ℕ) → stepped t p a ≡ leavesOf t p a x
@@ -219,7 +224,7 @@ module _ (t : Table) (p : Pool) (q k d : ℕ) (v : Sound t p) (l : LookupAt p q 
   waits-on a x r e s = rw e (stands-laid (stands-mailed x s))
 
   -- it goes itself: by Deliver or Forward, as Take has no plan for it
-  this-goes : (a : Action) (x : Plan) → DoneWith t p 256 a x → stepped t p a ≡ leavesOf t p a x → asked t p a .gone ≡ At q
+  this-goes : (a : Action) (x : Plan) → DoneWith t p 256 a x → stepped t p a ≡ leavesOf t p a x → asked t p a .gone ≡ one-goes q
       → Tracked t p q k d a (fateTaken t p q (messageAt p q))
   this-goes (Deliver place) x w e g =
       let same : place ≡ q = cc in
@@ -243,10 +248,17 @@ module _ (t : Table) (p : Pool) (q k d : ℕ) (v : Sound t p) (l : LookupAt p q 
   this-goes (RequestLease i) x w e g = absurd (none g)
   this-goes (LeaseExpired i j) x w e g = absurd (none g)
   this-goes (GrantExpired i j) x w e g = absurd (none g)
+  this-goes (NodeLeft i) x w e g = absurd (none g)
+  this-goes (SuspectFaulty i j) x w e g = absurd (none g)
+  this-goes (ProbeTimeOut i j) x w e g = absurd (no-probes g)
+  this-goes (DeclareDead i j) x w e g = absurd (none g)
+  this-goes (LSRepair i) x w e g = absurd (none g)
+  this-goes (ResignNode i n) x w e g = absurd (none g)
+  this-goes (Recover i) x w e g = absurd (none g)
 
   -- another goes, which closes the gap
   other-goes : (a : Action) (place : ℕ) (x : Plan) → (place ≡ q → ⊥) → DoneWith t p 256 a x → stepped t p a ≡ leavesOf t p a x
-      → asked t p a .gone ≡ At place → (b : Bool) → ltb place q ≡ b → LookupAt (stepped t p a .pool) (cond b (pred q) q) k d
+      → asked t p a .gone ≡ one-goes place → (b : Bool) → ltb place q ≡ b → LookupAt (stepped t p a .pool) (cond b (pred q) q) k d
   other-goes a place x apart w e g true b =
       waits-on a x (pred q) e (rw g (stands-down place (ltb-true place q b) (stands-waiting v l)))
   other-goes a place x apart w e g false b =
@@ -257,13 +269,15 @@ module _ (t : Table) (p : Pool) (q k d : ℕ) (v : Sound t p) (l : LookupAt p q 
       → Tracked t p q k d a (fateDone t p q (asked t p a .gone))
   done-tracked a x w e = by-gone (asked t p a .gone) refl
     where
-      by-gone : (f : Found) → asked t p a .gone ≡ f → Tracked t p q k d a (fateDone t p q f)
-      by-gone Nothing g = waits-on a x q e (rw g (stands-waiting v l))
-      by-gone (At place) g = go (eqb place q) refl
+      by-gone : (f : Gone) → asked t p a .gone ≡ f → Tracked t p q k d a (fateDone t p q f)
+      by-gone all-stay g = waits-on a x q e (rw g (stands-waiting v l))
+      by-gone (probes-go i j) g =
+          waits-on a x (q - probesBefore p i j q) e (rw g (stands-probes i j p refl (l .waits) (stands-waiting v l)))
+      by-gone (one-goes place) g = go (eqb place q) refl
         where
           go : (b : Bool) → eqb place q ≡ b
               → Tracked t p q k d a (cond b (fateTaken t p q (messageAt p q)) (stays (cond (ltb place q) (pred q) q)))
-          go true b = this-goes a x w e (g ∙ ap At (eqb-true place q b))
+          go true b = this-goes a x w e (g ∙ ap one-goes (eqb-true place q b))
           go false b = other-goes a place x (eqb-false place q b) w e g (ltb place q) refl
 
   by-answer : (a : Action) (r : Answer) → stepped t p a .answer ≡ r → Tracked t p q k d a (fateBy r t p q a)

@@ -3,9 +3,10 @@
 use mathlib.Core.Path.{_≡_}
 use mathlib.Core.Bool.{cond}
 use mathlib.Core.List.{List, [], _∷_}
-use Prim.Native.Nat.{ℕ, suc, pred, _<_}
+use Prim.Native.Nat.{ℕ, suc, pred, _-_, _<_}
 use lib.Dec.{eqb, ltb}
 use lib.ListN.{length}
+use Rattle.marks.specs.Marks.{tally}
 use Rattle.marks.specs.declared.Found.{Found}
 use Rattle.marks.specs.declared.Found.the-variants.{At, Nothing}
 use Rattle.rules.specs.declared.Hop.{Hop}
@@ -16,6 +17,7 @@ use Rattle.rules.specs.declared.Action.{Action}
 use Rattle.rules.specs.declared.Action.the-variants.{Deliver, Forward}
 use Rattle.rules.specs.declared.Answer.{Answer}
 use Rattle.rules.specs.declared.Answer.the-variants.{Done, Refused}
+use Rattle.rules.specs.Leave.{isProbeFrom}
 use Rattle.rules.specs.Letters.{lookup}
 use Rattle.rules.specs.Nodes.{sidesOf, placed}
 use Rattle.rules.specs.Leaf.{coversOf}
@@ -26,7 +28,7 @@ use Rattle.table_type.specs.declared.Table.{Table}
 use Rattle.table_type.specs.declared.Stepped.{Stepped}
 use Rattle.table_type.specs.Table.{nodeAt, idsOf, ringOf}
 use Rattle.table.specs.Settled.{deadSet}
-use Rattle.table.specs.Step.{asked, stepOf}
+use Rattle.table.specs.Step.{Gone, all-stay, one-goes, probes-go, asked, stepOf}
 
 -- the step, on a list of 256 places
 abbrev pub stepped : Table → Pool → Action → Stepped
@@ -65,10 +67,15 @@ fateTaken t p q m =
     cond (coversOf (ringOf t) (idsOf t) (m .dest) (sidesOf (nodeAt t (m .dest))) (m .word)) delivered
     (onward (nextHop (ringOf t) (idsOf t) (deadSet t) (m .dest) (nodeAt t (m .dest)) (m .word)) (removedAt (waiting p) q) (m .word))
 
+-- how many LSProbes from i to j wait before place q
+abbrev pub probesBefore : Pool → ℕ → ℕ → ℕ → ℕ
+probesBefore p i j q = tally q (λ r. isProbeFrom i j (messageAt p r))
+
 -- a done step: removing closes the gap, and additions go to the end
-abbrev pub fateDone : Table → Pool → ℕ → Found → Fate
-fateDone t p q (At place) = cond (eqb place q) (fateTaken t p q (messageAt p q)) (stays (cond (ltb place q) (pred q) q))
-fateDone t p q Nothing = stays q
+abbrev pub fateDone : Table → Pool → ℕ → Gone → Fate
+fateDone t p q all-stay = stays q
+fateDone t p q (one-goes place) = cond (eqb place q) (fateTaken t p q (messageAt p q)) (stays (cond (ltb place q) (pred q) q))
+fateDone t p q (probes-go i j) = stays (q - probesBefore p i j q)
 
 -- a refused step changes nothing
 abbrev pub fateBy : Answer → Table → Pool → ℕ → Action → Fate

@@ -9,6 +9,7 @@ use Prim.Native.Nat.{ℕ, _<_}
 use lib.Dec.{eqb}
 use Rattle.rules.specs.declared.Action.{Action}
 use Rattle.rules.specs.declared.Action.the-variants.{Lookup, Join, RequestLease, LeaseExpired, GrantExpired, Take, Deliver, Forward}
+use Rattle.rules.specs.declared.Action.the-variants.{NodeLeft, SuspectFaulty, ProbeTimeOut, DeclareDead, LSRepair, ResignNode, Recover}
 use Rattle.rules.specs.declared.Answer.the-variants.{Done}
 use Rattle.rules.specs.declared.Message.{Message}
 use Rattle.rules.specs.declared.Node.{Node}
@@ -125,6 +126,13 @@ forwardsAt p (GrantExpired i j) d = false
 forwardsAt p (Take place) d = false
 forwardsAt p (Deliver place) d = false
 forwardsAt p (Forward place) d = eqb (messageAt p place .dest) d
+forwardsAt p (NodeLeft i) d = false
+forwardsAt p (SuspectFaulty i j) d = false
+forwardsAt p (ProbeTimeOut i j) d = false
+forwardsAt p (DeclareDead i j) d = false
+forwardsAt p (LSRepair i) d = false
+forwardsAt p (ResignNode i n) d = false
+forwardsAt p (Recover i) d = false
 
 -- none of these actions, made one after the other, is
 unfoldable pub NoForwardAt : ℕ → Table → Pool → List Action → Type 0

@@ -3,7 +3,7 @@ ghost use mathlib.Core.Path.{_≡_};
 ghost use Prim.Native.Nat.{ℕ};
 ghost use Rattle.rules.specs.Numbers.{statusNumber, answerNumber};
 ghost use Rattle.rules.specs.Nodes.{sidesOf, carriedOf, placed};
-ghost use Rattle.rules.specs.Plans.{isDead, isWait, isOk, isReady, isUp, withStatus, withLeases, quietPlan, sendPlan};
+ghost use Rattle.rules.specs.Plans.{isDead, isWait, isOk, isReady, isUp, withStatus, withLeases, withProbing, withSides, quietPlan, sendPlan};
 ghost use Rattle.rules.specs.Pool.{blank};
 ghost use Rattle.rules.specs.Letters.{letter, noSides};
 use marks::Found;
@@ -161,6 +161,23 @@ pub fn with_leases(v: Node, lease: u64, grant: u64, s: Status) -> Node
         status: s,
         lease,
         grant,
+        ..v
+    }
+}
+
+pub fn with_probing(v: Node, probing: u64) -> Node
+    ensures { λ r. ⌜ r ≡ withProbing v probing ⌝ }
+{
+    Node { probing, ..v }
+}
+
+pub fn with_sides(v: Node, s: Sides, st: Status) -> Node
+    ensures { λ r. ⌜ r ≡ withSides v s st ⌝ }
+{
+    Node {
+        status: st,
+        left: s.left,
+        right: s.right,
         ..v
     }
 }

@@ -84,7 +84,7 @@ fn is_next(g: Ring, ids: &[u32; 64], i: usize, s: Sides, j: usize) -> bool
 }
 
 // Is j the left or the right neighbour of node i?
-fn neighbours(g: Ring, ids: &[u32; 64], i: usize, v: Node, j: usize) -> bool
+pub fn neighbours(g: Ring, ids: &[u32; 64], i: usize, v: Node, j: usize) -> bool
     requires { ⌜ Listed g (now ids) × (i < 64) ⌝ }
     ensures { λ r. ⌜ r ≡ isNeighbour g (now (ids .entry)) i v j ⌝ }
 {

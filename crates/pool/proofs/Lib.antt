@@ -4,6 +4,7 @@ pub mod Sending
 pub mod NewOnes
 pub mod Laws
 pub mod Places
+pub mod Probes
 pub mod Gaps
 pub mod Fresh
 pub mod Chain

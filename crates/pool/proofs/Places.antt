@@ -1,7 +1,7 @@
 -- The loops over places. A pool by value has 256 of them, so what waits has the pool's count, and what is left stands at its places; a
 -- search that passed the messages before `at` ends as the definition says. Assumes nothing.
 use mathlib.Core.Path.{_≡_, refl, sym, _∙_, ap}
-use mathlib.Core.Bool.{Bool, true, false, _&&_}
+use mathlib.Core.Bool.{Bool, true, false, _&&_, _||_}
 use mathlib.Core.List.{List, [], _∷_, _++_}
 use Prim.Native.Nat.{ℕ, zero, suc, _+_, _<_, _≤_}
 use native.Mathlib.Numerals.{add-one}
@@ -22,6 +22,7 @@ use Rattle.rules.specs.declared.Pool.{Pool}
 use Rattle.rules.specs.Pool.{blank, messageAt, waiting}
 use Rattle.rules.specs.Mail.{fieldsOf, sameTo, alike, firstEqual}
 use Rattle.rules.specs.Actions.{joinWaits}
+use Rattle.rules.specs.Leave.{replyWaits}
 use Rattle.rules.proofs.Pool as pool
 use Rattle.pool.specs.InnerSending.{leftOf, leftCount, placeOf}
 use Rattle.pool.proofs.Equal.{first-equal-at, first-equal-none}
@@ -91,41 +92,59 @@ module _ (m : Message) (b : List ℕ) (xs : List Message) (e : b ≡ fieldsOf m)
       (there at ∙ ap (λ (r : List ℕ). sameTo 9 r b) (sym q) ∙ ap (λ (i : ℕ). sameTo i a b) (sym nine) ∙ s .so)
       (λ i l. there i ∙ k .differ i l)
 
--- ---- JoinRequests
+-- ---- whether a message waits that passes a test
 
 abbrev pub isJoin : ℕ → Message → Bool
 isJoin i x = eqb (x .kind) 2 && eqb (x .word) i
 
-join-at : (xs : List Message) (i s : ℕ) → s < length xs → isJoin i (getD xs s blank) ≡ true → joinWaits xs i ≡ true
-unfolding joinWaits
-join-at [] i s h e = absurd (omega arith)
-join-at (x ∷ xs) i zero h e = or-left (joinWaits xs i) e
-join-at (x ∷ xs) i (suc s) h e = or-right (isJoin i x) (join-at xs i s (omega arith) e)
+abbrev pub isReplyTo : ℕ → Message → Bool
+isReplyTo i x = eqb (x .kind) 3 && eqb (x .dest) i
 
-join-none : (xs : List Message) (i : ℕ) → ((s : ℕ) → s < length xs → isJoin i (getD xs s blank) ≡ false) → joinWaits xs i ≡ false
-unfolding joinWaits
-join-none [] i f = refl
-join-none (x ∷ xs) i f = or-fails (f 0 (omega arith)) (join-none xs i (λ s h. f (suc s) (omega arith)))
+-- some message passes
+unfoldable pub someOf : (Message → Bool) → List Message → Bool
+someOf f [] = false
+someOf f (x ∷ xs) = f x || someOf f xs
 
--- none of the places below `at` has a JoinRequest of i
-pub record Unasked (i : ℕ) (places : List Message) (at : ℕ) : Type 0 where
-  pub none : (k : ℕ) → k < at → isJoin i (getD places k blank) ≡ false
+pub join-some : (xs : List Message) (i : ℕ) → joinWaits xs i ≡ someOf (isJoin i) xs
+unfolding joinWaits someOf
+join-some [] i = refl
+join-some (x ∷ xs) i = ap (λ (b : Bool). isJoin i x || b) (join-some xs i)
 
-pub unasked-none : (i : ℕ) (places : List Message) → Unasked i places 0
-unasked-none i places = record { none = λ k h. absurd (omega arith) }
+pub reply-some : (xs : List Message) (i : ℕ) → replyWaits xs i ≡ someOf (isReplyTo i) xs
+unfolding replyWaits someOf
+reply-some [] i = refl
+reply-some (x ∷ xs) i = ap (λ (b : Bool). isReplyTo i x || b) (reply-some xs i)
 
-pub unasked-more : (i : ℕ) (places : List Message) (at : ℕ) → isJoin i (getD places at blank) ≡ false → Unasked i places at
-    → Unasked i places (at + 1)
-unasked-more i places at e k = record { none = below-more _ _ (k .none) e }
+some-at : (f : Message → Bool) (xs : List Message) (s : ℕ) → s < length xs → f (getD xs s blank) ≡ true → someOf f xs ≡ true
+unfolding someOf
+some-at f [] s h e = absurd (omega arith)
+some-at f (x ∷ xs) zero h e = or-left (someOf f xs) e
+some-at f (x ∷ xs) (suc s) h e = or-right (f x) (some-at f xs s (omega arith) e)
 
-module _ (i : ℕ) (places : List Message) (n : ℕ) (long : length places ≡ 256) (low : n ≤ 256) where
-  pub unasked-end : (at : ℕ) → n ≤ at → Unasked i places at → joinWaits (take n places) i ≡ false
+some-none : (f : Message → Bool) (xs : List Message) → ((s : ℕ) → s < length xs → f (getD xs s blank) ≡ false) → someOf f xs ≡ false
+unfolding someOf
+some-none f [] g = refl
+some-none f (x ∷ xs) g = or-fails (g 0 (omega arith)) (some-none f xs (λ s h. g (suc s) (omega arith)))
+
+-- none of the places below `at` passes
+pub record Unasked (f : Message → Bool) (places : List Message) (at : ℕ) : Type 0 where
+  pub none : (k : ℕ) → k < at → f (getD places k blank) ≡ false
+
+pub unasked-none : (f : Message → Bool) (places : List Message) → Unasked f places 0
+unasked-none f places = record { none = λ k h. absurd (omega arith) }
+
+pub unasked-more : (f : Message → Bool) (places : List Message) (at : ℕ) → f (getD places at blank) ≡ false → Unasked f places at
+    → Unasked f places (at + 1)
+unasked-more f places at e k = record { none = below-more _ _ (k .none) e }
+
+module _ (f : Message → Bool) (places : List Message) (n : ℕ) (long : length places ≡ 256) (low : n ≤ 256) where
+  pub unasked-end : (at : ℕ) → n ≤ at → Unasked f places at → someOf f (take n places) ≡ false
   unasked-end at h k =
       let l = length-take-le n places (omega arith) in
-      join-none (take n places) i
-      (λ s d. ap (isJoin i) (getD-take n places s blank (omega (arith, l))) ∙ k .none s (omega (arith, l)))
+      some-none f (take n places)
+      (λ s d. ap f (getD-take n places s blank (omega (arith, l))) ∙ k .none s (omega (arith, l)))
 
-  pub asked : (at : ℕ) → at < n → isJoin i (getD places at blank) ≡ true → joinWaits (take n places) i ≡ true
+  pub asked : (at : ℕ) → at < n → f (getD places at blank) ≡ true → someOf f (take n places) ≡ true
   asked at h e =
-      join-at (take n places) i at (omega (arith, length-take-le n places (omega arith)))
-      (ap (isJoin i) (getD-take n places at blank h) ∙ e)
+      some-at f (take n places) at (omega (arith, length-take-le n places (omega arith)))
+      (ap f (getD-take n places at blank h) ∙ e)

@@ -1,5 +1,5 @@
-// The pool by value, as a step reads it: whether a request waits, which of a plan's messages are new, and whether they have room. The pool after
-// the plan is made by the step itself. "Once place `gone` is away": where gone is at or above the count, none is away.
+// The pool by value, as a step reads it: whether a request waits, which of a plan's messages are new, and whether they have room; and the pool without the
+// probes that have timed out. The pool after the plan is made by the step itself. "Once place `gone` is away": where gone is at or above the count, none is away.
 ghost use mathlib.Core.Path.{_≡_};
 ghost use mathlib.Core.Bool.{true};
 ghost use mathlib.Core.List.{_++_};
@@ -8,7 +8,8 @@ ghost use Rattle.rules.specs.Mail.{fieldsOf, firstEqual};
 ghost use Rattle.rules.specs.Mail.{alike as alikeOf};
 ghost use Rattle.rules.specs.Actions.{joinWaits};
 ghost use Rattle.rules.specs.Actions.{waits as waitsOf};
-ghost use Rattle.rules.specs.Pool.{waiting};
+ghost use Rattle.rules.specs.Leave.{isProbeFrom, withoutProbes, replyWaits};
+ghost use Rattle.rules.specs.Pool.{waiting, laid};
 ghost use Rattle.marks.specs.Marks.{without};
 ghost use Rattle.pool.specs.InnerSending.{leftOf, leftCount, placeOf, slotted, heldOf, heldWith, copyTo};
 ghost use Rattle.pool.specs.InnerSending.{newTo, newsOf, sendsOf, firstNew, roomOf};
@@ -126,6 +127,51 @@ pub fn join_waits(p: Pool, i: u32) -> bool
         at += 1;
     }
     false
+}
+
+// Does a JoinReply to node i wait?
+pub fn reply_waits(p: Pool, i: u32) -> bool
+    requires { ⌜ p .count ≤ 256 ⌝ }
+    ensures { λ r. ⌜ r ≡ replyWaits (waiting p) i ⌝ }
+{
+    let n = p.count;
+    let mut at: usize = 0;
+    while at < n {
+        let q = p.places[at];
+        if (q.kind == 3) & (q.dest == i) {
+            return true;
+        }
+        at += 1;
+    }
+    false
+}
+
+// Is m an LSProbe from i to j?
+pub fn is_probe_from(i: u32, j: u32, m: Message) -> bool
+    ensures { λ r. ⌜ r ≡ isProbeFrom i j m ⌝ }
+{
+    (m.kind == 4) & ((m.word == i) & (m.dest == j))
+}
+
+// The pool without the LSProbes from i to j, wherever they stand: the others in their order, and blank places behind them.
+pub fn without_probes(p: Pool, i: u32, j: u32) -> Pool
+    requires { ⌜ p .count ≤ 256 ⌝ }
+    ensures { λ r. ⌜ r ≡ laid (withoutProbes (waiting p) i j) ⌝ }
+{
+    let n = p.count;
+    let none = parts::blank_message();
+    let mut places = [none; 256];
+    let mut count: usize = 0;
+    let mut at: usize = 0;
+    while at < n {
+        let m = p.places[at];
+        if !is_probe_from(i, j, m) {
+            places[count] = m;
+            count += 1;
+        }
+        at += 1;
+    }
+    Pool { count, places }
 }
 
 // A number made of a message's fields, but for the flag.

@@ -9,6 +9,7 @@ pub mod ActionCases
 pub mod RouteCases
 pub mod ProbeCases
 pub mod LeaseCases
+pub mod LeaveCases
 pub mod LeafCases
 pub mod HopCases
 pub mod MailCases

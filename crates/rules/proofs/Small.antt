@@ -27,6 +27,8 @@ use Rattle.rules.specs.Actions.{isNeighbour, planLeaseExpired, planGrant
 use Rattle.rules.specs.Take.{planDeliver, planForward, planTakeJoinRequest, planTakeJoinReply, probes2, probesOf, probePlanOf, planTakeProbe}
 use Rattle.rules.specs.Take.{statusAfterReply, replyPlanOf, planTakeProbeReply, planTakeLeaseRequest, broadcastPlan, planTakeBroadcast}
 use Rattle.rules.specs.Take.{planTake}
+use Rattle.rules.specs.Leave.{planNodeLeft, planSuspectFaulty, withoutProbes, planProbeTimeOut, planDeclareDead, endsToProbe, planLSRepair}
+use Rattle.rules.specs.Leave.{replyWaits, planResignNode, lastEnd, planRecover}
 
 -- to unfold this is to unfold all that the rules compute with
 unfoldable pub opened : Unit {0}
@@ -36,7 +38,8 @@ unfolding fallOf signedOf absDistOf risesTo nearer leftCoverOf rightCoverOf cove
     sideFits leafFits othersFit nodeFits isBlank slotFits wordFits flagFits carriedFits ownerFits routingFits failedFits fieldsFit
     messageFits mailed waits joinWaits planLookup planJoin leasePlan planRequestLease isNeighbour planLeaseExpired planGrantExpired
     planDeliver planForward planTakeJoinRequest planTakeJoinReply probes2 probesOf probePlanOf planTakeProbe statusAfterReply replyPlanOf
-    planTakeProbeReply planTakeLeaseRequest broadcastPlan planTakeBroadcast planTake
+    planTakeProbeReply planTakeLeaseRequest broadcastPlan planTakeBroadcast planTake planNodeLeft planSuspectFaulty withoutProbes
+    planProbeTimeOut planDeclareDead endsToProbe planLSRepair replyWaits planResignNode lastEnd planRecover
 opened = tt
 
 -- ---- rings: M = 8

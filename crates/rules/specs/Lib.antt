@@ -12,5 +12,6 @@ pub mod Letters
 pub mod Plans
 pub mod Actions
 pub mod Take
+pub mod Leave
 pub mod InnerAsks
 pub mod InnerSteps

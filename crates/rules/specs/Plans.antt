@@ -7,6 +7,7 @@ use Rattle.marks.specs.declared.Found.the-variants.{At, Nothing}
 use Rattle.rules.specs.declared.Status.{Status}
 use Rattle.rules.specs.declared.Status.the-variants.{Dead, Wait, Ok, Ready}
 use Rattle.rules.specs.declared.Node.{Node}
+use Rattle.rules.specs.declared.Sides.{Sides}
 use Rattle.rules.specs.declared.Message.{Message}
 use Rattle.rules.specs.Nodes.{placed}
 use Rattle.rules.specs.Pool.{blank}
@@ -46,7 +47,7 @@ isUp Wait = false
 isUp Ok = true
 isUp Ready = true
 
--- ---- a node with one field changed
+-- ---- a node with some fields changed
 
 abbrev pub withStatus : Node → Status → Node
 withStatus v s =
@@ -74,6 +75,34 @@ withLeases v lease grant s =
       routing = v .routing;
       lease = lease;
       grant = grant;
+    }
+
+abbrev pub withProbing : Node → ℕ → Node
+withProbing v probing =
+    record {
+      id = v .id;
+      status = v .status;
+      left = v .left;
+      right = v .right;
+      probing = probing;
+      failed = v .failed;
+      routing = v .routing;
+      lease = v .lease;
+      grant = v .grant;
+    }
+
+abbrev pub withSides : Node → Sides → Status → Node
+withSides v s st =
+    record {
+      id = v .id;
+      status = st;
+      left = s .left;
+      right = s .right;
+      probing = v .probing;
+      failed = v .failed;
+      routing = v .routing;
+      lease = v .lease;
+      grant = v .grant;
     }
 
 -- ---- plans

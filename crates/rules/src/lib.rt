@@ -88,7 +88,7 @@ pub enum Answer {
     Refused(Refusal),
 }
 
-// An action is one of eight kinds, each with its own arguments: slots, a slot and a key, or a place. They are wider than their ranges, so that 1 can be answered.
+// An action is one of fifteen kinds, each with its own arguments: slots, a slot and a key, or a place. They are wider than their ranges, so that 1 can be answered.
 pub enum Action {
     Lookup(usize, u64),
     Join(usize, usize),
@@ -98,6 +98,13 @@ pub enum Action {
     Take(usize),
     Deliver(usize),
     Forward(usize),
+    NodeLeft(usize),
+    SuspectFaulty(usize, usize),
+    ProbeTimeOut(usize, usize),
+    DeclareDead(usize, usize),
+    LSRepair(usize),
+    ResignNode(usize, usize),
+    Recover(usize),
 }
 
 // What an action leaves of its node and adds to the pool: `first` to one slot, if any, then `each` to every slot of a set, in rising slot order.

@@ -9,24 +9,26 @@ use native.Mathlib.Omega.{arith}
 use lib.Dec.{eqb, ltb, leb}
 use lib.ListN.{length}
 use borrow.Author.Tests.{eqb-true, ltb-true, leb-true, leb-false}
-use Rattle.marks.specs.declared.Found.the-variants.{At}
 use Rattle.marks.proofs.Bools.{and-left, and-right}
 use Rattle.rules.specs.declared.Message.{Message}
 use Rattle.rules.specs.declared.Pool.{Pool}
 use Rattle.rules.specs.declared.Action.{Action}
 use Rattle.rules.specs.declared.Action.the-variants.{Lookup, Join, RequestLease, LeaseExpired, GrantExpired, Take, Deliver, Forward}
+use Rattle.rules.specs.declared.Action.the-variants.{NodeLeft, SuspectFaulty, ProbeTimeOut, DeclareDead, LSRepair, ResignNode, Recover}
 use Rattle.rules.specs.declared.Refusal.{Refusal}
 use Rattle.rules.specs.declared.Refusal.the-variants as no
 use Rattle.rules.specs.declared.Answer.the-variants.{Done, Refused}
 use Rattle.rules.specs.declared.Plan.{Plan}
 use Rattle.rules.specs.declared.Planned.{Planned}
 use Rattle.rules.specs.declared.Planned.the-variants.{No, Go}
+use Rattle.rules.specs.Leave.{planProbeTimeOut}
 use Rattle.rules.specs.Plans.{mailed}
 use Rattle.rules.specs.Pool.{messageAt, laid}
 use Rattle.table_type.specs.declared.Table.{Table}
 use Rattle.table_type.specs.declared.Stepped.{Stepped}
-use Rattle.table_type.specs.Table.{withNode, ringOf}
+use Rattle.table_type.specs.Table.{nodeAt, withNode, ringOf}
 use Rattle.table.specs.Settle.{refusedOf, doneOf, carriedOut, settle}
+use Rattle.table.specs.Step.{Gone, all-stay, one-goes, probes-go, timesOut}
 use Rattle.table.specs.Step.{Asked, isSlot, isKey, requests, takes, takenOf, deliveredOf, forwardedOf, asked, remaining, plannedOf, actOf, isSound, stepOf}
 use Rattle.table.specs.Valid.{validOf}
 use Rattle.table.proofs.Obeys.{obeys}
@@ -34,10 +36,11 @@ use Rattle.table.proofs.Sound.{Sound, sound, is-valid}
 
 -- ---- what an action asks
 
--- something of the node of a slot, or of the destination of the message at a place
+-- something of the node of a slot, or of the destination of the message at a place, or of a node whose probes have timed out
 pub data Form (t : Table) (p : Pool) : Asked → Type 0 where
   by-slot : {i : ℕ} (more : Bool) {there : Bool} {plan : Bool → Planned} → Form t p (requests t i more there plan)
   by-place : {place : ℕ} (plan : Message → Planned) → Form t p (takes p place plan)
+  by-probes : {i j : ℕ} (what : Planned) → Form t p (timesOut t i j what)
 
 pub form : (t : Table) (p : Pool) (a : Action) → Form t p (asked t p a)
 form t p (Lookup i k) = by-slot (isKey t k)
@@ -48,14 +51,22 @@ form t p (GrantExpired i j) = by-slot (isSlot t j)
 form t p (Take place) = by-place (takenOf t)
 form t p (Deliver place) = by-place (deliveredOf t)
 form t p (Forward place) = by-place (forwardedOf t)
+form t p (NodeLeft i) = by-slot true
+form t p (SuspectFaulty i j) = by-slot (isSlot t j)
+form t p (ProbeTimeOut i j) = by-probes (planProbeTimeOut i (nodeAt t i) j)
+form t p (DeclareDead i j) = by-slot (isSlot t j)
+form t p (LSRepair i) = by-slot true
+form t p (ResignNode i n) = by-slot (isSlot t n)
+form t p (Recover i) = by-slot true
 
 -- a message that goes waits, and the node of its destination acts
 module _ (t : Table) (p : Pool) (place : ℕ) where
-  form-goes : {x : Asked} → Form t p x → x .gone ≡ At place → (x .range ≡ ltb place (p .count)) × (x .slot ≡ messageAt p place .dest)
+  form-goes : {x : Asked} → Form t p x → x .gone ≡ one-goes place → (x .range ≡ ltb place (p .count)) × (x .slot ≡ messageAt p place .dest)
   form-goes (by-slot more) e = absurd (let z : _≡_ {A = ℕ} 0 1 = cc in omega arith)
   form-goes (by-place {place = q} plan) e = let d : q ≡ place = cc in rw d (refl, refl)
+  form-goes (by-probes what) e = absurd (let z : _≡_ {A = ℕ} 0 1 = cc in omega arith)
 
-  pub goes : (a : Action) → asked t p a .gone ≡ At place
+  pub goes : (a : Action) → asked t p a .gone ≡ one-goes place
       → (asked t p a .range ≡ ltb place (p .count)) × (asked t p a .slot ≡ messageAt p place .dest)
   goes a e = form-goes (form t p a) e
 
@@ -65,6 +76,7 @@ module _ {t : Table} {p : Pool} (s : Sound t p) where
   form-slot (by-slot {i = i} more) e = ltb-true i (t .n) (and-right more _ e)
   form-slot (by-place {place = place} plan) e =
       obeys (ringOf t) (messageAt p place) (s .message place (ltb-true place (p .count) e)) .dest-in
+  form-slot (by-probes {i = i} {j = j} what) e = ltb-true i (t .n) (and-right (isSlot t j) _ e)
 
   pub slot-in-range : (a : Action) → asked t p a .range ≡ true → asked t p a .slot < t .n
   slot-in-range a e = form-slot (form t p a) e

@@ -8,7 +8,8 @@ use Prim.Native.Nat.{ℕ, _+_, _≤_}
 use native.Mathlib.Omega.{arith}
 use lib.Dec.{eqb}
 use borrow.Author.Tests.{eqb-true, eqb-false, not-false}
-use Rattle.marks.specs.Marks.{has, removeOf, union}
+use Rattle.marks.proofs.Bools.{or-fails-left, or-fails-right}
+use Rattle.marks.specs.Marks.{has, removeOf, single, union}
 use Rattle.rules.specs.declared.Ring.{Ring}
 use Rattle.rules.specs.declared.Status.the-variants as status
 use Rattle.rules.specs.declared.Node.{Node}
@@ -23,10 +24,12 @@ use Rattle.rules.specs.declared.Planned.the-variants.{No, Go}
 use Rattle.rules.specs.Actions.{isNeighbour, leasePlan, planLookup, planJoin, planRequestLease, planLeaseExpired, planGrantExpired}
 use Rattle.rules.specs.Hop.{nextHop}
 use Rattle.rules.specs.Leaf.{contentOf, leafWith, isComplete, isEmpty, coversOf}
+use Rattle.rules.specs.Leave.{emptied, probingPlan, afterTimeOut, withoutMember, lacksSide, lacksBoth, endsToProbe, lastEnd}
+use Rattle.rules.specs.Leave.{planNodeLeft, planSuspectFaulty, planProbeTimeOut, planDeclareDead, planLSRepair, planResignNode, planRecover}
 use Rattle.rules.specs.Letters.{lookup, joinRequest, joinReply, noLegalRoute}
 use Rattle.rules.specs.Nodes.{sidesOf, carriedOf}
 use Rattle.rules.specs.Pick.{idAt}
-use Rattle.rules.specs.Plans.{isDead, isReady, isOk, isUp, withStatus, withLeases, quietPlan, sendPlan}
+use Rattle.rules.specs.Plans.{isDead, isWait, isReady, isOk, isUp, withStatus, withLeases, quietPlan, sendPlan}
 use Rattle.rules.specs.Take.{forwardPlan, joinReplyPlan, waitsEmpty, probePlanOf, replyPlanOf, grantPlan, broadcastPlan}
 use Rattle.rules.specs.Take.{planDeliver, planForward, planTakeJoinRequest, planTakeJoinReply, planTakeProbe, planTakeProbeReply}
 use Rattle.rules.specs.Take.{planTakeLeaseRequest, planTakeBroadcast, planTake}
@@ -90,6 +93,58 @@ module _ {Q : Refusal → Type 0} {P : Plan → Type 0} where
   by-grant-expired i v j u two five x =
       unless (not (isUp (v .status))) (says-no two)
       (unless (eqb i j || (not (has (v .grant) j) || has (u .lease) i)) (says-no five) (goes x))
+
+  -- ---- departures and repairs
+
+  pub by-node-left : (v : Node) → Q no.Status → P (quietPlan (emptied v status.Dead 0)) → Comes Q P (planNodeLeft v)
+  unfolding planNodeLeft
+  by-node-left v two x = unless (isDead (v .status)) (says-no two) (goes x)
+
+  pub by-suspect-faulty : (i : ℕ) (v : Node) (j : ℕ) → Q no.Status → Q no.Partner → (eqb i j ≡ false → P (probingPlan i v (single j)))
+      → Comes Q P (planSuspectFaulty i v j)
+  unfolding planSuspectFaulty
+  by-suspect-faulty i v j two five x =
+      unless (not (isUp (v .status))) (says-no two)
+      (either (eqb i j || (not (has (contentOf (sidesOf v) i) j) || (has (v .probing) j || has (v .failed) j))) (λ _. says-no five)
+      (λ e. goes (x (or-fails-left (eqb i j) _ e))))
+
+  pub by-probe-time-out : (i : ℕ) (v : Node) (j : ℕ) → Q no.Status → Q no.Partner → (eqb i j ≡ false → P (quietPlan (afterTimeOut i v j)))
+      → Comes Q P (planProbeTimeOut i v j)
+  unfolding planProbeTimeOut
+  by-probe-time-out i v j two five x =
+      unless (isDead (v .status)) (says-no two)
+      (either (eqb i j || not (has (v .probing) j)) (λ _. says-no five) (λ e. goes (x (or-fails-left (eqb i j) _ e))))
+
+  pub by-declare-dead : (g : Ring) (ids : List ℕ) (i : ℕ) (v : Node) (j : ℕ) → Q no.Status → Q no.Partner
+      → P (quietPlan (withoutMember v j)) → Comes Q P (planDeclareDead g ids i v j)
+  unfolding planDeclareDead
+  by-declare-dead g ids i v j two five x =
+      unless (not (isUp (v .status))) (says-no two)
+      (unless (not (has (v .failed) j && has (contentOf (sidesOf v) i) j) || (isNeighbour g ids i v j && has (v .grant) j)) (says-no five) (goes x))
+
+  pub by-ls-repair : (g : Ring) (ids : List ℕ) (i : ℕ) (v : Node) → Q no.Status → Q no.LeafSet → Q no.Partner
+      → (lacksSide (sidesOf v) ≡ false → P (probingPlan i v (endsToProbe g ids i (sidesOf v)))) → Comes Q P (planLSRepair g ids i v)
+  unfolding planLSRepair
+  by-ls-repair g ids i v two four five x =
+      unless (not (isWait (v .status))) (says-no two)
+      (either (lacksSide (sidesOf v) || isComplete g (sidesOf v)) (λ _. says-no four)
+      (λ e. unless (not (eqb (v .probing) 0)) (says-no five) (goes (x (or-fails-left (lacksSide (sidesOf v)) _ e)))))
+
+  pub by-resign-node : (waiting : Bool) (i : ℕ) (v : Node) (n : ℕ) (u : Node) → Q no.Status → Q no.Waits → Q no.LeafSet → Q no.Partner
+      → P (sendPlan (emptied v (v .status) (single i)) (joinRequest i 0) n) → Comes Q P (planResignNode waiting i v n u)
+  unfolding planResignNode
+  by-resign-node waiting i v n u two three four five x =
+      unless (not (isWait (v .status) && isReady (u .status))) (says-no two)
+      (unless waiting (says-no three)
+      (unless (not (lacksSide (sidesOf v))) (says-no four) (unless (not (eqb (v .probing) 0)) (says-no five) (goes x))))
+
+  pub by-recover : (someUp : Bool) (g : Ring) (ids : List ℕ) (i : ℕ) (v : Node) → Q no.Status → Q no.LeafSet → Q no.Partner
+      → (lacksBoth (sidesOf v) ≡ false → P (probingPlan i v (single (lastEnd g ids i (sidesOf v))))) → Comes Q P (planRecover someUp g ids i v)
+  unfolding planRecover
+  by-recover someUp g ids i v two four five x =
+      unless (not (isWait (v .status)) || someUp) (says-no two)
+      (either (not (lacksSide (sidesOf v)) || lacksBoth (sidesOf v)) (λ _. says-no four)
+      (λ e. unless (not (eqb (v .probing) 0)) (says-no five) (goes (x (or-fails-right (not (lacksSide (sidesOf v))) _ e)))))
 
   -- ---- Deliver and Forward, and Take by kind
 

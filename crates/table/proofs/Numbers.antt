@@ -16,10 +16,12 @@ use Rattle.rules.specs.declared.Message.{Message}
 use Rattle.rules.specs.declared.Pool.{Pool}
 use Rattle.rules.specs.declared.Action.{Action}
 use Rattle.rules.specs.declared.Action.the-variants.{Lookup, Join, RequestLease, LeaseExpired, GrantExpired, Take, Deliver, Forward}
+use Rattle.rules.specs.declared.Action.the-variants.{NodeLeft, SuspectFaulty, ProbeTimeOut, DeclareDead, LSRepair, ResignNode, Recover}
 use Rattle.rules.specs.declared.Refusal.{Refusal}
 use Rattle.rules.specs.declared.Refusal.the-variants as no
 use Rattle.rules.specs.declared.Plan.{Plan}
 use Rattle.rules.specs.declared.Planned.the-variants.{No}
+use Rattle.rules.specs.Leave.{withoutProbes}
 use Rattle.rules.specs.Mail.{removedAt}
 use Rattle.rules.specs.Nodes.{placed}
 use Rattle.rules.specs.Numbers.{refusalNumber, answerNumber}
@@ -27,15 +29,17 @@ use Rattle.rules.specs.Plans.{quietPlan, sendPlan, mailed}
 use Rattle.rules.specs.Pool.{blank, messageAt, waiting}
 use Rattle.rules.specs.Take.{broadcastPlan, planTake}
 use Rattle.table_type.specs.declared.Table.{Table}
-use Rattle.table.specs.Settled.{deadSet}
+use Rattle.table.specs.Settled.{deadSet, someUp}
 use Rattle.table.specs.Settle.{refusedOf, settle}
 use Rattle.table.specs.Step.{takenOf, deliveredOf, forwardedOf, asked, remaining, plannedOf, isSound, stepOf}
 use Rattle.table_type.specs.Table.{nodeAt, idsOf, ringOf}
 use Rattle.pool.proofs.Laws.{waiting-short, removed-length, mailed-quiet, mailed-send, added-length}
+use Rattle.pool.proofs.Probes.{left-short}
 use Rattle.table.proofs.Obeys.{obeys}
 use Rattle.table.proofs.Sound.{Sound}
 use Rattle.table.proofs.By.{RefusedFor, invalid, out-of-range, forbidden, full, by-step}
 use Rattle.table.proofs.Comes.{Comes, no-comes, go-comes, by-lookup, by-join, by-request-lease, by-lease-expired, by-grant-expired}
+use Rattle.table.proofs.Comes.{by-node-left, by-suspect-faulty, by-probe-time-out, by-declare-dead, by-ls-repair, by-resign-node, by-recover}
 use Rattle.table.proofs.Comes.{by-deliver, by-forward, by-take-join-request, by-take-join-reply, by-take-probe, by-take-probe-reply}
 use Rattle.table.proofs.Comes.{by-take-lease-request, by-take-broadcast, by-take}
 
@@ -70,6 +74,13 @@ numbersOf p (GrantExpired i j) = 2 ∷ 5 ∷ []
 numbersOf p (Take place) = getD takeNumbers (messageAt p place .kind) []
 numbersOf p (Deliver place) = pairNumbers (eqb (messageAt p place .kind) 1)
 numbersOf p (Forward place) = pairNumbers (eqb (messageAt p place .kind) 1)
+numbersOf p (NodeLeft i) = 2 ∷ []
+numbersOf p (SuspectFaulty i j) = 2 ∷ 5 ∷ 6 ∷ []
+numbersOf p (ProbeTimeOut i j) = 2 ∷ 5 ∷ []
+numbersOf p (DeclareDead i j) = 2 ∷ 5 ∷ []
+numbersOf p (LSRepair i) = 2 ∷ 4 ∷ 5 ∷ 6 ∷ []
+numbersOf p (ResignNode i n) = 2 ∷ 3 ∷ 4 ∷ 5 ∷ 6 ∷ []
+numbersOf p (Recover i) = 2 ∷ 4 ∷ 5 ∷ 6 ∷ []
 
 abbrev pub oneOf : ℕ → List ℕ → Bool
 oneOf x [] = false
@@ -102,6 +113,10 @@ Roomy t p a x = 256 < length (mailed x (remaining p (asked t p a .gone))) → Na
 module _ {t : Table} {p : Pool} (s : Sound t p) where
   quiet-room : (v : Node) → 256 < length (mailed (quietPlan v) (waiting p)) → ⊥
   quiet-room v h = omega (arith, rw (mailed-quiet v (waiting p)) at h, waiting-short p, s .counted)
+
+  left-room : (i j : ℕ) (v : Node) → 256 < length (mailed (quietPlan v) (withoutProbes (waiting p) i j)) → ⊥
+  left-room i j v h =
+      omega (arith, rw (mailed-quiet v (withoutProbes (waiting p) i j)) at h, left-short i j (waiting p), waiting-short p, s .counted)
 
   module _ (place : ℕ) (h : place < p .count) where
     abbrev rest : List Message
@@ -170,6 +185,13 @@ module _ {t : Table} {p : Pool} (s : Sound t p) where
   planned-named (Take place) e = taken-named place (ltb-true place (p .count) e)
   planned-named (Deliver place) e = delivered-named place (ltb-true place (p .count) e)
   planned-named (Forward place) e = forwarded-named place (ltb-true place (p .count) e)
+  planned-named (NodeLeft i) e = by-node-left (nodeAt t i) refl (λ l. absurd (quiet-room _ l))
+  planned-named (SuspectFaulty i j) e = by-suspect-faulty i (nodeAt t i) j refl refl (λ _ _. refl)
+  planned-named (ProbeTimeOut i j) e = by-probe-time-out i (nodeAt t i) j refl refl (λ _ l. absurd (left-room i j _ l))
+  planned-named (DeclareDead i j) e = by-declare-dead (ringOf t) (idsOf t) i (nodeAt t i) j refl refl (λ l. absurd (quiet-room _ l))
+  planned-named (LSRepair i) e = by-ls-repair (ringOf t) (idsOf t) i (nodeAt t i) refl refl refl (λ _ _. refl)
+  planned-named (ResignNode i n) e = by-resign-node _ i (nodeAt t i) n (nodeAt t n) refl refl refl refl (λ _. refl)
+  planned-named (Recover i) e = by-recover (someUp t) (ringOf t) (idsOf t) i (nodeAt t i) refl refl refl (λ _ _. refl)
 
 -- besides 10 for what is not valid and 1 for what is out of range, a step is refused with a number that its action names
 pub data Refuses (t : Table) (p : Pool) (len : ℕ) (a : Action) (why : Refusal) : Type 0 where

@@ -10,27 +10,28 @@ use lib.ListN.{length}
 use lib.Seq.{set-out, getD-set-same, getD-set-other, map-set-same}
 use borrow.Author.Tests.{ltb-true}
 use Rattle.marks.proofs.Bools.{and-left, lt-or-le, eq-or-ne}
-use Rattle.marks.specs.declared.Found.{Found}
-use Rattle.marks.specs.declared.Found.the-variants.{At, Nothing}
 use Rattle.rules.specs.declared.Node.{Node}
 use Rattle.rules.specs.declared.Message.{Message}
 use Rattle.rules.specs.declared.Pool.{Pool}
 use Rattle.rules.specs.declared.Plan.{Plan}
 use Rattle.rules.specs.declared.Action.{Action}
 use Rattle.rules.specs.declared.Action.the-variants.{Lookup, Join, RequestLease, LeaseExpired, GrantExpired, Take, Deliver, Forward}
+use Rattle.rules.specs.declared.Action.the-variants.{NodeLeft, SuspectFaulty, ProbeTimeOut, DeclareDead, LSRepair, ResignNode, Recover}
 use Rattle.rules.specs.Actions.{waits, joinWaits}
 use Rattle.rules.specs.Fits.{hasKey, nodeFits}
+use Rattle.rules.specs.Leave.{withoutProbes, replyWaits}
 use Rattle.rules.specs.Letters.{lookup}
 use Rattle.rules.specs.Mail.{removedAt}
 use Rattle.rules.specs.Nodes.{noNode, placed}
 use Rattle.rules.specs.Plans.{mailed}
 use Rattle.rules.specs.Pool.{messageAt, waiting}
 use Rattle.table_type.specs.declared.Table.{Table}
-use Rattle.table.specs.Settled.{deadSet}
-use Rattle.table.specs.Step.{asked, remaining, plannedOf}
+use Rattle.table.specs.Settled.{deadSet, someUp}
+use Rattle.table.specs.Step.{Gone, all-stay, one-goes, probes-go, asked, remaining, plannedOf}
 use Rattle.table_type.specs.Table.{nodeAt, withNode, idOf, idsOf, ringOf}
 use Rattle.pool.proofs.Laws.{All, all-at, all-index, all-removed, all-mailed, waiting-at, waiting-short, laid-at, waiting-laid}
 use Rattle.pool.proofs.Laws.{Apart, apart-different, apart-removed, apart-mailed}
+use Rattle.pool.proofs.Probes.{all-left, apart-left}
 use Rattle.table.proofs.Nodes.{NodeRules, node-rules}
 use Rattle.table.proofs.Obeys.{obeys}
 use Rattle.table.proofs.Sound.{Sound, sound-valid}
@@ -39,6 +40,8 @@ use Rattle.table.proofs.By.{DoneWith, leavesOf, slot-in-range, by-step,
 use Rattle.table.proofs.Comes.{go-comes}
 use Rattle.table.proofs.Plans.{Fits, FinePlan, FinePlanned, fine-fits}
 use Rattle.table.proofs.Plans.{fine-lookup, fine-join, fine-request-lease, fine-lease-expired, fine-grant-expired}
+use Rattle.table.proofs.Leaves.{fine-node-left, fine-suspect-faulty, fine-probe-time-out, fine-declare-dead}
+use Rattle.table.proofs.Leaves.{fine-ls-repair, fine-resign-node, fine-recover}
 use Rattle.table.proofs.Takes.{fine-deliver, fine-forward, fine-take}
 
 -- ---- every plan is fine
@@ -75,6 +78,21 @@ module _ {t : Table} {p : Pool} (s : Sound t p) where
       let m = messageAt p place in
       let o = obeys (ringOf t) m (s .message place (ltb-true place (p .count) e)) in
       fine-forward (s .listed) (o .dest-in) (listed-rules (m .dest) (o .dest-in)) (m .kind) (deadSet t) (m .word) (λ k. o .key-in (ap hasKey k))
+  planned-fine (NodeLeft i) e = let h = slot-in-range s (NodeLeft i) e in fine-node-left (s .listed) h (listed-rules i h)
+  planned-fine (SuspectFaulty i j) e =
+      let h = slot-in-range s (SuspectFaulty i j) e in
+      fine-suspect-faulty (s .listed) h (listed-rules i h) j (ltb-true j (t .n) (and-left _ _ e))
+  planned-fine (ProbeTimeOut i j) e =
+      let h = slot-in-range s (ProbeTimeOut i j) e in
+      fine-probe-time-out (s .listed) h (listed-rules i h) j (ltb-true j (t .n) (and-left _ _ e))
+  planned-fine (DeclareDead i j) e =
+      let h = slot-in-range s (DeclareDead i j) e in
+      fine-declare-dead (s .listed) h (listed-rules i h) j
+  planned-fine (LSRepair i) e = let h = slot-in-range s (LSRepair i) e in fine-ls-repair (s .listed) h (listed-rules i h)
+  planned-fine (ResignNode i n) e =
+      let h = slot-in-range s (ResignNode i n) e in
+      fine-resign-node (s .listed) h (listed-rules i h) (replyWaits (waiting p) i) n (nodeAt t n) (ltb-true n (t .n) (and-left _ _ e))
+  planned-fine (Recover i) e = let h = slot-in-range s (Recover i) e in fine-recover (s .listed) h (listed-rules i h) (someUp t)
 
 pub done-fine : {t : Table} {p : Pool} {len : ℕ} {a : Action} {x : Plan} → DoneWith t p len a x
     → FinePlan (ringOf t) (asked t p a .slot) (nodeAt t (asked t p a .slot)) x
@@ -96,10 +114,11 @@ written-ids t i v e = map-set-same idOf (t .nodes) i v noNode e
 
 -- ---- the messages that wait when additions begin
 
-by-left : (C : List Message → Type 0) (p : Pool) (gone : Found) → C (waiting p) → ((place : ℕ) → C (removedAt (waiting p) place))
-    → C (remaining p gone)
-by-left C p (At place) all less = less place
-by-left C p Nothing all less = all
+by-left : (C : List Message → Type 0) (p : Pool) (gone : Gone) → C (waiting p) → ((place : ℕ) → C (removedAt (waiting p) place))
+    → ((i j : ℕ) → C (withoutProbes (waiting p) i j)) → C (remaining p gone)
+by-left C p all-stay all less left = all
+by-left C p (one-goes place) all less left = less place
+by-left C p (probes-go i j) all less left = left i j
 
 module _ {t : Table} {p : Pool} (s : Sound t p) (a : Action) where
   pub waiting-fit : All (Fits (ringOf t)) (waiting p)
@@ -109,11 +128,12 @@ module _ {t : Table} {p : Pool} (s : Sound t p) (a : Action) where
 
   left-fit : All (Fits (ringOf t)) (remaining p (asked t p a .gone))
   left-fit = by-left (All (Fits (ringOf t))) p (asked t p a .gone) waiting-fit (λ place. all-removed place waiting-fit)
+      (λ i j. all-left i j waiting-fit)
 
   left-apart : Apart (remaining p (asked t p a .gone))
   left-apart =
       let apart : Apart (waiting p) = apart-different (waiting p) .1 (s .different) in
-      by-left Apart p (asked t p a .gone) apart (λ place. apart-removed place apart)
+      by-left Apart p (asked t p a .gone) apart (λ place. apart-removed place apart) (λ i j. apart-left i j apart)
 
 -- ---- a done step
 

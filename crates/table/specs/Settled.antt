@@ -11,14 +11,21 @@ use Rattle.rules.specs.declared.Node.{Node}
 use Rattle.table_type.specs.declared.Table.{Table}
 use Rattle.table_type.specs.Table.{nodeAt, idsOf, ringOf}
 use Rattle.rules.specs.Nodes.{sidesOf}
-use Rattle.rules.specs.Plans.{isDead, isReady}
+use Rattle.rules.specs.Plans.{isDead, isOk, isReady}
 
--- the ready nodes, and the dead ones
+-- the ready nodes, the dead ones and the ok ones
 unfoldable pub readySet : Table → ℕ
 readySet t = gather (t .n) (λ s. isReady (nodeAt t s .status))
 
 unfoldable pub deadSet : Table → ℕ
 deadSet t = gather (t .n) (λ s. isDead (nodeAt t s .status))
+
+unfoldable pub okSet : Table → ℕ
+okSet t = gather (t .n) (λ s. isOk (nodeAt t s .status))
+
+-- a node at all is ok or ready
+abbrev pub someUp : Table → Bool
+someUp t = not (eqb (okSet t) 0) || not (eqb (readySet t) 0)
 
 -- both neighbours are the next ready ids up and down the ring (itself if alone); no ready node is in a ready node's failed
 unfoldable pub settledAt : Ring → List ℕ → ℕ → ℕ → Node → Bool

@@ -4,15 +4,16 @@ use mathlib.Core.Bool.{Bool, true, false, cond, _&&_}
 use mathlib.Core.List.{List}
 use Prim.Native.Nat.{ℕ, _^_}
 use lib.Dec.{eqb, ltb}
-use Rattle.marks.specs.declared.Found.{Found}
-use Rattle.marks.specs.declared.Found.the-variants.{At, Nothing}
 use Rattle.rules.specs.declared.Action.{Action}
 use Rattle.rules.specs.declared.Action.the-variants.{Lookup, Join, RequestLease, LeaseExpired, GrantExpired, Take, Deliver, Forward}
+use Rattle.rules.specs.declared.Action.the-variants.{NodeLeft, SuspectFaulty, ProbeTimeOut, DeclareDead, LSRepair, ResignNode, Recover}
 use Rattle.rules.specs.declared.Message.{Message}
 use Rattle.rules.specs.declared.Planned.{Planned}
 use Rattle.rules.specs.declared.Pool.{Pool}
 use Rattle.rules.specs.declared.Refusal.the-variants as no
 use Rattle.rules.specs.Actions.{waits, joinWaits, planLookup, planJoin, planRequestLease, planLeaseExpired, planGrantExpired}
+use Rattle.rules.specs.Leave.{withoutProbes, replyWaits}
+use Rattle.rules.specs.Leave.{planNodeLeft, planSuspectFaulty, planProbeTimeOut, planDeclareDead, planLSRepair, planResignNode, planRecover}
 use Rattle.rules.specs.Letters.{lookup}
 use Rattle.rules.specs.Limits.{messagesHigh}
 use Rattle.rules.specs.Mail.{removedAt}
@@ -23,19 +24,25 @@ use Rattle.table_type.specs.declared.Stepped.{Stepped}
 use Rattle.table_type.specs.declared.Table.{Table}
 use Rattle.table_type.specs.Table.{nodeAt, idsOf, ringOf}
 use Rattle.table.specs.Settle.{refusedOf, settle}
-use Rattle.table.specs.Settled.{deadSet}
+use Rattle.table.specs.Settled.{deadSet, someUp}
 use Rattle.table.specs.Valid.{validOf}
 
--- what an action asks: its slots, place and key are in range; the place whose message goes, if one does; the slot whose node acts; the
--- same request already waits; and what is planned, told whether it does
+-- what goes of the waiting messages: all stay, that at a place goes, or the LSProbes from i to j go
+pub data Gone : Type 0 where
+  all-stay : Gone
+  one-goes : ℕ → Gone
+  probes-go : ℕ → ℕ → Gone
+
+-- what an action asks: its slots, place and key are in range; what goes of the waiting messages; the slot whose node acts; the same request already
+-- waits; and what is planned, told whether it does
 pub record Asked : Type 0 where
   pub range : Bool
-  pub gone : Found
+  pub gone : Gone
   pub slot : ℕ
   pub repeated : Bool
   pub plan : Bool → Planned
 
--- ---- the three ways to ask
+-- ---- the four ways to ask
 
 abbrev pub isSlot : Table → ℕ → Bool
 isSlot t i = ltb i (t .n)
@@ -45,18 +52,23 @@ isKey t k = ltb k (2 ^ t .m)
 
 -- of the node of slot i, where 3 is asked; `more` says whether the other numbers are in range
 abbrev pub requests : Table → ℕ → Bool → Bool → (Bool → Planned) → Asked
-requests t i more there plan = record { range = more && isSlot t i; gone = Nothing; slot = i; repeated = there; plan = plan }
+requests t i more there plan = record { range = more && isSlot t i; gone = all-stay; slot = i; repeated = there; plan = plan }
 
 -- of the node of slot i, where it is not
 abbrev pub acts : Table → ℕ → Bool → Planned → Asked
 acts t i more what = requests t i more false (λ there. what)
+
+-- of the node of slot i, whose probes of j have timed out
+abbrev pub timesOut : Table → ℕ → ℕ → Planned → Asked
+timesOut t i j what =
+    record { range = isSlot t j && isSlot t i; gone = probes-go i j; slot = i; repeated = false; plan = λ there. what }
 
 -- of the destination of the message that waits at a place
 abbrev pub takes : Pool → ℕ → (Message → Planned) → Asked
 takes p place plan =
     record {
       range = ltb place (p .count);
-      gone = At place;
+      gone = one-goes place;
       slot = messageAt p place .dest;
       repeated = false;
       plan = λ there. plan (messageAt p place);
@@ -86,13 +98,22 @@ asked t p (GrantExpired i j) = acts t i (isSlot t j) (planGrantExpired i (nodeAt
 asked t p (Take place) = takes p place (takenOf t)
 asked t p (Deliver place) = takes p place (deliveredOf t)
 asked t p (Forward place) = takes p place (forwardedOf t)
+asked t p (NodeLeft i) = acts t i true (planNodeLeft (nodeAt t i))
+asked t p (SuspectFaulty i j) = acts t i (isSlot t j) (planSuspectFaulty i (nodeAt t i) j)
+asked t p (ProbeTimeOut i j) = timesOut t i j (planProbeTimeOut i (nodeAt t i) j)
+asked t p (DeclareDead i j) = acts t i (isSlot t j) (planDeclareDead (ringOf t) (idsOf t) i (nodeAt t i) j)
+asked t p (LSRepair i) = acts t i true (planLSRepair (ringOf t) (idsOf t) i (nodeAt t i))
+asked t p (ResignNode i n) =
+    requests t i (isSlot t n) (replyWaits (waiting p) i) (λ there. planResignNode there i (nodeAt t i) n (nodeAt t n))
+asked t p (Recover i) = acts t i true (planRecover (someUp t) (ringOf t) (idsOf t) i (nodeAt t i))
 
 -- ---- the step
 
--- when done, m is removed first, then additions follow
-abbrev pub remaining : Pool → Found → List Message
-remaining p (At place) = removedAt (waiting p) place
-remaining p Nothing = waiting p
+-- when done, what goes is removed first, then additions follow
+abbrev pub remaining : Pool → Gone → List Message
+remaining p all-stay = waiting p
+remaining p (one-goes place) = removedAt (waiting p) place
+remaining p (probes-go i j) = withoutProbes (waiting p) i j
 
 abbrev pub plannedOf : Asked → Planned
 plannedOf x = x .plan (x .repeated)

@@ -7,7 +7,6 @@ use native.Mathlib.Nat.{lt-of-lt-of-le}
 use lib.Dec.{ltb}
 use lib.Pow.{pow-mono}
 use borrow.Author.Tests.{ltb-true}
-use Rattle.marks.specs.declared.Found.the-variants.{At}
 use Rattle.marks.proofs.Bools.{and-left}
 use Rattle.rules.specs.declared.Action.{Action}
 use Rattle.rules.specs.declared.Action.the-variants.{Lookup}
@@ -18,7 +17,7 @@ use Rattle.rules.specs.InnerAsks.{Listed}
 use Rattle.rules.specs.Pool.{messageAt}
 use Rattle.table_type.specs.declared.Table.{Table}
 use Rattle.table_type.specs.Table.{idsOf, ringOf}
-use Rattle.table.specs.Step.{asked}
+use Rattle.table.specs.Step.{one-goes, asked}
 use Rattle.table.proofs.By.{goes, slot-in-range}
 use Rattle.table.proofs.Obeys.{obeys}
 use Rattle.table.proofs.Sound.{Sound, sound}
@@ -46,7 +45,7 @@ key-low {t} {k = k} c =
     lt-of-lt-of-le (ltb-true k (2 ^ t .m) (and-left (ltb k (2 ^ t .m)) _ (c .range))) (pow-mono (is-sound c .numbers .m-high))
 
 -- the message that goes
-pub gone-obeys : {t : Table} {p : Pool} {a : Action} {place : ℕ} {m : Message} → Called t p a → asked t p a .gone ≡ At place → messageAt p place ≡ m
+pub gone-obeys : {t : Table} {p : Pool} {a : Action} {place : ℕ} {m : Message} → Called t p a → asked t p a .gone ≡ one-goes place → messageAt p place ≡ m
     → (m .dest < t .n) × (messageFits (ringOf t) m ≡ true)
 gone-obeys {t} {p} {a} {place} c g e =
     let f = is-sound c .message place (ltb-true place (p .count) (rw (goes t p place a g .0) at (c .range))) in

@@ -7,12 +7,14 @@ ghost use Rattle.rules.specs.declared.Pool.{Pool};
 ghost use Rattle.rules.specs.Actions.{planLookup, planJoin, planRequestLease, planLeaseExpired, planGrantExpired};
 ghost use Rattle.rules.specs.InnerAsks.{Listed};
 ghost use Rattle.rules.specs.Fits.{messageFits};
+ghost use Rattle.rules.specs.Leave.{planNodeLeft, planSuspectFaulty, planProbeTimeOut, planDeclareDead, planLSRepair, planResignNode, planRecover};
 ghost use Rattle.rules.specs.Take.{planTake};
 ghost use Rattle.table_type.specs.declared.Table.{Table};
 ghost use Rattle.table_type.specs.Table.{idsOf, nodeAt, ringOf};
 ghost use Rattle.table.specs.Step.{takenOf, deliveredOf, forwardedOf};
+ghost use Rattle.table.specs.Settled.{someUp};
 ghost use Rattle.table.specs.Step.{asked as askedOf};
-ghost use Rattle.table_plan.specs.InnerAsked.{Called, Read, Asks, requestsOf, actsOf, takesOf, slotWith};
+ghost use Rattle.table_plan.specs.InnerAsked.{Called, Read, Asks, requestsOf, actsOf, timesOf, takesOf, slotWith};
 use rules::Action;
 use rules::Message;
 use rules::Node;
@@ -23,12 +25,16 @@ use rules::Ring;
 use table_type::Table;
 
 // What an action asks, but for its plan: its slots, place and key are in range; the place whose message goes, past every count where none
-// does; the slot whose node acts, where none goes; and whether 3 is asked, and what is sent is new unless the same request waits.
+// does; the slot whose node acts, where none goes; whether 3 is asked; whether what is sent is new unless the same request waits; and whether probes have
+// timed out, and of whom.
 pub struct Asking {
     pub range: bool,
     pub gone: usize,
     pub slot: usize,
     pub request: bool,
+    pub fresh: bool,
+    pub timed: bool,
+    pub partner: usize,
 }
 
 // What message m asks of its destination i, by its kind.
@@ -124,15 +130,85 @@ fn plan_of_grant(t: Table, i: usize, j: usize) -> Planned
     plan_lease::plan_grant_expired(i, v, j, u)
 }
 
-// The three ways to ask: of the node of slot i, where 3 is asked; of the same, where it is not; of the destination of a waiting message.
-fn requests(n: usize, i: usize, more: bool) -> Asking
-    ensures { λ r. ⌜ r ≡ requestsOf n i more ⌝ }
+fn plan_of_leaving(t: Table, i: usize) -> Planned
+    requires { ⌜ i < 64 ⌝ }
+    ensures { λ r. ⌜ r ≡ planNodeLeft (nodeAt t i) ⌝ }
+{
+    plan_leave::plan_node_left(table_type::node_at(t, i))
+}
+
+fn plan_of_suspicion(t: Table, i: usize, j: usize) -> Planned
+    requires { ⌜ i < 64 ⌝ }
+    ensures { λ r. ⌜ r ≡ planSuspectFaulty i (nodeAt t i) j ⌝ }
+{
+    plan_leave::plan_suspect_faulty(i, table_type::node_at(t, i), j)
+}
+
+fn plan_of_time_out(t: Table, i: usize, j: usize) -> Planned
+    requires { ⌜ i < 64 ⌝ }
+    ensures { λ r. ⌜ r ≡ planProbeTimeOut i (nodeAt t i) j ⌝ }
+{
+    plan_leave::plan_probe_time_out(i, table_type::node_at(t, i), j)
+}
+
+fn plan_of_declaring(t: Table, i: usize, j: usize) -> Planned
+    requires { ⌜ Listed (ringOf t) (idsOf t) × (i < 64) ⌝ }
+    ensures { λ r. ⌜ r ≡ planDeclareDead (ringOf t) (idsOf t) i (nodeAt t i) j ⌝ }
+{
+    let v = table_type::node_at(t, i);
+    let ids = table_type::ids(t);
+    plan_leave::plan_declare_dead(table_type::ring_of(t), &ids, i, v, j)
+}
+
+fn plan_of_repair(t: Table, i: usize) -> Planned
+    requires { ⌜ Listed (ringOf t) (idsOf t) × (i < 64) ⌝ }
+    ensures { λ r. ⌜ r ≡ planLSRepair (ringOf t) (idsOf t) i (nodeAt t i) ⌝ }
+{
+    let v = table_type::node_at(t, i);
+    let ids = table_type::ids(t);
+    plan_leave::plan_ls_repair(table_type::ring_of(t), &ids, i, v)
+}
+
+fn plan_of_resigning(t: Table, there: bool, i: usize, k: usize) -> Planned
+    requires { ⌜ (i < 64) × (k < 64) ⌝ }
+    ensures { λ r. ⌜ r ≡ planResignNode there i (nodeAt t i) k (nodeAt t k) ⌝ }
+{
+    let v = table_type::node_at(t, i);
+    let u = table_type::node_at(t, k);
+    plan_leave::plan_resign_node(there, i, v, k, u)
+}
+
+// Is some node ok or ready?
+fn some_up(t: Table) -> bool
+    requires { ⌜ t .n ≤ 64 ⌝ }
+    ensures { λ r. ⌜ r ≡ someUp t ⌝ }
+{
+    (table_parts::slots_with(t, 2) != 0) | (table_parts::slots_with(t, 3) != 0)
+}
+
+fn plan_of_recovery(t: Table, i: usize) -> Planned
+    requires { ⌜ Listed (ringOf t) (idsOf t) × (i < 64) ⌝ }
+    ensures { λ r. ⌜ r ≡ planRecover (someUp t) (ringOf t) (idsOf t) i (nodeAt t i) ⌝ }
+{
+    let up = some_up(t);
+    let v = table_type::node_at(t, i);
+    let ids = table_type::ids(t);
+    plan_leave::plan_recover(up, table_type::ring_of(t), &ids, i, v)
+}
+
+// The four ways to ask: of the node of slot i, where 3 is asked; of the same, where it is not; of the same, whose probes of j have timed out; of the
+// destination of a waiting message.
+fn requests(n: usize, i: usize, more: bool, fresh: bool) -> Asking
+    ensures { λ r. ⌜ r ≡ requestsOf n i more fresh ⌝ }
 {
     Asking {
         range: more & (i < n),
         gone: 256,
         slot: i,
         request: true,
+        fresh,
+        timed: false,
+        partner: 0,
     }
 }
 
@@ -144,6 +220,23 @@ fn acts(n: usize, i: usize, more: bool) -> Asking
         gone: 256,
         slot: i,
         request: false,
+        fresh: false,
+        timed: false,
+        partner: 0,
+    }
+}
+
+fn times(n: usize, i: usize, j: usize) -> Asking
+    ensures { λ r. ⌜ r ≡ timesOf n i j ⌝ }
+{
+    Asking {
+        range: (j < n) & (i < n),
+        gone: 256,
+        slot: i,
+        request: false,
+        fresh: false,
+        timed: true,
+        partner: j,
     }
 }
 
@@ -155,6 +248,9 @@ fn takes(count: usize, place: usize) -> Asking
         gone: place,
         slot: 64,
         request: false,
+        fresh: false,
+        timed: false,
+        partner: 0,
     }
 }
 
@@ -165,14 +261,21 @@ pub fn asked(m: u32, n: usize, count: usize, a: Action) -> Asking
 {
     let size = 1u64 << m;
     match a {
-        Action::Lookup(i, k) => requests(n, i, k < size),
-        Action::Join(i, seed) => requests(n, i, seed < n),
+        Action::Lookup(i, k) => requests(n, i, k < size, true),
+        Action::Join(i, seed) => requests(n, i, seed < n, true),
         Action::RequestLease(i) => acts(n, i, true),
         Action::LeaseExpired(i, j) => acts(n, i, j < n),
         Action::GrantExpired(i, j) => acts(n, i, j < n),
         Action::Take(place) => takes(count, place),
         Action::Deliver(place) => takes(count, place),
         Action::Forward(place) => takes(count, place),
+        Action::NodeLeft(i) => acts(n, i, true),
+        Action::SuspectFaulty(i, j) => acts(n, i, j < n),
+        Action::ProbeTimeOut(i, j) => times(n, i, j),
+        Action::DeclareDead(i, j) => acts(n, i, j < n),
+        Action::LSRepair(i) => acts(n, i, true),
+        Action::ResignNode(i, k) => requests(n, i, k < n, false),
+        Action::Recover(i) => acts(n, i, true),
     }
 }
 
@@ -199,6 +302,7 @@ pub fn repeated(p: Pool, a: Action) -> bool
             parts::to_slot(plan_route::lookup_of(k as u32), i as u32),
         ),
         Action::Join(i, _) => pool::join_waits(p, i as u32),
+        Action::ResignNode(i, _) => pool::reply_waits(p, i as u32),
         _ => false,
     }
 }
@@ -217,5 +321,12 @@ pub fn planned(t: Table, there: bool, m: Message, a: Action) -> Planned
         Action::Take(_) => plan_of_take(t, m),
         Action::Deliver(_) => plan_of_deliver(t, m),
         Action::Forward(_) => plan_of_forward(t, m),
+        Action::NodeLeft(i) => plan_of_leaving(t, i),
+        Action::SuspectFaulty(i, j) => plan_of_suspicion(t, i, j),
+        Action::ProbeTimeOut(i, j) => plan_of_time_out(t, i, j),
+        Action::DeclareDead(i, j) => plan_of_declaring(t, i, j),
+        Action::LSRepair(i) => plan_of_repair(t, i),
+        Action::ResignNode(i, k) => plan_of_resigning(t, there, i, k),
+        Action::Recover(i) => plan_of_recovery(t, i),
     }
 }

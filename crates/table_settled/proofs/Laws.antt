@@ -11,10 +11,10 @@ use Rattle.marks.proofs.Laws.{gather-same, each, all-of, fails}
 use Rattle.rules.specs.declared.Status.{Status}
 use Rattle.rules.specs.declared.Status.the-variants.{Dead, Wait, Ok, Ready}
 use Rattle.rules.specs.Numbers.{statusNumber}
-use Rattle.rules.specs.Plans.{isDead, isReady}
+use Rattle.rules.specs.Plans.{isDead, isOk, isReady}
 use Rattle.table_type.specs.declared.Table.{Table}
 use Rattle.table_type.specs.Table.{nodeAt, idsOf, ringOf}
-use Rattle.table.specs.Settled.{readySet, deadSet, settledAt, isSettled}
+use Rattle.table.specs.Settled.{readySet, deadSet, okSet, settledAt, isSettled}
 use Rattle.table_parts.specs.InnerSlots.{slotsWith}
 
 -- a node is dead or ready, and as a ready node has to be if it is ready
@@ -76,6 +76,16 @@ unfolding readySet
 ready-slots t = numbered t 3 isReady same
   where
     same : (st : Status) → eqb (statusNumber st) 3 ≡ isReady st
+    same Dead = refl
+    same Wait = refl
+    same Ok = refl
+    same Ready = refl
+
+pub ok-slots : (t : Table) → slotsWith t 2 ≡ okSet t
+unfolding okSet
+ok-slots t = numbered t 2 isOk same
+  where
+    same : (st : Status) → eqb (statusNumber st) 2 ≡ isOk st
     same Dead = refl
     same Wait = refl
     same Ok = refl

@@ -20,8 +20,8 @@ fn at_most(n: usize, most: usize) -> usize
 // One step: 10 for a list without 256 places or an invalid table, then 1 for arguments out of range, then what the action says. A refusal changes nothing.
 // One function, since it works on one copy of the table and one of the pool: every function that takes them, and looks at a place by its number, has
 // copies of its own. So the pool is handed to others only where they must look: to validity, where an n above 64 and a count above 256 are lowered first
-// and put back (else the compiler hands it one more copy of what came in); for a request, to see whether it is repeated, after which its message is known
-// to be new; and for a plan that sends. Where no message is taken place 0 is read, and nothing depends on it.
+// and put back (else the compiler hands it one more copy of what came in); for a request, to see whether it is repeated, after which the message of a Lookup or a
+// Join is known to be new; for a plan that sends; and where probes have timed out, which go while nothing is sent. Where no message is taken place 0 is read, and nothing depends on it.
 pub fn step(t: Table, p: Pool, len: usize, a: Action) -> Stepped
     ensures { λ r. ⌜ r ≡ stepOf t p len a ⌝ }
 {
@@ -50,8 +50,16 @@ pub fn step(t: Table, p: Pool, len: usize, a: Action) -> Stepped
     let Planned::Go(plan) = what else {
         return table_parts::answered(u, q, Answer::Refused(table_parts::why_of(what)));
     };
+    if asks.timed {
+        let k = asks.slot;
+        let j = asks.partner;
+        let w = plan.node;
+        u.nodes[k] = w;
+        let left = pool::without_probes(q, k as u32, j as u32);
+        return table_parts::answered(u, left, Answer::Done);
+    }
     let mut new = pool::first_new(plan);
-    if pool::sends(plan) & !request {
+    if pool::sends(plan) & !asks.fresh {
         new = pool::news(q, gone, plan);
     }
     if !pool::room(q.count, gone, new) {

@@ -20,6 +20,13 @@ pub enum Action {
     Take { place: u64 },
     Deliver { place: u64 },
     Forward { place: u64 },
+    NodeLeft { slot: u64 },
+    SuspectFaulty { slot: u64, other: u64 },
+    ProbeTimeOut { slot: u64, other: u64 },
+    DeclareDead { slot: u64, other: u64 },
+    LsRepair { slot: u64 },
+    ResignNode { slot: u64, ready: u64 },
+    Recover { slot: u64 },
 }
 
 /// 01's number, 1 to 11.
@@ -93,6 +100,13 @@ impl Action {
             Action::Take { place } => (6, place, 0),
             Action::Deliver { place } => (7, place, 0),
             Action::Forward { place } => (8, place, 0),
+            Action::NodeLeft { slot } => (9, slot, 0),
+            Action::SuspectFaulty { slot, other } => (10, slot, other),
+            Action::ProbeTimeOut { slot, other } => (11, slot, other),
+            Action::DeclareDead { slot, other } => (12, slot, other),
+            Action::LsRepair { slot } => (13, slot, 0),
+            Action::ResignNode { slot, ready } => (14, slot, ready),
+            Action::Recover { slot } => (15, slot, 0),
         }
     }
 }

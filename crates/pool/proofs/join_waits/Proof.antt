@@ -1,15 +1,15 @@
 -- `pool::join_waits` meets its contract. The invariant: no place below `at` has a JoinRequest of i. The measure: the messages left.
 -- Assumes nothing.
 use borrow.Author.Needs.{needs}
-use mathlib.Core.Path.{sym}
+use mathlib.Core.Path.{sym, _∙_}
 use Prim.Native.Nat.{_-_, _≤_}
 use native.Mathlib.Omega.{arith}
-use Rattle.pool.proofs.Places.{places-length, Unasked, unasked-none, unasked-more, unasked-end, asked}
+use Rattle.pool.proofs.Places.{places-length, isJoin, join-some, Unasked, unasked-none, unasked-more, unasked-end, asked}
 use Rattle.pool.proofs.join_waits.Statement.{statement}
 use Rattle.pool.proofs.join_waits.Tie as tie
 
 abbrev Inv-loop : tie.InvT-loop
-Inv-loop i p n at₀ at = (at ≤ n) × Unasked i (p .places) at
+Inv-loop i p n at₀ at = (at ≤ n) × Unasked (isJoin i) (p .places) at
 
 abbrev μ-loop : tie.MeasureT-loop
 μ-loop i p n at₀ at = n - at
@@ -26,7 +26,7 @@ element-copy-out-q c = search needs
 returns : tie.Need-returns Inv-loop μ-loop
 returns c =
     let s = c .before .before .before .before .before .before in
-    sym (asked _ _ _ (places-length (s .args .t1) _ (s .good .0)) (s .pre) _ (omega arith) (c .if1 .taken))
+    sym (join-some _ _ ∙ asked (isJoin _) _ _ (places-length (s .args .t1) _ (s .good .0)) (s .pre) _ (omega arith) (c .if1 .taken))
 
 add-at : tie.Need-add-at Inv-loop μ-loop
 add-at c = search needs
@@ -35,12 +35,12 @@ loop-less : tie.Need-loop-less Inv-loop μ-loop
 loop-less c = search needs
 
 loop-again : tie.Need-loop-again Inv-loop μ-loop
-loop-again c = (omega arith, unasked-more _ _ _ (c .if1 .left) (c .before .before .before .before .before .loop .inv .1))
+loop-again c = (omega arith, unasked-more (isJoin _) _ _ (c .if1 .left) (c .before .before .before .before .before .loop .inv .1))
 
 returns-2 : tie.Need-returns-2 Inv-loop μ-loop
 returns-2 c =
     let s = c .before .before in
-    sym (unasked-end _ _ _ (places-length (s .args .t1) _ (s .good .0)) (s .pre) _ (omega arith) (c .before .loop .inv .1))
+    sym (join-some _ _ ∙ unasked-end (isJoin _) _ _ (places-length (s .args .t1) _ (s .good .0)) (s .pre) _ (omega arith) (c .before .loop .inv .1))
 
 pub join-waits-spec : {M : Type 1} → statement M
 join-waits-spec =

@@ -4,14 +4,13 @@ use mathlib.Core.Path.{_≡_, refl, sym, _∙_, ap, subst}
 use Rattle.marks.proofs.Bools.{and-left}
 use mathlib.Core.Bool.{true}
 use Prim.Native.Nat.{ℕ, _<_}
-use Rattle.marks.specs.declared.Found.the-variants.{At}
 use Rattle.rules.specs.declared.Action.{Action}
 use Rattle.rules.specs.declared.Planned.{Planned}
 use Rattle.rules.specs.declared.Pool.{Pool}
 use Rattle.rules.specs.Fits.{messageFits}
 use Rattle.rules.specs.InnerAsks.{Listed}
 use Rattle.table_type.specs.Table.{idsOf, ringOf}
-use Rattle.table.specs.Step.{takenOf, deliveredOf, forwardedOf, asked}
+use Rattle.table.specs.Step.{one-goes, takenOf, deliveredOf, forwardedOf, asked}
 use Rattle.table_plan.specs.InnerAsked.{Called, Read}
 use Rattle.table_plan.proofs.Called.{is-listed, low, slot-low, key-low, gone-obeys}
 use Rattle.table_plan.proofs.planned.Statement.{statement}
@@ -25,7 +24,7 @@ read : (c : tie.Start) (p : Pool) (b : Action) → c .args .a ≡ b → Read (c 
 read c p b e r = subst (λ (a : Action). Read (c .args .t) p a (c .args .m)) e r
 
 -- an action that takes the message of a place
-handed : (c : tie.Start) (b : Action) (place : ℕ) → asked (c .args .t) (c .pre .0) b .gone ≡ At place → c .args .a ≡ b
+handed : (c : tie.Start) (b : Action) (place : ℕ) → asked (c .args .t) (c .pre .0) b .gone ≡ one-goes place → c .args .a ≡ b
     → Listed (ringOf (c .args .t)) (idsOf (c .args .t)) × (c .args .m .dest < c .args .t .n) × (messageFits (ringOf (c .args .t)) (c .args .m) ≡ true)
 handed c b place g e =
     let k = called c b e in
@@ -87,6 +86,48 @@ enum-told-3 c = search needs
 plan-of-forward-requires : tie.Need-plan-of-forward-requires
 plan-of-forward-requires c κs = handed (c .before .before) _ _ refl (c .enum-told3 .given .1)
 
+enum-known-a-6 : tie.Need-enum-known-a-6
+enum-known-a-6 c = search needs
+
+plan-of-leaving-requires : tie.Need-plan-of-leaving-requires
+plan-of-leaving-requires c κs = let k = called (c .before .before .before) _ (c .before .a6 .given .1) in slot-low k
+
+enum-known-a-7 : tie.Need-enum-known-a-7
+enum-known-a-7 c = search needs
+
+plan-of-suspicion-requires : tie.Need-plan-of-suspicion-requires
+plan-of-suspicion-requires c κs = let k = called (c .before .before .before) _ (c .before .a7 .given .1) in slot-low k
+
+enum-known-a-8 : tie.Need-enum-known-a-8
+enum-known-a-8 c = search needs
+
+plan-of-time-out-requires : tie.Need-plan-of-time-out-requires
+plan-of-time-out-requires c κs = let k = called (c .before .before .before) _ (c .before .a8 .given .1) in slot-low k
+
+enum-known-a-9 : tie.Need-enum-known-a-9
+enum-known-a-9 c = search needs
+
+plan-of-declaring-requires : tie.Need-plan-of-declaring-requires
+plan-of-declaring-requires c κs = let k = called (c .before .before .before) _ (c .before .a9 .given .1) in (is-listed k, slot-low k)
+
+enum-known-a-10 : tie.Need-enum-known-a-10
+enum-known-a-10 c = search needs
+
+plan-of-repair-requires : tie.Need-plan-of-repair-requires
+plan-of-repair-requires c κs = let k = called (c .before .before .before) _ (c .before .a10 .given .1) in (is-listed k, slot-low k)
+
+enum-known-a-11 : tie.Need-enum-known-a-11
+enum-known-a-11 c = search needs
+
+plan-of-resigning-requires : tie.Need-plan-of-resigning-requires
+plan-of-resigning-requires c κs = let k = called (c .before .before .before) _ (c .before .a11 .given .1) in (slot-low k, low k _ (and-left _ _ (k .range)))
+
+enum-known-a-12 : tie.Need-enum-known-a-12
+enum-known-a-12 c = search needs
+
+plan-of-recovery-requires : tie.Need-plan-of-recovery-requires
+plan-of-recovery-requires c κs = let k = called (c .before .before .before) _ (c .before .a12 .given .1) in (is-listed k, slot-low k)
+
 returns : tie.Need-returns
 returns c = λ p r.
     c .plan-of-lookup .ensures ∙ ap (plan (c .before .before .before .before) p) (sym (c .before .before .a .given .1))
@@ -121,6 +162,27 @@ returns-8 c = λ p r.
     let e = c .before .enum-told3 .given .1 in
     c .plan-of-forward .ensures ∙ ap (forwardedOf (s .args .t)) (sym (read s p _ e r .is _ refl)) ∙ ap (plan s p) (sym e)
 
+returns-9 : tie.Need-returns-9
+returns-9 c = λ p r. c .plan-of-leaving .ensures ∙ ap (plan (c .before .before .before .before) p) (sym (c .before .before .a6 .given .1))
+
+returns-10 : tie.Need-returns-10
+returns-10 c = λ p r. c .plan-of-suspicion .ensures ∙ ap (plan (c .before .before .before .before) p) (sym (c .before .before .a7 .given .1))
+
+returns-11 : tie.Need-returns-11
+returns-11 c = λ p r. c .plan-of-time-out .ensures ∙ ap (plan (c .before .before .before .before) p) (sym (c .before .before .a8 .given .1))
+
+returns-12 : tie.Need-returns-12
+returns-12 c = λ p r. c .plan-of-declaring .ensures ∙ ap (plan (c .before .before .before .before) p) (sym (c .before .before .a9 .given .1))
+
+returns-13 : tie.Need-returns-13
+returns-13 c = λ p r. c .plan-of-repair .ensures ∙ ap (plan (c .before .before .before .before) p) (sym (c .before .before .a10 .given .1))
+
+returns-14 : tie.Need-returns-14
+returns-14 c = λ p r. c .plan-of-resigning .ensures ∙ ap (plan (c .before .before .before .before) p) (sym (c .before .before .a11 .given .1))
+
+returns-15 : tie.Need-returns-15
+returns-15 c = λ p r. c .plan-of-recovery .ensures ∙ ap (plan (c .before .before .before .before) p) (sym (c .before .before .a12 .given .1))
+
 pub planned-spec : {M : Type 1} → statement M
 planned-spec =
     tie.close
@@ -141,6 +203,20 @@ planned-spec =
     plan-of-deliver-requires
     enum-told-3
     plan-of-forward-requires
+    enum-known-a-6
+    plan-of-leaving-requires
+    enum-known-a-7
+    plan-of-suspicion-requires
+    enum-known-a-8
+    plan-of-time-out-requires
+    enum-known-a-9
+    plan-of-declaring-requires
+    enum-known-a-10
+    plan-of-repair-requires
+    enum-known-a-11
+    plan-of-resigning-requires
+    enum-known-a-12
+    plan-of-recovery-requires
     returns
     returns-2
     returns-3
@@ -148,4 +224,11 @@ planned-spec =
     returns-5
     returns-6
     returns-7
-    returns-8)
+    returns-8
+    returns-9
+    returns-10
+    returns-11
+    returns-12
+    returns-13
+    returns-14
+    returns-15)

@@ -2,19 +2,20 @@
 -- looked at. Assumes nothing.
 use borrow.Author.Needs.{needs}
 use denote.Enum.Declared
-use mathlib.Core.Bool.{Bool, true, false, _&&_}
+use mathlib.Core.Bool.{Bool, true, false, _&&_, not}
 use mathlib.Core.List.{List, [], _∷_}
 use mathlib.Core.Logic.{inl, inr}
 use mathlib.Core.Path.{_≡_, refl, sym, _∙_, ap, subst}
 use Prim.Native.Nat.{ℕ, _≤_}
 use native.Mathlib.Omega.{arith}
-use lib.Dec.{leb}
-use borrow.Author.Tests.{leb-true}
+use lib.Dec.{eqb, leb}
+use borrow.Author.Tests.{leb-true, eqb-false, not-true}
 use types.Run.{OneOf}
 use Rattle.marks.proofs.Bools.{and-left, and-right}
 use Rattle.rules.proofs.Action as Act
 use Rattle.rules.specs.declared.Action.{Action}
 use Rattle.rules.specs.declared.Action.the-variants.{Lookup, Join, RequestLease, LeaseExpired, GrantExpired, Take, Deliver, Forward}
+use Rattle.rules.specs.declared.Action.the-variants.{NodeLeft, SuspectFaulty, ProbeTimeOut, DeclareDead, LSRepair, ResignNode, Recover}
 use Rattle.rules.specs.declared.Pool.{Pool}
 use Rattle.table_type.specs.declared.Table.{Table}
 use Rattle.table.specs.Step.{asked}
@@ -34,16 +35,34 @@ high n k [] x h e = rw e (leb-true n k (and-left (leb n k) _ h))
 high n k (j ∷ ks) x h (inl e) = rw e (leb-true n k (and-left (leb n k) _ h))
 high n k (j ∷ ks) x h (inr o) = high n j ks x (and-right (leb n k) _ h) o
 
+-- one of some numbers is other than one that none of them is
+abbrev lacks : ℕ → List ℕ → Bool
+lacks n [] = true
+lacks n (k ∷ ks) = not (eqb k n) && lacks n ks
+
+other : (n k : ℕ) (ks : List ℕ) (x : ℕ) → lacks n (k ∷ ks) ≡ true → OneOf (k ∷ ks) x → x ≡ n → ⊥
+other n k [] x h e d = eqb-false k n (not-true _ (and-left (not (eqb k n)) _ h)) (sym e ∙ d)
+other n k (j ∷ ks) x h (inl e) d = eqb-false k n (not-true _ (and-left (not (eqb k n)) _ h)) (sym e ∙ d)
+other n k (j ∷ ks) x h (inr o) d = other n j ks x (and-right (not (eqb k n)) _ h) o d
+
 -- the others ask no 3
-unasked : (t : Table) (p : Pool) (a : Action) → 2 ≤ Declared.tagOf Act.the-type a → false ≡ asked t p a .repeated
-unasked t p (Lookup i k) h = absurd (omega arith)
-unasked t p (Join i seed) h = absurd (omega arith)
-unasked t p (RequestLease i) h = refl
-unasked t p (LeaseExpired i j) h = refl
-unasked t p (GrantExpired i j) h = refl
-unasked t p (Take place) h = refl
-unasked t p (Deliver place) h = refl
-unasked t p (Forward place) h = refl
+unasked : (t : Table) (p : Pool) (a : Action) → 2 ≤ Declared.tagOf Act.the-type a → (Declared.tagOf Act.the-type a ≡ 13 → ⊥)
+    → false ≡ asked t p a .repeated
+unasked t p (Lookup i k) h d = absurd (omega arith)
+unasked t p (Join i seed) h d = absurd (omega arith)
+unasked t p (RequestLease i) h d = refl
+unasked t p (LeaseExpired i j) h d = refl
+unasked t p (GrantExpired i j) h d = refl
+unasked t p (Take place) h d = refl
+unasked t p (Deliver place) h d = refl
+unasked t p (Forward place) h d = refl
+unasked t p (NodeLeft i) h d = refl
+unasked t p (SuspectFaulty i j) h d = refl
+unasked t p (ProbeTimeOut i j) h d = refl
+unasked t p (DeclareDead i j) h d = refl
+unasked t p (LSRepair i) h d = refl
+unasked t p (ResignNode i n) h d = absurd (d refl)
+unasked t p (Recover i) h d = refl
 
 called : (c : tie.Start) (b : Action) → c .args .a ≡ b → Called (c .pre .0) (c .args .p) b
 called c b e = subst (Called (c .pre .0) (c .args .p)) e (c .pre .1)
@@ -75,6 +94,15 @@ cast-join-waits c = omega (arith, slot-low (called (c .before .before .before) _
 join-waits-requires : tie.Need-join-waits-requires
 join-waits-requires c κs = counted (c .before .before .before .pre .1)
 
+enum-known-a-3 : tie.Need-enum-known-a-3
+enum-known-a-3 c = search needs
+
+cast-reply-waits : tie.Need-cast-reply-waits
+cast-reply-waits c = omega (arith, slot-low (called (c .before .before .before) _ (c .before .a3 .given .1)))
+
+reply-waits-requires : tie.Need-reply-waits-requires
+reply-waits-requires c κs = counted (c .before .before .before .pre .1)
+
 returns : tie.Need-returns
 returns c = λ t.
     let s = c .before .before .before .before .before .before in
@@ -92,7 +120,15 @@ returns-2 c = λ t.
     c .join-waits .ensures ∙ ap (λ (a : Action). asked t (s .args .p) a .repeated) (sym (c .before .before .a2 .given .1))
 
 returns-3 : tie.Need-returns-3
-returns-3 c = λ t. unasked t (c .before .args .p) (c .before .args .a) (high 2 2 (3 ∷ 4 ∷ 5 ∷ 6 ∷ 7 ∷ []) _ refl (c .match .keys3))
+returns-3 c = λ t.
+    let s = c .before .before .before .before in
+    c .reply-waits .ensures ∙ ap (λ (a : Action). asked t (s .args .p) a .repeated) (sym (c .before .before .a3 .given .1))
+
+returns-4 : tie.Need-returns-4
+returns-4 c = λ t.
+    let s = c .before .args in
+    let ks : List ℕ = 3 ∷ 4 ∷ 5 ∷ 6 ∷ 7 ∷ 8 ∷ 9 ∷ 10 ∷ 11 ∷ 12 ∷ 14 ∷ [] in
+    unasked t (s .p) (s .a) (high 2 2 ks _ refl (c .match .keys4)) (other 13 2 ks _ refl (c .match .keys4))
 
 pub repeated-spec : {M : Type 1} → statement M
 repeated-spec =
@@ -107,6 +143,10 @@ repeated-spec =
     enum-known-a-2
     cast-join-waits
     join-waits-requires
+    enum-known-a-3
+    cast-reply-waits
+    reply-waits-requires
     returns
     returns-2
-    returns-3)
+    returns-3
+    returns-4)

@@ -38,7 +38,7 @@ use Rattle.table.specs.Valid.{validOf}
 use Rattle.table.proofs.Sound.{sound, is-valid}
 use Rattle.table_step.proofs.Lowered.{lowered-valid}
 use Rattle.table_step.proofs.Settles.{sound-is, step-invalid, step-range, calls, plan-slotted}
-use Rattle.table_step.proofs.Settles.{readOf, reads, acts-low, refuses, carries, first-told}
+use Rattle.table_step.proofs.Settles.{readOf, reads, acts-low, refuses, carries, first-told, timed-slot, timed-partner, times-out}
 use Rattle.table_step.proofs.step.Statement.{statement}
 use Rattle.table_step.proofs.step.Tie as tie
 
@@ -86,10 +86,10 @@ abbrev Going : Type 0
 Going = tie.After-what Inv-gap μ-gap Inv-slots μ-slots Inv-blanks μ-blanks
 
 abbrev Newly : Type 0
-Newly = tie.Joined4 Inv-gap μ-gap Inv-slots μ-slots Inv-blanks μ-blanks
+Newly = tie.Joined5 Inv-gap μ-gap Inv-slots μ-slots Inv-blanks μ-blanks
 
 abbrev Roomed : Type 0
-Roomed = tie.Else5 Inv-gap μ-gap Inv-slots μ-slots Inv-blanks μ-blanks
+Roomed = tie.Else6 Inv-gap μ-gap Inv-slots μ-slots Inv-blanks μ-blanks
 
 abbrev Begun : Type 0
 Begun = tie.After-left-count Inv-gap μ-gap Inv-slots μ-slots Inv-blanks μ-blanks
@@ -150,8 +150,14 @@ planned-is c =
     let s = start e .args in
     c .planned .ensures (s .p) (reads (called e) _ (asks-is (asks e))) ∙ ap (asked (s .t) (s .p) (s .a) .plan) (there-is (c .before))
 
+abbrev Untimed : Type 0
+Untimed = tie.Else4 Inv-gap μ-gap Inv-slots μ-slots Inv-blanks μ-blanks
+
+abbrev untimed : (c : Newly) → Untimed
+untimed c = c .before .before .before .before
+
 abbrev going : (c : Newly) → Going
-going c = c .before .before .before .before
+going c = untimed c .before .before
 
 abbrev aimed : (c : Newly) → Aimed
 aimed c = going c .before .before
@@ -183,31 +189,31 @@ counted-of c = counted (called (aim (aimed c)))
 whole : (c : Newly) → length (waiting (pool-of c)) ≡ pool-of c .count
 whole c = waiting-length (pool-of c) (counted-of c) (long c)
 
-new-is : (c : Newly) → c .if4 .new ≡ newsOf (told-plan c) (leftOf (pool-of c) (told-gone c))
+new-is : (c : Newly) → c .if5 .new ≡ newsOf (told-plan c) (leftOf (pool-of c) (told-gone c))
 new-is c =
     let e = aim (aimed c) in
-    ⊎-elim {C = c .if4 .new ≡ newsOf (told-plan c) (leftOf (pool-of c) (told-gone c))} (λ w. w .2 ∙ w .1 .ensures)
+    ⊎-elim {C = c .if5 .new ≡ newsOf (told-plan c) (leftOf (pool-of c) (told-gone c))} (λ w. w .2 ∙ w .1 .ensures)
     (λ w.
-    w .1 ∙ c .before .before .first-new .ensures
+    w .1 ∙ c .before .before .before .first-new .ensures
     ∙ first-told (called e) (told-asks c) (asks-is (asks e)) (start e .args .len) (is-sound (asks e .before)) _ (planned-is (aimed c))
-    (told-plan c) _ (going c .what .given .1) (c .before .sends .ensures) (w .0 .left))
-    (c .if4 .came)
+    (told-plan c) _ (going c .what .given .1) (c .before .before .sends .ensures) (w .0 .left))
+    (c .if5 .came)
 
-roomy : (c : Roomed) → let k = c .before .before in Roomy (pool-of k) (told-gone k) (told-plan k) (k .if4 .new)
+roomy : (c : Roomed) → let k = c .before .before in Roomy (pool-of k) (told-gone k) (told-plan k) (k .if5 .new)
 roomy c =
     let k = c .before .before in
     record {
       counted = counted-of k;
       to-slot = slotted-of (going k);
       told = new-is k;
-      room = sym (c .before .room .ensures) ∙ not-false _ (c .if5 .left);
+      room = sym (c .before .room .ensures) ∙ not-false _ (c .if6 .left);
     }
 
 abbrev ready : (c : Begun) → Roomed
 ready c = c .before .before .before .before
 
 abbrev new-of : (c : Begun) → New
-new-of c = ready c .before .before .if4 .new
+new-of c = ready c .before .before .if5 .new
 
 at-most-requires : tie.Need-at-most-requires Inv-gap μ-gap Inv-slots μ-slots Inv-blanks μ-blanks
 at-most-requires c κs = search needs
@@ -275,6 +281,51 @@ returns-3 c =
     ∙ refuses (called e) _ (asks-is (asks e)) (s .len) (is-sound (asks e .before)) _ (planned-is (k .before .before)) _
     (k .enum-told .given .1)
 
+-- probes have timed out: their slot and their partner are told
+abbrev Leaving : Type 0
+Leaving = tie.After-w Inv-gap μ-gap Inv-slots μ-slots Inv-blanks μ-blanks
+
+abbrev leaving : (c : Leaving) → Aimed
+leaving c = c .before .before .before .before .before
+
+abbrev left-asks : (c : Leaving) → Asking
+left-asks c = asks (aim (leaving c)) .asked .result
+
+left-slot : (c : Leaving) → left-asks c .slot < 64
+left-slot c = let e = aim (leaving c) in timed-slot (called e) (left-asks c) (asks-is (asks e)) (c .before .if4 .taken)
+
+left-partner : (c : Leaving) → left-asks c .partner < 64
+left-partner c = let e = aim (leaving c) in timed-partner (called e) (left-asks c) (asks-is (asks e)) (c .before .if4 .taken)
+
+mul-w : tie.Need-mul-w Inv-gap μ-gap Inv-slots μ-slots Inv-blanks μ-blanks
+mul-w c = omega (arith, left-slot c)
+
+element-set-from-w : tie.Need-element-set-from-w Inv-gap μ-gap Inv-slots μ-slots Inv-blanks μ-blanks
+element-set-from-w c = left-slot c
+
+cast-without-probes : tie.Need-cast-without-probes Inv-gap μ-gap Inv-slots μ-slots Inv-blanks μ-blanks
+cast-without-probes c = omega (arith, left-slot c)
+
+cast-without-probes-2 : tie.Need-cast-without-probes-2 Inv-gap μ-gap Inv-slots μ-slots Inv-blanks μ-blanks
+cast-without-probes-2 c = omega (arith, left-partner c)
+
+without-probes-requires : tie.Need-without-probes-requires Inv-gap μ-gap Inv-slots μ-slots Inv-blanks μ-blanks
+without-probes-requires c κs = counted (called (aim (leaving c)))
+
+answered-requires-4 : tie.Need-answered-requires-4 Inv-gap μ-gap Inv-slots μ-slots Inv-blanks μ-blanks
+answered-requires-4 c κs = search needs
+
+returns-4 : tie.Need-returns-4 Inv-gap μ-gap Inv-slots μ-slots Inv-blanks μ-blanks
+returns-4 c =
+    let w = c .before .before in
+    let k = leaving w in
+    let e = aim k in
+    let s = start e .args in
+    let x = w .before .before .before .what .given .0 .0 in
+    c .answered4 .ensures ∙ ap (doneOf (withNode (s .t) (left-asks w .slot) (x .node))) (c .before .without-probes .ensures)
+    ∙ times-out (called e) (left-asks w) (asks-is (asks e)) (s .len) (is-sound (asks e .before)) _ (planned-is k) (w .before .if4 .taken) x
+    (w .before .before .before .what .given .1)
+
 first-new-requires : tie.Need-first-new-requires Inv-gap μ-gap Inv-slots μ-slots Inv-blanks μ-blanks
 first-new-requires c κs = search needs
 
@@ -282,24 +333,24 @@ sends-requires : tie.Need-sends-requires Inv-gap μ-gap Inv-slots μ-slots Inv-b
 sends-requires c κs = search needs
 
 news-requires : tie.Need-news-requires Inv-gap μ-gap Inv-slots μ-slots Inv-blanks μ-blanks
-news-requires c κs = let w = c .before .before .before .before in (counted (called (aim (w .before .before))), slotted-of w)
+news-requires c κs = let w = c .before .before .before .before .before .before in (counted (called (aim (w .before .before))), slotted-of w)
 
 room-requires : tie.Need-room-requires Inv-gap μ-gap Inv-slots μ-slots Inv-blanks μ-blanks
 room-requires c κs = counted-of c
 
-answered-requires-4 : tie.Need-answered-requires-4 Inv-gap μ-gap Inv-slots μ-slots Inv-blanks μ-blanks
-answered-requires-4 c κs = search needs
+answered-requires-5 : tie.Need-answered-requires-5 Inv-gap μ-gap Inv-slots μ-slots Inv-blanks μ-blanks
+answered-requires-5 c κs = search needs
 
-returns-4 : tie.Need-returns-4 Inv-gap μ-gap Inv-slots μ-slots Inv-blanks μ-blanks
-returns-4 c =
+returns-5 : tie.Need-returns-5 Inv-gap μ-gap Inv-slots μ-slots Inv-blanks μ-blanks
+returns-5 c =
     let k = c .before .before .before in
     let e = aim (aimed k) in
     let s = start e .args in
     let m = readOf (called e) (told-asks k) (asks-is (asks e)) in
-    c .answered4 .ensures
+    c .answered5 .ensures
     ∙ full (s .t) (s .p) (told-gone k) (slotWith (told-asks k) m) (told-plan k) _ (whole k) (new-is k)
-    (sym (c .before .before .room .ensures) ∙ not-true _ (c .before .if5 .taken))
-    ∙ carries (called e) (told-asks k) (asks-is (asks e)) (s .len) (is-sound (asks e .before)) _ (planned-is (aimed k)) (told-plan k) _
+    (sym (c .before .before .room .ensures) ∙ not-true _ (c .before .if6 .taken))
+    ∙ carries (called e) (told-asks k) (asks-is (asks e)) (s .len) (is-sound (asks e .before)) _ (planned-is (aimed k)) (untimed k .if4 .left) (told-plan k) _
     (going k .what .given .1) refl
 
 slot-of-requires : tie.Need-slot-of-requires Inv-gap μ-gap Inv-slots μ-slots Inv-blanks μ-blanks
@@ -375,8 +426,8 @@ low-one c =
     let l = c .before .before .before .before .before .before in
     one-fits _ _ _ (new-of l) (roomy (ready l)) _ _ (l .left-count .ensures) (c .before .before .one .given .1)
 
-mul-t68 : tie.Need-mul-t68 Inv-gap μ-gap Inv-slots μ-slots Inv-blanks μ-blanks
-mul-t68 c = omega (arith, low-one c)
+mul-t80 : tie.Need-mul-t80 Inv-gap μ-gap Inv-slots μ-slots Inv-blanks μ-blanks
+mul-t80 c = omega (arith, low-one c)
 
 element-set-from-q : tie.Need-element-set-from-q Inv-gap μ-gap Inv-slots μ-slots Inv-blanks μ-blanks
 element-set-from-q c = low-one c
@@ -440,8 +491,8 @@ low-next c =
     let k = c .before .before in
     filling-low _ _ _ _ _ _ (lowest k) (k .before .before .before .before .slots .inv)
 
-mul-t73 : tie.Need-mul-t73 Inv-gap μ-gap Inv-slots μ-slots Inv-blanks μ-blanks
-mul-t73 c = omega (arith, low-next c)
+mul-t85 : tie.Need-mul-t85 Inv-gap μ-gap Inv-slots μ-slots Inv-blanks μ-blanks
+mul-t85 c = omega (arith, low-next c)
 
 element-set-from-q-2 : tie.Need-element-set-from-q-2 Inv-gap μ-gap Inv-slots μ-slots Inv-blanks μ-blanks
 element-set-from-q-2 c = low-next c
@@ -483,11 +534,11 @@ blanks-again c =
     let l = c .before .before .before .before .before .before .before .before .before .before in
     rw (l .before .blank-message .ensures) (blanked-more _ _ _ _ (omega arith) (c .before .before .blanks .inv))
 
-answered-requires-5 : tie.Need-answered-requires-5 Inv-gap μ-gap Inv-slots μ-slots Inv-blanks μ-blanks
-answered-requires-5 c κs = search needs
+answered-requires-6 : tie.Need-answered-requires-6 Inv-gap μ-gap Inv-slots μ-slots Inv-blanks μ-blanks
+answered-requires-6 c κs = search needs
 
-returns-5 : tie.Need-returns-5 Inv-gap μ-gap Inv-slots μ-slots Inv-blanks μ-blanks
-returns-5 c =
+returns-6 : tie.Need-returns-6 Inv-gap μ-gap Inv-slots μ-slots Inv-blanks μ-blanks
+returns-6 c =
     let b = c .before in
     let o = b .before .before in
     let k = o .before .before .before in
@@ -497,13 +548,13 @@ returns-5 c =
     let e = aim (aimed j) in
     let s = start e .args in
     let none = sym (o .before .before .lowest .ensures) ∙ o .enum-told3 .given .1 in
-    c .answered5 .ensures
+    c .answered6 .ensures
     ∙ ap (doneOf (withNode (s .t) (l .before .before .before .slot-of .result) (told-plan j .node)))
     (after-is (s .p) (told-gone j) (told-plan j) (new-of l) (roomy y) _ _ (put-is (k .before) .head)
     (blanked-end _ _ _ (omega (arith, k .slots .inv .room)) (k .slots .inv .long) (omega arith) (b .before .blanks .inv)
     ∙ ap laid (filling-end _ _ _ _ _ none (k .slots .inv))))
     ∙ fits (s .t) (s .p) (told-gone j) _ (told-plan j) _ (whole j) (new-is j) (roomy y .room)
-    ∙ carries (called e) (told-asks j) (asks-is (asks e)) (s .len) (is-sound (asks e .before)) _ (planned-is (aimed j)) (told-plan j) _
+    ∙ carries (called e) (told-asks j) (asks-is (asks e)) (s .len) (is-sound (asks e .before)) _ (planned-is (aimed j)) (untimed j .if4 .left) (told-plan j) _
     (going j .what .given .1) (l .before .before .before .slot-of .ensures)
 
 pub step-spec : {M : Type 1} → statement M
@@ -533,12 +584,19 @@ step-spec =
     why-of-requires
     answered-requires-3
     returns-3
+    mul-w
+    element-set-from-w
+    cast-without-probes
+    cast-without-probes-2
+    without-probes-requires
+    answered-requires-4
+    returns-4
     first-new-requires
     sends-requires
     news-requires
     room-requires
-    answered-requires-4
-    returns-4
+    answered-requires-5
+    returns-5
     slot-of-requires
     mul-v
     element-set-from-v
@@ -556,7 +614,7 @@ step-spec =
     enum-known-one
     cast-to-slot
     to-slot-requires
-    mul-t68
+    mul-t80
     element-set-from-q
     add-n
     enum-told-2
@@ -566,7 +624,7 @@ step-spec =
     enum-told-3
     cast-to-slot-2
     to-slot-requires-2
-    mul-t73
+    mul-t85
     element-set-from-q-2
     add-n-2
     removed-requires
@@ -578,5 +636,5 @@ step-spec =
     add-at-2
     blanks-less
     blanks-again
-    answered-requires-5
-    returns-5)
+    answered-requires-6
+    returns-6)

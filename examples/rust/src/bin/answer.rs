@@ -59,6 +59,13 @@ fn action(rest: &[u8]) -> Result<Action, Refused> {
         6 => Ok(Action::Take { place: slot }),
         7 => Ok(Action::Deliver { place: slot }),
         8 => Ok(Action::Forward { place: slot }),
+        9 => Ok(Action::NodeLeft { slot }),
+        10 => Ok(Action::SuspectFaulty { slot, other: second }),
+        11 => Ok(Action::ProbeTimeOut { slot, other: second }),
+        12 => Ok(Action::DeclareDead { slot, other: second }),
+        13 => Ok(Action::LsRepair { slot }),
+        14 => Ok(Action::ResignNode { slot, ready: second }),
+        15 => Ok(Action::Recover { slot }),
         _ => Err(MALFORMED),
     }
 }

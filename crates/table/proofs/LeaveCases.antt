@@ -1,0 +1,137 @@
+-- Small cases of the steps of T-03, computed by the checker from the step's definition: the least number that is out of range, who is asked about, what goes of the
+-- waiting messages and what stays, and who keeps a node from recovering. Assumes nothing.
+use mathlib.Core.Path.{_≡_, refl}
+use mathlib.Core.List.{List, [], _∷_}
+use Prim.Native.Nat.{ℕ}
+use Rattle.ring.specs.Distance.{fallOf}
+use Rattle.marks.specs.Marks.{has, gather, tally, allTo, single, union, meet, addOf, removeOf, sizeOf, listed}
+use Rattle.rules.specs.declared.Action.{Action}
+use Rattle.rules.specs.declared.Action.the-variants.{NodeLeft, SuspectFaulty, ProbeTimeOut, DeclareDead, LSRepair, ResignNode, Recover}
+use Rattle.rules.specs.declared.Status.{Status}
+use Rattle.rules.specs.declared.Status.the-variants.{Dead, Wait, Ok, Ready}
+use Rattle.rules.specs.declared.Node.{Node}
+use Rattle.rules.specs.declared.Message.{Message}
+use Rattle.rules.specs.declared.Pool.{Pool}
+use Rattle.rules.specs.Letters.{noSides, lookup, joinReply, joinRequest, lsProbe, lsProbeReply}
+use Rattle.rules.specs.Nodes.{placed}
+use Rattle.rules.specs.Numbers.{answerNumber}
+use Rattle.rules.specs.Pool.{lay, laid}
+use Rattle.rules.specs.Pick.{best}
+use Rattle.rules.specs.Closest.{closest}
+use Rattle.rules.specs.Leaf.{contentOf, seenFrom, leafWith, overlaps, isFull, isComplete, isEmpty}
+use Rattle.rules.specs.Mail.{alike, allDifferent, firstFrom, firstEqual, added, removedAt, sentTo}
+use Rattle.rules.specs.Fits.{numbersFit, idFits, sideFits, leafFits, othersFit, nodeFits, isBlank, slotFits}
+use Rattle.rules.specs.Fits.{wordFits, flagFits, carriedFits, ownerFits, routingFits, failedFits, fieldsFit, messageFits}
+use Rattle.rules.specs.Plans.{mailed}
+use Rattle.rules.specs.Actions.{isNeighbour}
+use Rattle.rules.specs.Leave.{withoutProbes, replyWaits, endsToProbe, lastEnd}
+use Rattle.rules.specs.Leave.{planNodeLeft, planSuspectFaulty, planProbeTimeOut, planDeclareDead, planLSRepair, planResignNode, planRecover}
+use Rattle.table_type.specs.declared.Table.{Table}
+use Rattle.table_type.specs.declared.Stepped.{Stepped}
+use Rattle.table_type.specs.Start.{slotIds, slotsTo, startNode, startNodes, startFits, idsRise, listFits, startOf}
+use Rattle.table_type.specs.Table.{nodeAt, withNode}
+use Rattle.table.specs.Valid.{nodesFit, messagesFit, poolFits, validOf}
+use Rattle.table.specs.Settle.{carriedOut, settle}
+use Rattle.table.specs.Settled.{readySet, okSet}
+use Rattle.table.specs.Step.{isSound, stepOf}
+
+-- 17, 18, 65 and 95 are ready
+abbrev ring : Table
+ring = startOf 8 1 (17 ∷ 18 ∷ 65 ∷ 95 ∷ []) 15 .table
+
+abbrev none : Pool
+none = laid []
+
+abbrev number : Table → Pool → Action → ℕ
+number t p a = answerNumber (stepOf t p 256 a .answer)
+
+-- ---- slot out of range
+
+pub record Ranges : Type 0 where
+  pub left : (number ring none (NodeLeft 4) ≡ 1) × (number ring none (NodeLeft 3) ≡ 0)
+  pub suspects : (number ring none (SuspectFaulty 4 0) ≡ 1) × (number ring none (SuspectFaulty 0 4) ≡ 1) × (number ring none (SuspectFaulty 3 3) ≡ 5)
+  pub times : (number ring none (ProbeTimeOut 4 0) ≡ 1) × (number ring none (ProbeTimeOut 0 4) ≡ 1) × (number ring none (ProbeTimeOut 3 3) ≡ 5)
+  pub declares : (number ring none (DeclareDead 4 0) ≡ 1) × (number ring none (DeclareDead 0 4) ≡ 1) × (number ring none (DeclareDead 3 3) ≡ 5)
+  pub repairs : (number ring none (LSRepair 4) ≡ 1) × (number ring none (LSRepair 3) ≡ 2)
+  pub resigns : (number ring none (ResignNode 4 0) ≡ 1) × (number ring none (ResignNode 0 4) ≡ 1) × (number ring none (ResignNode 3 3) ≡ 2)
+  pub recovers : (number ring none (Recover 4) ≡ 1) × (number ring none (Recover 3) ≡ 2)
+
+-- ---- the waiting probes go, and nothing else does
+
+-- 17 suspects 18, whose sides are 95 and 65: a lookup waits before its probe
+abbrev asked : Stepped
+asked = stepOf ring (laid (placed (lookup 200) 2 ∷ [])) 256 (SuspectFaulty 0 1)
+
+abbrev probe : ℕ → ℕ → Message
+probe i j = placed (lsProbe i (record { left = nodeAt ring i .left; right = nodeAt ring i .right }) 0) j
+
+-- probes of 17, with others before, between and behind
+abbrev mixed : Pool
+mixed =
+    laid (placed (lookup 200) 2 ∷ probe 0 1 ∷ probe 1 0 ∷ placed (lsProbe 0 noSides 0) 1 ∷ probe 0 2 ∷ placed (lsProbeReply 0 noSides 0) 1 ∷ [])
+
+pub record Probed : Type 0 where
+  pub sent : asked .pool ≡ laid (placed (lookup 200) 2 ∷ probe 0 1 ∷ [])
+  pub gone : stepOf (asked .table) (asked .pool) 256 (ProbeTimeOut 0 1) .pool ≡ laid (placed (lookup 200) 2 ∷ [])
+  pub others : stepOf (asked .table) mixed 256 (ProbeTimeOut 0 1) .pool
+      ≡ laid (placed (lookup 200) 2 ∷ probe 1 0 ∷ probe 0 2 ∷ placed (lsProbeReply 0 noSides 0) 1 ∷ [])
+  -- what a node that leaves has sent stays
+  pub left : stepOf ring mixed 256 (NodeLeft 0) .pool ≡ mixed
+  -- a refused step leaves the probes
+  pub refused : stepOf ring mixed 256 (ProbeTimeOut 0 1) .pool ≡ mixed
+
+-- ---- one that waits, and those beside it
+
+-- 18 waits with 65 on its left and nobody on its right; the others are dead, but for 95
+abbrev waiter : Node
+waiter = record { id = 18; status = Wait; left = 4; right = 0; probing = 0; failed = 0; routing = 2; lease = 0; grant = 0 }
+
+abbrev beside : Status → Table
+beside s =
+    withNode (withNode (startOf 8 2 (17 ∷ 18 ∷ 65 ∷ 95 ∷ []) 8 .table) 1 waiter) 3
+    (record { id = 95; status = s; left = 0; right = 0; probing = 0; failed = 0; routing = 8; lease = 8; grant = 8 })
+
+pub record Alone : Type 0 where
+  -- a node at all that is ok or ready
+  pub recovers : (number (beside Dead) none (Recover 1) ≡ 0) × (number (beside Wait) none (Recover 1) ≡ 0)
+  pub not-alone : (number (beside Ok) none (Recover 1) ≡ 2) × (number (beside Ready) none (Recover 1) ≡ 2)
+  -- the ready node that is named
+  pub resigns : (number (beside Ready) none (ResignNode 1 3) ≡ 0) × (number (beside Ready) none (ResignNode 1 0) ≡ 2)
+  -- a JoinReply to the node itself
+  pub reply-waits : number (beside Ready) (laid (placed (joinReply 0 3 noSides) 1 ∷ [])) (ResignNode 1 3) ≡ 3
+  pub reply-elsewhere : number (beside Ready) (laid (placed (joinReply 0 3 noSides) 3 ∷ [])) (ResignNode 1 3) ≡ 0
+  -- where the very same request waits, nothing is added
+  pub same-request : stepOf (beside Ready) (laid (placed (joinRequest 1 0) 3 ∷ [])) 256 (ResignNode 1 3) .pool ≡ laid (placed (joinRequest 1 0) 3 ∷ [])
+
+pub record LeaveCases : Type 0 where
+  pub ranges : Ranges
+  pub probed : Probed
+  pub alone : Alone
+
+pub leave-cases : LeaveCases
+unfolding fallOf has gather tally allTo single union meet addOf removeOf sizeOf listed best closest contentOf seenFrom leafWith overlaps isFull isComplete isEmpty
+    alike allDifferent firstFrom firstEqual added removedAt sentTo numbersFit idFits sideFits leafFits othersFit nodeFits isBlank slotFits wordFits flagFits
+    carriedFits ownerFits routingFits failedFits fieldsFit messageFits mailed isNeighbour withoutProbes replyWaits endsToProbe lastEnd planNodeLeft
+    planSuspectFaulty planProbeTimeOut planDeclareDead planLSRepair planResignNode planRecover slotIds slotsTo startNode startNodes startFits idsRise listFits
+    startOf nodesFit messagesFit poolFits validOf carriedOut settle readySet okSet isSound stepOf
+leave-cases =
+    record {
+      ranges = record {
+        left = (refl, refl);
+        suspects = (refl, refl, refl);
+        times = (refl, refl, refl);
+        declares = (refl, refl, refl);
+        repairs = (refl, refl);
+        resigns = (refl, refl, refl);
+        recovers = (refl, refl);
+      };
+      probed = record { sent = refl; gone = refl; others = refl; left = refl; refused = refl };
+      alone = record {
+        recovers = (refl, refl);
+        not-alone = (refl, refl);
+        resigns = (refl, refl);
+        reply-waits = refl;
+        reply-elsewhere = refl;
+        same-request = refl;
+      };
+    }
