@@ -1,7 +1,7 @@
-/* The bench for C: five calls on table files (docs/FORMAT.md). Link target/staticlib/libface_c.a, which `rt staticlib face_c` makes (x86-64).
+/* The bench for C: six calls on table files (docs/FORMAT.md). Link target/staticlib/libface_c.a, which `rt staticlib face_c` makes (x86-64).
  *
- * Every call answers one 64-bit word. Its low 32 bits are the number: 0 done, 1 to 11 refused (docs/REFUSALS.md). Its high 32 bits
- * are the count of bytes written to the start of `out`. Where the number is not 0 the count is 0 and `out` is untouched; where it is 0,
+ * Every call answers one 64-bit word. Its low 32 bits are the number: 0 done, 1 to 11 refused (docs/REFUSALS.md). The 24 bits above
+ * are the count of bytes written to the start of `out`, and the highest byte is 0 but for step_via. Where the number is not 0 the count is 0 and `out` is untouched; where it is 0,
  * the bytes of `out` past the count are untouched. The reply and what `out` then holds are proved for every input of any length.
  *
  * A call asks for pointers that may be read (`out`: written) for their length, are not null, also where the length is 0, and an `out`
@@ -20,7 +20,7 @@ extern "C" {
 
 enum {
     TARPUDHRIV_FILE = 18464,    /* the longest table file: room enough for load, step and start */
-    TARPUDHRIV_LISTING = 16384, /* the least room that list asks for */
+    TARPUDHRIV_LISTING = 65536, /* the least room that list asks for */
     TARPUDHRIV_STACK = 262144
 };
 
@@ -47,13 +47,18 @@ enum {
 #define TARPUDHRIV_NO_ACTION UINT32_C(4294967295)
 
 static inline uint32_t tarpudhriv_number(uint64_t word) { return (uint32_t)word; }
-static inline uint32_t tarpudhriv_count(uint64_t word) { return (uint32_t)(word >> 32); }
+static inline uint32_t tarpudhriv_count(uint64_t word) { return (uint32_t)(word >> 32) & UINT32_C(0xffffff); }
+static inline char tarpudhriv_via(uint64_t word) { return (char)(word >> 56); }
 
 /* Reads a table file and writes it back. */
 uint64_t tarpudhriv_load(const uint8_t *file, size_t file_len, uint8_t *out, size_t out_len);
 
 /* Reads a table file, makes one step, and writes the table file after it. */
 uint64_t tarpudhriv_step(const uint8_t *file, size_t file_len, uint64_t action, uint64_t x, uint64_t y, uint8_t *out, size_t out_len);
+
+/* The same step, which also says where the next hop came from: tarpudhriv_via is 'l' where a message was routed to a node of the leaf set, 'r' where to
+ * one of the routing set alone, and 0 where none was routed to another node. */
+uint64_t tarpudhriv_step_via(const uint8_t *file, size_t file_len, uint64_t action, uint64_t x, uint64_t y, uint8_t *out, size_t out_len);
 
 /* Makes a table of ids of m digits with leaf sets of l nodes a side, ready where a has a mark (mark s, worth 2^s, for slot s), and
  * writes its file. */

@@ -35,5 +35,5 @@ pub fn measured(side: Side, line: &Line, times: u32, out: &mut [u8]) -> u64 {
 
 /// Room for a table file or a listing.
 pub fn room() -> Vec<u8> {
-    vec![0; model::LARGEST]
+    vec![0; 65_536]
 }

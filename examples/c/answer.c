@@ -1,4 +1,4 @@
-/* answer: answers the driver's requests (docs/DRIVER.md) on standard input, but those of water records and of what waits for a node, by the five
+/* answer: answers the driver's requests (docs/DRIVER.md) on standard input, but those of water records and of what waits for a node, by the six
    calls. A rehearsal is checked by step and memcmp. */
 #include "tarpudhriv.h"
 #include "words.h"
@@ -34,6 +34,15 @@ static uint64_t settled(const uint8_t *file, size_t len) {
     if (tarpudhriv_number(word) != 0) return word;
     out[0] = (uint8_t)tarpudhriv_count(word);
     return UINT64_C(1) << 32;
+}
+
+/* A step with its letter before the file. */
+static uint64_t step_via(const uint8_t *rest, size_t len) {
+    uint64_t word =
+        tarpudhriv_step_via(rest + 24, len - 24, little(rest, 8), little(rest + 8, 8), little(rest + 16, 8), out + 1, ROOM - 1);
+    if (tarpudhriv_number(word) != 0) return tarpudhriv_number(word);
+    out[0] = (uint8_t)tarpudhriv_via(word);
+    return (uint64_t)(tarpudhriv_count(word) + 1) << 32;
 }
 
 /* The bytes of the verdict. */
@@ -82,6 +91,7 @@ static uint64_t reply_to(const uint8_t *request, size_t len) {
     case 4: return tarpudhriv_list(rest, len, out, ROOM);
     case 5: return begin(rest, len);
     case 6: return len < 24 ? TARPUDHRIV_NO_ACTION : next(rest, rest + 24, len - 24);
+    case 11: return len < 24 ? TARPUDHRIV_NO_ACTION : step_via(rest, len);
     default: return TARPUDHRIV_NO_ACTION;
     }
 }

@@ -1,5 +1,5 @@
-/* step ACTION X [Y]: reads a table file on standard input, makes one step, and writes the table file after it to standard output. A refusal writes
- * `refused N` to standard error, and the status is 1. */
+/* step ACTION X [Y]: reads a table file on standard input, makes one step, and writes the table file after it to standard output. A step that routed a
+ * message says on standard error where the next hop came from. A refusal writes `refused N` there, and the status is 1. */
 #include "tarpudhriv.h"
 #include "words.h"
 
@@ -44,11 +44,12 @@ int main(int argc, char **argv) {
     uint64_t y = action->words > 1 ? number(argv[3], UINT64_MAX, "a number is expected") : 0;
     /* one byte more than the longest table file, so that a longer one is refused */
     size_t len = get(file, sizeof file);
-    uint64_t word = tarpudhriv_step(file, len, action->number, x, y, out, sizeof out);
+    uint64_t word = tarpudhriv_step_via(file, len, action->number, x, y, out, sizeof out);
     if (tarpudhriv_number(word) != 0) {
         fprintf(stderr, "refused %u\n", tarpudhriv_number(word));
         return REFUSED;
     }
+    if (tarpudhriv_via(word) != 0) fprintf(stderr, "by the %s\n", tarpudhriv_via(word) == 'l' ? "leaf set" : "routing set");
     put(out, tarpudhriv_count(word));
     return DONE;
 }

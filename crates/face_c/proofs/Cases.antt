@@ -1,18 +1,23 @@
--- The words of the calls for C, computed by the checker: the number in the low 32 bits, what was written in the high ones, and the number of each action.
--- Assumes nothing.
+-- The words of the calls for C, computed by the checker: the number in the low 32 bits, what was written in the high ones, the letter in the highest
+-- byte, and the number of each action. Assumes nothing.
 use mathlib.Core.Path.{_≡_, refl}
 use Prim.Native.Nat.{ℕ}
 use Rattle.rules.specs.declared.Answer.the-variants.{Done, Refused}
 use Rattle.rules.specs.declared.Refusal.the-variants as no
+use Rattle.rules.specs.declared.Via.the-variants.{Unrouted, Leaf, Routing}
 use Rattle.rules.specs.declared.Action.the-variants.{Lookup, Join, RequestLease, LeaseExpired, GrantExpired, Take, Deliver, Forward}
 use Rattle.rules.specs.declared.Action.the-variants.{NodeLeft, SuspectFaulty, ProbeTimeOut, DeclareDead, LSRepair, ResignNode, Recover}
 use Rattle.face_table.specs.declared.Rest.the-variants.{Settled, Unsettled, NotAsked}
 use Rattle.face_c.specs.declared.Asked.the-variants.{Is, None}
-use Rattle.face_c.specs.Words.{packOf, restWord, unknown, askedOf}
+use Rattle.face_c.specs.Words.{packOf, letterOf, restWord, unknown, askedOf}
 
 pub record WordsOf : Type 0 where
   -- 3 bytes written; a buffer that is too small
   pub packed : (packOf (record { answer = Done; count = 3 }) ≡ 12884901888) × (packOf (record { answer = Refused no.NoRoom; count = 0 }) ≡ 11)
+  -- 3 bytes written with `l`, `r` and no letter
+  pub letters : (letterOf (record { wrote = record { answer = Done; count = 3 }; via = Leaf }) ≡ 7782220168981118976)
+      × (letterOf (record { wrote = record { answer = Done; count = 3 }; via = Routing }) ≡ 8214565733208686592)
+      × (letterOf (record { wrote = record { answer = Done; count = 3 }; via = Unrouted }) ≡ 12884901888)
   pub rest : (restWord Settled ≡ 4294967296) × (restWord Unsettled ≡ 0) × (restWord (NotAsked no.Invalid) ≡ 10)
   pub none : unknown ≡ 4294967295
   pub actions : (askedOf 1 7 9 ≡ Is (Lookup 7 9)) × (askedOf 2 7 9 ≡ Is (Join 7 9)) × (askedOf 3 7 9 ≡ Is (RequestLease 7))
@@ -27,6 +32,7 @@ unfolding askedOf
 words-of =
     record {
       packed = (refl, refl);
+      letters = (refl, refl, refl);
       rest = (refl, refl, refl);
       none = refl;
       actions = (refl, refl, refl, refl, refl, refl, refl, refl, refl, refl);

@@ -6,7 +6,7 @@ use Rattle.file.proofs.Replies.{both-same}
 use Rattle.face_file.specs.Calls.{loadedOf, begunOf, wroteBy, leftBy, restBy}
 use Rattle.file_list.specs.List.{listOf, listedOf}
 use Rattle.face_c.specs.declared.Asked.{Asked}
-use Rattle.face_c.specs.Words.{packOf, restWord, askedOf, stepWord, stepLeft}
+use Rattle.face_c.specs.Words.{packOf, restWord, askedOf, stepWord, viaWord, stepLeft}
 
 -- the reply is this word, and the buffer is left with this content
 abbrev pub Replies : ℕ → List ℕ → ℕ → List ℕ → Type 0
@@ -32,6 +32,11 @@ module _ (out bs bs′ : List ℕ) (r r′ : ℕ) where
         → Replies (stepWord q file out) (stepLeft q file out) r′ bs′
         → (r ≡ r′) × (bs ≡ bs′)
     step-unique q h h′ = both-same h h′
+
+    pub step-via-unique : (q : Asked) → Replies (viaWord q file out) (stepLeft q file out) r bs
+        → Replies (viaWord q file out) (stepLeft q file out) r′ bs′
+        → (r ≡ r′) × (bs ≡ bs′)
+    step-via-unique q h h′ = both-same h h′
 
     pub list-unique : Replies (packOf (listOf file out)) (listedOf file out) r bs
         → Replies (packOf (listOf file out)) (listedOf file out) r′ bs′

@@ -1,22 +1,27 @@
--- The calls as numbers and bytes alone: a word for an action, and a word for an answer with the number of bytes written. Definitions only.
--- Assumes nothing.
+-- The calls as numbers and bytes alone: a word for an action, and a word for an answer with the number of bytes written and the letter of the next hop.
+-- Definitions only. Assumes nothing.
 use mathlib.Core.Bool.{cond}
 use mathlib.Core.List.{List}
 use Prim.Native.Nat.{ℕ, _+_, _*_}
 use lib.Dec.{eqb}
 use Rattle.rules.specs.declared.Action.the-variants.{Lookup, Join, RequestLease, LeaseExpired, GrantExpired, Take, Deliver, Forward}
 use Rattle.rules.specs.declared.Action.the-variants.{NodeLeft, SuspectFaulty, ProbeTimeOut, DeclareDead, LSRepair, ResignNode, Recover}
-use Rattle.rules.specs.Numbers.{refusalNumber, answerNumber}
+use Rattle.rules.specs.Numbers.{refusalNumber, answerNumber, viaNumber}
 use Rattle.file.specs.declared.Wrote.{Wrote}
 use Rattle.face_table.specs.declared.Rest.{Rest}
 use Rattle.face_table.specs.declared.Rest.the-variants.{Settled, Unsettled, NotAsked}
-use Rattle.face_file.specs.Calls.{loadedOf, nextOf, wroteBy, leftBy}
+use Rattle.face_file.specs.Calls.{loadedOf, nextOf, wroteBy, leftBy, movedBy}
+use Rattle.face_file.specs.declared.Moved.{Moved}
 use Rattle.face_c.specs.declared.Asked.{Asked}
 use Rattle.face_c.specs.declared.Asked.the-variants.{Is, None}
 
 -- the number of the answer in the low 32 bits, the count of bytes in the high 32 bits
 abbrev pub packOf : Wrote → ℕ
 packOf w = w .count * 4294967296 + answerNumber (w .answer)
+
+-- the same, and the letter of where the next hop came from in the highest byte: `l`, `r`, or 0 for none
+abbrev pub letterOf : Moved → ℕ
+letterOf m = viaNumber (m .via) * 72057594037927936 + packOf (m .wrote)
 
 -- the number in the low 32 bits; in the high 32 bits 1 where the table is settled, else 0
 abbrev pub restWord : Rest → ℕ
@@ -52,6 +57,11 @@ askedOf k x y =
 unfoldable pub stepWord : Asked → List ℕ → List ℕ → ℕ
 stepWord (Is a) file out = packOf (wroteBy (nextOf (loadedOf file) a) out)
 stepWord None file out = unknown
+
+-- the word that answers a step with the letter
+unfoldable pub viaWord : Asked → List ℕ → List ℕ → ℕ
+viaWord (Is a) file out = letterOf (movedBy (nextOf (loadedOf file) a) out)
+viaWord None file out = unknown
 
 -- what the buffer then holds
 unfoldable pub stepLeft : Asked → List ℕ → List ℕ → List ℕ

@@ -4,7 +4,8 @@ ghost use mathlib.Core.Path.{_≡_};
 ghost use Prim.Native.Nat.{_≤_};
 ghost use Rattle.face_file.specs.Calls.{loadedOf, begunOf, wroteBy, leftBy, restBy};
 ghost use Rattle.file_list.specs.List.{listOf, listedOf};
-ghost use Rattle.face_c.specs.Words.{packOf, restWord, askedOf, stepWord, stepLeft};
+ghost use Rattle.face_c.specs.Words.{packOf, letterOf, restWord, askedOf, stepWord, viaWord, stepLeft};
+use face_file::Moved;
 use face_table::Rest;
 use file::Wrote;
 use rules::Action;
@@ -42,11 +43,21 @@ pub fn action_of(k: u64, x: u64, y: u64) -> Asked
 
 // An answer and a count as one word.
 fn packed(w: Wrote) -> u64
-    requires { ⌜ w .count ≤ 18464 ⌝ }
+    requires { ⌜ w .count ≤ 65536 ⌝ }
     ensures { λ r. ⌜ r ≡ packOf w ⌝ }
 {
     let answer = w.answer;
     (w.count as u64) * 4294967296 + parts::answer_number(answer) as u64
+}
+
+// The same, and the letter of where the next hop came from in the highest byte.
+fn lettered(m: Moved) -> u64
+    requires { ⌜ m .wrote .count ≤ 65536 ⌝ }
+    ensures { λ r. ⌜ r ≡ letterOf m ⌝ }
+{
+    let via = m.via;
+    let w = m.wrote;
+    (parts::via_number(via) as u64) * 72057594037927936 + packed(w)
 }
 
 // Whether a table is settled as one word.
@@ -76,7 +87,19 @@ pub extern "C" fn tarpudhriv_step(file: &[u8], action: u64, x: u64, y: u64, out:
     ensures left { λ _. ⌜ now (out .exit) ≡ stepLeft (askedOf action x y) (now (file .entry)) (now (out .entry)) ⌝ }
 {
     match action_of(action, x, y) {
-        Asked::Is(a) => packed(face_file::step_file(file, a, out)),
+        Asked::Is(a) => packed(face_file::step_file(file, a, out).wrote),
+        Asked::None => 4294967295,
+    }
+}
+
+// The same step, and the letter of where the next hop came from in the highest byte of the result: `l`, `r`, or 0 where it routed nothing.
+#[no_mangle]
+pub extern "C" fn tarpudhriv_step_via(file: &[u8], action: u64, x: u64, y: u64, out: &mut [u8]) -> u64
+    ensures r { λ r. ⌜ r ≡ viaWord (askedOf action x y) (now (file .entry)) (now (out .entry)) ⌝ }
+    ensures left { λ _. ⌜ now (out .exit) ≡ stepLeft (askedOf action x y) (now (file .entry)) (now (out .entry)) ⌝ }
+{
+    match action_of(action, x, y) {
+        Asked::Is(a) => lettered(face_file::step_file(file, a, out)),
         Asked::None => 4294967295,
     }
 }
@@ -98,7 +121,7 @@ pub extern "C" fn tarpudhriv_settled(file: &[u8]) -> u64
     rest_word(face_file::settled_file(file))
 }
 
-// Writes the listing of a file, `refused N` and all. 11 for a buffer of fewer than 16,384 bytes, and no other number.
+// Writes the listing of a file, `refused N` and all. 11 for a buffer of fewer than 65,536 bytes, and no other number.
 #[no_mangle]
 pub extern "C" fn tarpudhriv_list(file: &[u8], out: &mut [u8]) -> u64
     ensures r { λ r. ⌜ r ≡ packOf (listOf (now (file .entry)) (now (out .entry))) ⌝ }

@@ -98,30 +98,30 @@ begun-neat m l a ids = go (ltb m (2 ^ 32) && ltb l (2 ^ 32))
 -- ---- what is written is read again
 
 module _ (out cs : List ℕ) (r : Wrote) where
-  reads-back : (s : Stepped) → Neat s → Held (s .table) (s .pool) → Filed s out cs r → r .answer ≡ Done → loadedOf (take (r .count) cs) ≡ s
+  reads-back : (s : Stepped) → Neat s → Held (s .table) (s .pool) → Filed s out cs r → r .answer ≡ Done
+      → loadedOf (take (r .count) cs) ≡ doneOf (s .table) (s .pool)
   unfolding loadedOf
   reads-back s neat k h e = go (s .answer) refl
     where
-      go : (w : Answer) → s .answer ≡ w → loadOf (take (r .count) cs) noTable (laid []) 256 ≡ s
+      go : (w : Answer) → s .answer ≡ w → loadOf (take (r .count) cs) noTable (laid []) 256 ≡ doneOf (s .table) (s .pool)
       go Done q =
           let f : r ≡ wroteOf (s .table) (s .pool) 256 out = h .0 ∙ wrote-done s out q in
           let c : cs ≡ writtenOf (s .table) (s .pool) 256 out = h .1 ∙ left-done s out q in
           rw (f, c) (back (s .table) (s .pool) out (ap (λ (x : Wrote). x .answer) (sym f) ∙ e) k noTable (laid []))
           ∙ ap (doneOf (s .table)) (sym (neat q))
-          ∙ ap (λ (w : Answer). record { answer = w; table = s .table; pool = s .pool }) (sym q)
       go (Refused why) q = absurd (not-done (ap (λ (x : Wrote). x .answer) (h .0 ∙ wrote-not s out why q)) e)
 
   pub reload-kept : (file : List ℕ) → let s = loadedOf file in Held (s .table) (s .pool) → Filed s out cs r → r .answer ≡ Done
-      → loadedOf (take (r .count) cs) ≡ s
+      → loadedOf (take (r .count) cs) ≡ doneOf (s .table) (s .pool)
   unfolding loadedOf
   reload-kept file = reads-back (loadedOf file) (load-neat noTable (laid []) 256 file)
 
   pub step-file-kept : (file : List ℕ) (a : Action) → let s = nextOf (loadedOf file) a in Held (s .table) (s .pool) → Filed s out cs r → r .answer ≡ Done
-      → loadedOf (take (r .count) cs) ≡ s
+      → loadedOf (take (r .count) cs) ≡ doneOf (s .table) (s .pool)
   step-file-kept file a = reads-back (nextOf (loadedOf file) a) (next-neat (loadedOf file) a)
 
   pub start-file-kept : (m l a : ℕ) (ids : List ℕ) → let s = begunOf m l a ids in Held (s .table) (s .pool) → Filed s out cs r → r .answer ≡ Done
-      → loadedOf (take (r .count) cs) ≡ s
+      → loadedOf (take (r .count) cs) ≡ doneOf (s .table) (s .pool)
   start-file-kept m l a ids = reads-back (begunOf m l a ids) (begun-neat m l a ids)
 
   -- a refusal of the load, the step, the start or the write leaves the buffer

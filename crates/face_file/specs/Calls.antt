@@ -9,6 +9,8 @@ use Rattle.rules.specs.declared.Answer.{Answer}
 use Rattle.rules.specs.declared.Answer.the-variants.{Done, Refused}
 use Rattle.rules.specs.declared.Pool.{Pool}
 use Rattle.rules.specs.declared.Refusal.the-variants as no
+use Rattle.rules.specs.declared.Via.{Via}
+use Rattle.rules.specs.declared.Via.the-variants.{Unrouted}
 use Rattle.rules.specs.Pool.{laid}
 use Rattle.table_type.specs.declared.Table.{Table}
 use Rattle.table_type.specs.declared.Stepped.{Stepped}
@@ -21,6 +23,7 @@ use Rattle.file.specs.Write.{notWritten, wroteOf, writtenOf}
 use Rattle.face_table.specs.declared.Rest.{Rest}
 use Rattle.face_table.specs.declared.Rest.the-variants.{NotAsked}
 use Rattle.face_table.specs.Asked.{startStep, restOf}
+use Rattle.face_file.specs.declared.Moved.{Moved}
 
 -- what the file holds, or its refusal
 unfoldable pub loadedOf : List ℕ → Stepped
@@ -54,6 +57,15 @@ wroteBy s out = wroteAfter (s .answer) (s .table) (s .pool) out
 -- what the buffer then holds: a refusal leaves it as it is
 unfoldable pub leftBy : Stepped → List ℕ → List ℕ
 leftBy s out = leftAfter (s .answer) (s .table) (s .pool) out
+
+-- where the next hop came from is said where the file was written
+abbrev pub movedOf : Wrote → Answer → Via → Moved
+movedOf w Done via = record { wrote = w; via = via }
+movedOf w (Refused why) via = record { wrote = w; via = Unrouted }
+
+-- what a step says that is written
+unfoldable pub movedBy : Stepped → List ℕ → Moved
+movedBy s out = movedOf (wroteBy s out) (wroteBy s out .answer) (s .via)
 
 abbrev restAfter : Answer → Table → Pool → Rest
 restAfter Done t p = restOf t p 256

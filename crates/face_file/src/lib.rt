@@ -1,14 +1,21 @@
 // Table files in, table files out: what a caller asks who holds nothing but bytes and numbers.
 ghost use mathlib.Core.Path.{_≡_};
 ghost use Rattle.table_type.specs.Start.{noTable};
-ghost use Rattle.face_file.specs.Calls.{loadedOf, nextOf, begunOf, wroteBy, leftBy, restBy};
+ghost use Rattle.face_file.specs.Calls.{loadedOf, nextOf, begunOf, wroteBy, leftBy, movedOf, movedBy, restBy};
 use face_table::Rest;
 use file::Wrote;
 use rules::Action;
 use rules::Answer;
 use rules::Refusal;
+use rules::Via;
 use table_type::Stepped;
 use table_type::Table;
+
+// What a step wrote, and where the next hop came from, if it routed a message to one and was written.
+pub struct Moved {
+    pub wrote: Wrote,
+    pub via: Via,
+}
 
 // The table of no node.
 pub fn no_table() -> Table
@@ -53,6 +60,20 @@ fn written(s: Stepped, out: &mut [u8]) -> Wrote
     }
 }
 
+// What was written, with where the next hop came from.
+fn with_via(w: Wrote, via: Via) -> Moved
+    ensures { λ r. ⌜ r ≡ movedOf w (w .answer) via ⌝ }
+{
+    let answer = w.answer;
+    match answer {
+        Answer::Done => Moved { wrote: w, via },
+        Answer::Refused(_) => Moved {
+            wrote: w,
+            via: Via::Unrouted,
+        },
+    }
+}
+
 // The start; 8 for M or L at or above 2^32.
 fn begun(m: u64, l: u64, a: u64, ids: &[u32]) -> Stepped
     ensures { λ r. ⌜ r ≡ begunOf m l a (now (ids .entry)) ⌝ }
@@ -77,11 +98,13 @@ pub fn reload(file: &[u8], out: &mut [u8]) -> Wrote
 }
 
 // Reads a table file, makes a step, and writes the table file after it. A refusal of any of the three leaves `out` as it is.
-pub fn step_file(file: &[u8], a: Action, out: &mut [u8]) -> Wrote
-    ensures r { λ r. ⌜ r ≡ wroteBy (nextOf (loadedOf (now (file .entry))) a) (now (out .entry)) ⌝ }
+pub fn step_file(file: &[u8], a: Action, out: &mut [u8]) -> Moved
+    ensures r { λ r. ⌜ r ≡ movedBy (nextOf (loadedOf (now (file .entry))) a) (now (out .entry)) ⌝ }
     ensures left { λ _. ⌜ now (out .exit) ≡ leftBy (nextOf (loadedOf (now (file .entry))) a) (now (out .entry)) ⌝ }
 {
-    written(next(loaded(file), a), out)
+    let s = next(loaded(file), a);
+    let via = s.via;
+    with_via(written(s, out), via)
 }
 
 // Makes a table of M, L, the set A and the ids, and writes its file. A refusal of either leaves `out` as it is.

@@ -55,7 +55,7 @@ abbrev pub lentRest : Table → List Message → ℕ → Rest
 lentRest t ys n = restOf t (lent ys n) (length ys)
 
 abbrev pub replyOf : Stepped → Reply
-replyOf g = record { answer = g .answer; table = g .table; count = g .pool .count }
+replyOf g = record { answer = g .answer; table = g .table; count = g .pool .count; via = g .via }
 
 -- what the caller has once the core has left g: the reply, and the list that held ys holds zs
 abbrev pub Handed : Stepped → List Message → List Message → Reply → Type 0

@@ -8,14 +8,17 @@ use rules::Action;
 use rules::Answer;
 use rules::Message;
 use rules::Pool;
+use rules::Via;
 use table_type::Stepped;
 use table_type::Table;
 
-// What the caller gets beside its list: the answer, the table and the count of waiting messages.
+// What the caller gets beside its list: the answer, the table and the count of waiting messages; and where the next hop came from, if a step routed a
+// message to one.
 pub struct Reply {
     pub answer: Answer,
     pub table: Table,
     pub count: usize,
+    pub via: Via,
 }
 
 // How many places are copied in and out of a list of `len` places: all of 256, or none.
@@ -42,10 +45,12 @@ fn replied(g: Stepped) -> Reply
     let answer = g.answer;
     let table = g.table;
     let p = g.pool;
+    let via = g.via;
     Reply {
         answer,
         table,
         count: p.count,
+        via,
     }
 }
 

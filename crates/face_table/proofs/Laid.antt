@@ -15,6 +15,7 @@ use Rattle.rules.specs.declared.Message.{Message}
 use Rattle.rules.specs.declared.Pool.{Pool}
 use Rattle.rules.specs.declared.Refusal.{Refusal}
 use Rattle.rules.specs.declared.Refusal.the-variants as no
+use Rattle.rules.specs.declared.Via.the-variants.{Unrouted}
 use Rattle.rules.specs.Numbers.{answerNumber}
 use Rattle.rules.specs.Plans.{mailed}
 use Rattle.rules.specs.Pool.{waiting, laid}
@@ -71,5 +72,5 @@ start-leaves t p len m l ids a why h = go (eqb len 256) (startOf m l ids a .answ
     go : (b : Bool) (w : Answer) → cond b (began w (startOf m l ids a .table) t p) (refusedOf t p no.Invalid) .answer ≡ Refused why
         → cond b (began w (startOf m l ids a .table) t p) (refusedOf t p no.Invalid) ≡ refusedOf t p why
     go true Done e = absurd (let z : _≡_ {A = ℕ} 0 1 = cc in omega arith)
-    go true (Refused w) e = ap (λ (x : Answer). record { answer = x; table = t; pool = p }) e
-    go false w e = ap (λ (x : Answer). record { answer = x; table = t; pool = p }) e
+    go true (Refused w) e = ap (λ (x : Answer). record { answer = x; table = t; pool = p; via = Unrouted }) e
+    go false w e = ap (λ (x : Answer). record { answer = x; table = t; pool = p; via = Unrouted }) e

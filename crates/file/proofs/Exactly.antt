@@ -13,6 +13,7 @@ use Rattle.marks.proofs.Bools.{and-right}
 use Rattle.rules.specs.declared.Pool.{Pool}
 use Rattle.rules.specs.declared.Refusal.{Refusal}
 use Rattle.rules.specs.declared.Refusal.the-variants as no
+use Rattle.rules.specs.declared.Via.the-variants.{Unrouted}
 use Rattle.rules.specs.declared.Answer.{Answer}
 use Rattle.rules.specs.declared.Answer.the-variants.{Done, Refused}
 use Rattle.rules.specs.Limits.{messagesHigh}
@@ -80,11 +81,11 @@ module _ (u : Table) (q : Pool) (t : Table) (p : Pool) where
 
   left : (why : Refusal) (a b c d e : Bool) → chain a b c d e (doneOf u q) (refusedOf t p) .answer ≡ Refused why
       → chain a b c d e (doneOf u q) (refusedOf t p) ≡ refusedOf t p why
-  left why true b c d e h = ap (λ (w : Answer). record { answer = w; table = t; pool = p }) h
-  left why false false c d e h = ap (λ (w : Answer). record { answer = w; table = t; pool = p }) h
-  left why false true false d e h = ap (λ (w : Answer). record { answer = w; table = t; pool = p }) h
-  left why false true true false e h = ap (λ (w : Answer). record { answer = w; table = t; pool = p }) h
-  left why false true true true false h = ap (λ (w : Answer). record { answer = w; table = t; pool = p }) h
+  left why true b c d e h = ap (λ (w : Answer). record { answer = w; table = t; pool = p; via = Unrouted }) h
+  left why false false c d e h = ap (λ (w : Answer). record { answer = w; table = t; pool = p; via = Unrouted }) h
+  left why false true false d e h = ap (λ (w : Answer). record { answer = w; table = t; pool = p; via = Unrouted }) h
+  left why false true true false e h = ap (λ (w : Answer). record { answer = w; table = t; pool = p; via = Unrouted }) h
+  left why false true true true false h = ap (λ (w : Answer). record { answer = w; table = t; pool = p; via = Unrouted }) h
   left why false true true true true h = let z : _≡_ {A = ℕ} 0 1 = cc in absurd (omega arith)
 
   made : (a b c d e : Bool) → number a b c d e ≡ 0 → chain a b c d e (doneOf u q) (refusedOf t p) ≡ doneOf u q

@@ -1,26 +1,29 @@
 -- 01's worked listing, computed by the checker: the file of the ids 17, 18, 65 and 95, all started ready, with Lookup 80 at slot 0 and Lookup
--- 200 at slot 2 (tools/worked makes it), and what is printed of it, whole; then of the same file without lookups, and damaged in four ways.
--- Assumes nothing.
+-- 200 at slot 2 (tools/worked makes it), and what is printed of it, whole; then of the same file without lookups, and damaged in four ways;
+-- and lines of a table in which the routing set decides. Assumes nothing.
 use mathlib.Core.Path.{_≡_, refl}
 use mathlib.Core.List.{List, [], _∷_, _++_}
 use Prim.Native.Nat.{ℕ}
-use lib.ListN.{take, set}
+use lib.ListN.{take, set, replicate}
 use Rattle.ring.specs.Distance.{fallOf, signedOf, absDistOf, risesTo, nearer, leftCoverOf, rightCoverOf, coversKey}
 use Rattle.marks.specs.Marks.{has, gather, tally, allTo, union, meet, without, addOf, removeOf, sizeOf, listed}
+use Rattle.rules.specs.declared.Node.{Node}
+use Rattle.rules.specs.declared.Status.the-variants.{Wait, Ready}
 use Rattle.rules.specs.Fits.{numbersFit, idFits, sideFits, leafFits, othersFit, nodeFits, isBlank, slotFits}
 use Rattle.rules.specs.Fits.{wordFits, flagFits, carriedFits, ownerFits, routingFits, failedFits, fieldsFit, messageFits}
 use Rattle.rules.specs.Closest.{closest}
-use Rattle.rules.specs.Hop.{leafCandidates, routeCandidates, byLeaf, leafHop, routeHop, nextHop}
+use Rattle.rules.specs.Hop.{leafCandidates, routeCandidates, byLeaf, leafHop, routeHop, nextHop, viaOf}
 use Rattle.rules.specs.Leaf.{contentOf, seenFrom, leafWith, overlaps, coversOf}
 use Rattle.rules.specs.Letters.{lookup}
 use Rattle.rules.specs.Mail.{alike, allDifferent, firstFrom, firstEqual, added, removedAt, sentTo}
-use Rattle.rules.specs.Nodes.{placed}
+use Rattle.rules.specs.Nodes.{noNode, placed}
 use Rattle.rules.specs.Pick.{best}
 use Rattle.rules.specs.Plans.{mailed}
 use Rattle.rules.specs.Pool.{laid}
 use Rattle.rules.specs.Take.{planDeliver, planForward}
 use Rattle.table.specs.Settle.{carriedOut, settle}
 use Rattle.table.specs.Settled.{deadSet}
+use Rattle.table_type.specs.declared.Table.{Table}
 use Rattle.table_type.specs.Start.{startNode, startNodes, startTable, slotsTo}
 use Rattle.table.specs.Step.{isSound, stepOf}
 use Rattle.table.specs.Valid.{nodesFit, messagesFit, poolFits, validOf}
@@ -36,7 +39,7 @@ opened : Unit {0}
 unfolding listingOf loadOf headerFits offsetsFit statusesFit fileTable filePool partPool decode decodeAll numberOf decimal decimalTo lineOf linesOf
     followOf tripOf validOf numbersFit nodesFit slotFits idFits nodeFits leafFits sideFits othersFit isBlank listed sizeOf tally has allTo
     poolFits messagesFit messageFits fieldsFit wordFits flagFits carriedFits ownerFits routingFits failedFits allDifferent alike stepOf isSound
-    settle carriedOut mailed sentTo planDeliver planForward coversOf seenFrom best coversKey leftCoverOf rightCoverOf fallOf nextHop byLeaf
+    settle carriedOut mailed sentTo planDeliver planForward coversOf seenFrom best coversKey leftCoverOf rightCoverOf fallOf nextHop viaOf byLeaf
     overlaps meet gather leafHop routeHop leafCandidates routeCandidates contentOf union addOf without removeOf nearer absDistOf signedOf
     risesTo deadSet firstEqual firstFrom added removedAt
 opened = tt
@@ -66,11 +69,11 @@ pub worked-written : fileOf (startTable 8 1 4 (17 ∷ 18 ∷ 65 ∷ 95 ∷ []) 1
 unfolding workedFile opened fileOf encode encodeAll bytesOf startNodes startNode slotsTo leafWith closest
 worked-written = refl
 
--- `80 17 65 2` and `200 65 17 2`
+-- `80 17 65 2 ll` and `200 65 17 2 ll`
 pub worked : listingOf workedFile
     ≡ headline
-    ++ (56 ∷ 48 ∷ 32 ∷ 49 ∷ 55 ∷ 32 ∷ 54 ∷ 53 ∷ 32 ∷ 50 ∷ 10 ∷
-    50 ∷ 48 ∷ 48 ∷ 32 ∷ 54 ∷ 53 ∷ 32 ∷ 49 ∷ 55 ∷ 32 ∷ 50 ∷ 10 ∷ [])
+    ++ (56 ∷ 48 ∷ 32 ∷ 49 ∷ 55 ∷ 32 ∷ 54 ∷ 53 ∷ 32 ∷ 50 ∷ 32 ∷ 108 ∷ 108 ∷ 10 ∷
+    50 ∷ 48 ∷ 48 ∷ 32 ∷ 54 ∷ 53 ∷ 32 ∷ 49 ∷ 55 ∷ 32 ∷ 50 ∷ 32 ∷ 108 ∷ 108 ∷ 10 ∷ [])
 unfolding workedFile opened
 worked = refl
 
@@ -98,3 +101,40 @@ longer = refl
 pub strange : listingOf (set workedFile 36 4) ≡ refusedWord ++ (49 ∷ 48 ∷ 10 ∷ [])
 unfolding workedFile opened
 strange = refl
+
+-- ---- T-01: a table in which the routing set decides
+
+-- by id, left and right, with every node but that of slot 3 in the routing set
+abbrev ready : ℕ → ℕ → ℕ → Node
+ready id left right =
+    record { id = id; status = Ready; left = left; right = right; probing = 0; failed = 0; routing = 23; lease = 31; grant = 31 }
+
+-- on ids 0, 40, 100, 110, 200, node 0 has 200 on its left and 40 on its right: by content and routing set. 110 waits
+abbrev far : Table
+far =
+    record {
+      m = 8;
+      l = 1;
+      n = 5;
+      nodes =
+          ready 0 16 2 ∷ ready 40 4 1 ∷ ready 100 16 2
+          ∷ record { id = 110; status = Wait; left = 0; right = 0; probing = 0; failed = 0; routing = 8; lease = 0; grant = 0 }
+          ∷ ready 200 1 4 ∷ replicate 59 noNode;
+    }
+
+abbrev line : ℕ → ℕ → List ℕ
+line k d = lineOf far (placed (lookup k) d)
+
+pub record Letters : Type 0 where
+  -- `105 0 100 1 r`
+  pub by-routing : line 105 0 ≡ 49 ∷ 48 ∷ 53 ∷ 32 ∷ 48 ∷ 32 ∷ 49 ∷ 48 ∷ 48 ∷ 32 ∷ 49 ∷ 32 ∷ 114 ∷ 10 ∷ []
+  -- `105 40 100 1 l`
+  pub by-leaf : line 105 1 ≡ 49 ∷ 48 ∷ 53 ∷ 32 ∷ 52 ∷ 48 ∷ 32 ∷ 49 ∷ 48 ∷ 48 ∷ 32 ∷ 49 ∷ 32 ∷ 108 ∷ 10 ∷ []
+  -- `5 0 0 0 -`, delivered where it waits
+  pub at-once : line 5 0 ≡ 53 ∷ 32 ∷ 48 ∷ 32 ∷ 48 ∷ 32 ∷ 48 ∷ 32 ∷ 45 ∷ 10 ∷ []
+  -- `5 110 - 0 -`, where the node is not ready
+  pub refused : line 5 3 ≡ 53 ∷ 32 ∷ 49 ∷ 49 ∷ 48 ∷ 32 ∷ 45 ∷ 32 ∷ 48 ∷ 32 ∷ 45 ∷ 10 ∷ []
+
+pub letters : Letters
+unfolding opened
+letters = record { by-routing = refl; by-leaf = refl; at-once = refl; refused = refl }

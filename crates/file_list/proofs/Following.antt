@@ -1,14 +1,14 @@
 -- Following a lookup by the rules alone, with no pool and no validity test at each hop (`followTo`), is following it by the real step
 -- (`trip-is`). The idea: a valid table with the one lookup is valid, what the pair does with it is one of four (`does`), and each leaves the table as it was.
--- What a listing says is then tied to the steps made: `Travels` is a journey of real steps, `follow-travels` says that the listing's numbers
--- are those of one, and `travels-follow` that no other numbers are. The measure: how many listed nodes are nearer to the key than the holder
+-- What a listing says is then tied to the steps made: `Travels` is a journey of real steps, `follow-travels` says that the listing's numbers and
+-- letters are those of one, and `travels-follow` that no others are. The measure: how many listed nodes are nearer to the key than the holder
 -- (crate lookup_laws). Assumes nothing.
 use mathlib.Core.Path.{_≡_, refl, sym, _∙_}
 use mathlib.Core.Bool.{Bool, true, false, cond, not}
-use mathlib.Core.List.{[], _∷_}
+use mathlib.Core.List.{List, [], _∷_, _++_, append-assoc, append-nil}
 use Prim.Native.Nat.{ℕ, zero, suc, _+_, _-_, _^_, _<_, _≤_}
 use native.Mathlib.Omega.{arith}
-use native.Mathlib.Nat.{zero-add, add-zero}
+use lib.ListN.{length}
 use lib.Seq.{set-getD}
 use Rattle.marks.specs.Marks.{allTo}
 use Rattle.marks.specs.declared.Found.{Found}
@@ -19,11 +19,14 @@ use Rattle.rules.specs.declared.Message.{Message}
 use Rattle.rules.specs.declared.Pool.{Pool}
 use Rattle.rules.specs.declared.Action.the-variants.{Deliver, Forward}
 use Rattle.rules.specs.declared.Refusal.the-variants as no
+use Rattle.rules.specs.declared.Via.{Via}
+use Rattle.rules.specs.declared.Via.the-variants.{Unrouted}
 use Rattle.rules.specs.InnerAsks.{Listed, Below}
 use Rattle.rules.specs.Fits.{messageFits}
 use Rattle.rules.specs.Letters.{lookup, noLegalRoute}
 use Rattle.rules.specs.Mail.{firstFrom, firstEqual, added, removedAt, allDifferent}
 use Rattle.rules.specs.Nodes.{placed}
+use Rattle.rules.specs.Numbers.{viaNumber}
 use Rattle.rules.specs.Plans.{isReady}
 use Rattle.rules.specs.Pool.{laid, messageAt}
 use Rattle.rules.specs.Take.{planDeliver, planForward}
@@ -31,21 +34,20 @@ use Rattle.pool.proofs.Laws.{mailed-quiet, mailed-send}
 use Rattle.table_type.specs.declared.Table.{Table}
 use Rattle.table_type.specs.declared.Stepped.{Stepped}
 use Rattle.table_type.specs.Table.{nodeAt, ringOf, idsOf}
-use Rattle.table.specs.Settle.{refusedOf, doneOf, carriedOut, settle}
+use Rattle.table.specs.Settle.{refusedOf, doneBy, doneOf, carriedOut, settle}
 use Rattle.table.specs.Step.{isSound, stepOf}
 use Rattle.table.specs.Valid.{validOf}
 use Rattle.table.proofs.Letters.{lookup-fits}
 use Rattle.table.proofs.Obeys.{Obeys, obeys}
 use Rattle.table.proofs.Sound.{Sound, sound, sound-valid}
 use Rattle.lookup_laws.specs.Claims.{Nearer}
-use Rattle.lookup_laws.specs.Fates.{coversAt, hopAt}
+use Rattle.lookup_laws.specs.Fates.{coversAt, hopAt, viaAt}
 use Rattle.lookup_laws.proofs.Tracks.{deliverAt, forwardAt}
 use Rattle.lookup_laws.proofs.Routings.{nearerListed, hop-nearer, nearer-falls, nearer-few}
-use Rattle.file_list.specs.declared.Trip.{Trip}
 use Rattle.file_list.specs.declared.Turn.{Turn}
 use Rattle.file_list.specs.declared.Turn.the-variants.{Delivers, Stops, Goes}
-use Rattle.file_list.specs.Trip.{ended, tripOf, followOf}
-use Rattle.file_list.specs.InnerFollow.{turnBy, turnOf, turnAt}
+use Rattle.file_list.specs.Trip.{Trip, ended, tripOf, followOf}
+use Rattle.file_list.specs.InnerFollow.{turnBy, turnOf, turnAt, letterAt}
 
 -- ---- a lookup that waits alone
 
@@ -95,17 +97,17 @@ pub record Halts (t : Table) (m : Message) : Type 0 where
   pub kept : delivered t m ≡ refusedOf t (only m) no.Status
   pub stuck : forwarded t m ≡ refusedOf t (only m) no.Status
 
--- Forward is done, Deliver not, and this message waits
-pub record Passes (t : Table) (m next : Message) : Type 0 where
+-- Forward is done and says this of the hop, Deliver not, and this message waits
+pub record Passes (t : Table) (m : Message) (via : Via) (next : Message) : Type 0 where
   pub kept : delivered t m ≡ refusedOf t (only m) no.Partner
-  pub goes : forwarded t m ≡ doneOf t (only next)
+  pub goes : forwarded t m ≡ doneBy via t (only next)
 
 -- and by the steps; the table stays as it was
 pub data Does (t : Table) (m : Message) : Turn → Type 0 where
   stops : Halts t m → Does t m Stops
   delivers : delivered t m ≡ doneOf t (laid []) → Does t m Delivers
-  strands : Passes t m (placed (noLegalRoute (m .word)) (m .dest)) → Does t m Stops
-  routes : (h : ℕ) → hopAt t (m .dest) (m .word) ≡ To h → Passes t m (placed (lookup (m .word)) h) → Does t m (Goes h)
+  strands : Passes t m Unrouted (placed (noLegalRoute (m .word)) (m .dest)) → Does t m Stops
+  routes : (h : ℕ) → hopAt t (m .dest) (m .word) ≡ To h → Passes t m (viaAt t (m .dest) h) (placed (lookup (m .word)) h) → Does t m (Goes h)
 
 stops-goes : {h : ℕ} → Stops ≡ Goes h → ⊥
 stops-goes q = let z : _≡_ {A = ℕ} 0 1 = cc in omega arith
@@ -195,78 +197,85 @@ module _ {t : Table} {m : Message} (l : Lone t m) where
 -- ---- following by the rules alone
 
 -- it ends at slot i, delivered or not, or goes on from another slot
-abbrev pub onward : Turn → ℕ → ℕ → (ℕ → Trip) → Trip
-onward Delivers i hops rest = ended (At i) hops
-onward Stops i hops rest = ended Nothing hops
-onward (Goes h) i hops rest = rest h
+abbrev pub onward : Turn → ℕ → List ℕ → (ℕ → Trip) → Trip
+onward Delivers i letters rest = ended (At i) letters
+onward Stops i letters rest = ended Nothing letters
+onward (Goes h) i letters rest = rest h
+
+-- one letter more, of the routing from slot i to h
+abbrev pub lettered : Table → ℕ → ℕ → List ℕ → List ℕ
+lettered t i h letters = letters ++ (letterAt t i h ∷ [])
 
 -- by at most so many slots, from slot i
-unfoldable pub followTo : ℕ → Table → ℕ → ℕ → ℕ → Trip
-followTo zero t k i hops = ended Nothing hops
-followTo (suc slots) t k i hops = onward (turnAt t k i) i hops (λ h. followTo slots t k h (hops + 1))
+unfoldable pub followTo : ℕ → Table → ℕ → ℕ → List ℕ → Trip
+followTo zero t k i letters = ended Nothing letters
+followTo (suc slots) t k i letters = onward (turnAt t k i) i letters (λ h. followTo slots t k h (lettered t i h letters))
 
 -- one turn of 64, and none
-pub turn : (t : Table) (k i hops : ℕ) → hops < 64
-    → followTo (64 - hops) t k i hops ≡ onward (turnAt t k i) i hops (λ h. followTo (64 - (hops + 1)) t k h (hops + 1))
+pub turn : (t : Table) (k i hops : ℕ) (letters : List ℕ) → hops < 64
+    → followTo (64 - hops) t k i letters ≡ onward (turnAt t k i) i letters (λ h. followTo (64 - (hops + 1)) t k h (lettered t i h letters))
 unfolding followTo
-turn t k i hops h = let e : 64 - hops ≡ suc (64 - (hops + 1)) = omega arith in rw e
+turn t k i hops letters h = let e : 64 - hops ≡ suc (64 - (hops + 1)) = omega arith in rw e
 
-pub turn-none : (t : Table) (k i hops : ℕ) → 64 ≤ hops → followTo (64 - hops) t k i hops ≡ ended Nothing hops
+pub turn-none : (t : Table) (k i hops : ℕ) (letters : List ℕ) → 64 ≤ hops → followTo (64 - hops) t k i letters ≡ ended Nothing letters
 unfolding followTo
-turn-none t k i hops h = let e : 64 - hops ≡ 0 = omega arith in rw e
+turn-none t k i hops letters h = let e : 64 - hops ≡ 0 = omega arith in rw e
 
 -- it is following by the step
-pub trip-is : (n : ℕ) {t : Table} {m : Message} → Lone t m → (hops : ℕ) → tripOf n t (only m) hops ≡ followTo n t (m .word) (m .dest) hops
+pub trip-is : (n : ℕ) {t : Table} {m : Message} → Lone t m → (letters : List ℕ)
+    → tripOf n t (only m) letters ≡ followTo n t (m .word) (m .dest) letters
 unfolding tripOf followTo
-trip-is zero l hops = refl
-trip-is (suc n) {t} {m} l hops = go (turnAt t (m .word) (m .dest)) (does l) (λ h e. trip-is n (lone-routed l h e) (hops + 1))
+trip-is zero l letters = refl
+trip-is (suc n) {t} {m} l letters =
+    go (turnAt t (m .word) (m .dest)) (does l) (λ h e. trip-is n (lone-routed l h e) (lettered t (m .dest) h letters))
   where
     go : (x : Turn) → Does t m x
         → ((h : ℕ) → hopAt t (m .dest) (m .word) ≡ To h
-        → tripOf n t (only (placed (lookup (m .word)) h)) (hops + 1) ≡ followTo n t (m .word) h (hops + 1))
-        → tripOf (suc n) t (only m) hops ≡ onward x (m .dest) hops (λ h. followTo n t (m .word) h (hops + 1))
+        → tripOf n t (only (placed (lookup (m .word)) h)) (lettered t (m .dest) h letters)
+        ≡ followTo n t (m .word) h (lettered t (m .dest) h letters))
+        → tripOf (suc n) t (only m) letters
+        ≡ onward x (m .dest) letters (λ h. followTo n t (m .word) h (lettered t (m .dest) h letters))
     go x (stops s) on = rw (s .kept, s .stuck)
     go x (delivers s) on = rw s
     go x (strands s) on = rw (s .kept, s .goes)
     go x (routes h e s) on = rw (s .kept, s .goes) (on h e)
 
-pub follow-is : {t : Table} {m : Message} → Lone t m → followOf t m ≡ followTo 64 t (m .word) (m .dest) 0
+pub follow-is : {t : Table} {m : Message} → Lone t m → followOf t m ≡ followTo 64 t (m .word) (m .dest) []
 unfolding followOf
-follow-is l = trip-is 64 l 0
+follow-is l = trip-is 64 l []
 
 -- ---- the listing's numbers, by the steps made
 
--- the lookup m, delivered or forwarded as the only message of the table t, ends so: at the slot whose Deliver was done, or at none, after so
--- many Forwards to another node
-pub data Travels (t : Table) : Message → Found → ℕ → Type 0 where
+-- the lookup m, delivered or forwarded as the only message of the table t, ends so: at the slot whose Deliver was done, or at none, after the
+-- Forwards to another node, each with the letter that its answer says
+pub data Travels (t : Table) : Message → Found → List ℕ → Type 0 where
   -- refused by a node that is not ready
-  stopped : {m : Message} → Halts t m → Travels t m Nothing 0
+  stopped : {m : Message} → Halts t m → Travels t m Nothing []
   -- delivered: nothing waits
-  arrived : {m : Message} → delivered t m ≡ doneOf t (laid []) → Travels t m (At (m .dest)) 0
+  arrived : {m : Message} → delivered t m ≡ doneOf t (laid []) → Travels t m (At (m .dest)) []
   -- no legal route: NoLegalRoute waits
-  stranded : {m : Message} → Passes t m (placed (noLegalRoute (m .word)) (m .dest)) → Travels t m Nothing 0
+  stranded : {m : Message} → Passes t m Unrouted (placed (noLegalRoute (m .word)) (m .dest)) → Travels t m Nothing []
   -- forwarded: the same Lookup waits at another slot
-  routed : {m : Message} {h hops : ℕ} {end : Found} → Passes t m (placed (lookup (m .word)) h)
-      → Travels t (placed (lookup (m .word)) h) end hops → Travels t m end (suc hops)
+  routed : {m : Message} {h : ℕ} {via : Via} {end : Found} {letters : List ℕ} → Passes t m via (placed (lookup (m .word)) h)
+      → Travels t (placed (lookup (m .word)) h) end letters → Travels t m end (viaNumber via ∷ letters)
 
 -- whatever such a journey is, following tells it
-pub travels-trip : {t : Table} {m : Message} {end : Found} {count : ℕ} → Travels t m end count → (n hops : ℕ) → count < n
-    → tripOf n t (only m) hops ≡ ended end (hops + count)
+pub travels-trip : {t : Table} {m : Message} {end : Found} {more : List ℕ} → Travels t m end more → (n : ℕ) (letters : List ℕ) → length more < n
+    → tripOf n t (only m) letters ≡ ended end (letters ++ more)
 unfolding tripOf
-travels-trip w zero hops h = absurd (omega arith)
-travels-trip (stopped e) (suc n) hops h = rw (e .kept, e .stuck, add-zero)
-travels-trip (arrived e) (suc n) hops h = rw (e, add-zero)
-travels-trip (stranded e) (suc n) hops h = rw (e .kept, e .goes, add-zero)
-travels-trip (routed {hops = c} e w) (suc n) hops h =
-    let sum : hops + suc c ≡ hops + 1 + c = omega arith in
-    rw (e .kept, e .goes, sum) (travels-trip w n (hops + 1) (omega arith))
+travels-trip w zero letters h = absurd (omega arith)
+travels-trip (stopped e) (suc n) letters h = rw (e .kept, e .stuck, append-nil letters)
+travels-trip (arrived e) (suc n) letters h = rw (e, append-nil letters)
+travels-trip (stranded e) (suc n) letters h = rw (e .kept, e .goes, append-nil letters)
+travels-trip (routed {via = via} {letters = more} e w) (suc n) letters h =
+    rw (e .kept, e .goes) (travels-trip w n (letters ++ (viaNumber via ∷ [])) (omega arith) ∙ rw append-assoc)
 
 -- a journey, routed at most as often as listed nodes are nearer to the key
 record Journey (t : Table) (m : Message) : Type 0 where
   end : Found
-  hops : ℕ
-  travels : Travels t m end hops
-  few : hops ≤ nearerListed t (m .word) (m .dest)
+  letters : List ℕ
+  travels : Travels t m end letters
+  few : length letters ≤ nearerListed t (m .word) (m .dest)
   below : Below end (t .n)
 
 journey-in : (n : ℕ) {t : Table} {m : Message} → Lone t m → nearerListed t (m .word) (m .dest) < n → Journey t m
@@ -274,8 +283,8 @@ journey-in zero l f = absurd (omega arith)
 journey-in (suc n) {t} {m} l f =
     go (turnAt t (m .word) (m .dest)) (does l) (λ h e. journey-in n (lone-routed l h e) (omega (arith, routed-falls l h e)))
   where
-    ends : (e : Found) → Below e (t .n) → Travels t m e 0 → Journey t m
-    ends e b w = record { end = e; hops = 0; travels = w; few = omega arith; below = b }
+    ends : (e : Found) → Below e (t .n) → Travels t m e [] → Journey t m
+    ends e b w = record { end = e; letters = []; travels = w; few = omega arith; below = b }
 
     go : (x : Turn) → Does t m x → ((h : ℕ) → hopAt t (m .dest) (m .word) ≡ To h → Journey t (placed (lookup (m .word)) h)) → Journey t m
     go x (stops s) on = ends Nothing tt (stopped s)
@@ -285,7 +294,7 @@ journey-in (suc n) {t} {m} l f =
         let j = on h e in
         record {
           end = j .end;
-          hops = suc (j .hops);
+          letters = letterAt t (m .dest) h ∷ j .letters;
           travels = routed s (j .travels);
           few = omega (arith, j .few, routed-falls l h e);
           below = j .below;
@@ -295,30 +304,29 @@ module _ {t : Table} {m : Message} (l : Lone t m) where
   journey : Journey t m
   journey = journey-in (suc (nearerListed t (m .word) (m .dest))) l (omega arith)
 
-  journey-few : journey .hops < t .n
+  journey-few : length (journey .letters) < t .n
   journey-few = omega (arith, journey .few, nearer-few (t .m) (t .n) (idsOf t) (m .word) (m .dest) (lone-slot l))
 
   -- 64 slots are enough
-  journey-told : followOf t m ≡ ended (journey .end) (journey .hops)
+  journey-told : followOf t m ≡ ended (journey .end) (journey .letters)
   unfolding followOf
   journey-told =
-      let few : journey .hops < 64 = omega (arith, journey-few, lone-listed l .n-high) in
-      travels-trip (journey .travels) 64 0 few ∙ rw zero-add
+      let few : length (journey .letters) < 64 = omega (arith, journey-few, lone-listed l .n-high) in
+      travels-trip (journey .travels) 64 [] few
 
-  -- `to` is the slot whose Deliver was done, and hops the Forwards to another node
-  pub follow-travels : Travels t m (followOf t m .end) (followOf t m .hops)
+  -- `to` is the slot whose Deliver was done, and the letters are those of the Forwards to another node
+  pub follow-travels : Travels t m (followOf t m .end) (followOf t m .letters)
   follow-travels = rw journey-told (journey .travels)
 
   -- and no other journey of it is told
-  pub travels-follow : (end : Found) (hops : ℕ) → Travels t m end hops → followOf t m ≡ ended end hops
-  travels-follow end hops w =
-      let n = suc (hops + journey .hops) in
-      let told : tripOf n t (only m) 0 ≡ ended (journey .end) (journey .hops) =
-      travels-trip (journey .travels) n 0 (omega arith) ∙ rw zero-add in
-      journey-told ∙ sym told ∙ travels-trip w n 0 (omega arith) ∙ rw zero-add
+  pub travels-follow : (end : Found) (letters : List ℕ) → Travels t m end letters → followOf t m ≡ ended end letters
+  travels-follow end letters w =
+      let n = suc (length letters + length (journey .letters)) in
+      let told : tripOf n t (only m) [] ≡ ended (journey .end) (journey .letters) = travels-trip (journey .travels) n [] (omega arith) in
+      journey-told ∙ sym told ∙ travels-trip w n [] (omega arith)
 
   -- it is routed at most n - 1 times
-  pub follow-few : followOf t m .hops < t .n
+  pub follow-few : length (followOf t m .letters) < t .n
   follow-few = rw journey-told journey-few
 
   pub follow-below : Below (followOf t m .end) (t .n)

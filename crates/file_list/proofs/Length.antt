@@ -48,15 +48,15 @@ refusal-short why = decimal-word (refusalNumber why) (small why)
     small no.Invalid = omega arith
     small no.NoRoom = omega arith
 
-pub print-short : (s : Stepped) → Loaded s → length (printOf s) ≤ 17 + 256 * 36
+pub print-short : (s : Stepped) → Loaded s → length (printOf s) ≤ 21 + 256 * 100
 print-short s v = go (s .answer) refl
   where
-    go : (a : Answer) → s .answer ≡ a → length (printed a s) ≤ 17 + 256 * 36
+    go : (a : Answer) → s .answer ≡ a → length (printed a s) ≤ 21 + 256 * 100
     go Done e =
         omega (arith, sound (s .table) (s .pool) (v .valid e) .counted, lines-short (s .table) (s .pool) (v .valid e) (s .pool .count) (omega arith))
     go (Refused why) e = simp length-append (omega (arith, refusal-short why))
 
-pub listing-short : (bs : List ℕ) → length (listingOf bs) ≤ 17 + 256 * 36
+pub listing-short : (bs : List ℕ) → length (listingOf bs) ≤ 21 + 256 * 100
 unfolding listingOf
 listing-short bs = print-short (loadOf bs noTable (laid []) 256) (loaded bs noTable (laid []) 256)
 

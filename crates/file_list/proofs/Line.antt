@@ -14,6 +14,6 @@ end-is : (t : Table) (end : Found) → endIn (idsOf t) end ≡ endText t end
 end-is t (At e) = rw (ids-at (t .nodes) e)
 end-is t Nothing = refl
 
-pub line-is : (t : Table) (m : Message) → lineIn (idsOf t) m (followOf t m) ≡ lineOf t m
+pub line-is : (t : Table) (m : Message) → let trip = followOf t m in lineIn (idsOf t) m (trip .end) (trip .letters) ≡ lineOf t m
 unfolding lineOf
 line-is t m = rw (ids-at (t .nodes) (m .dest), end-is t (followOf t m .end))

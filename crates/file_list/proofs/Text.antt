@@ -1,5 +1,5 @@
--- How long the parts of a listing are, and how its lines follow from one another. A line has at most 36 bytes: its keys and ids are below 2^32,
--- and a lookup is routed fewer than 64 times. By induction on the messages. Assumes nothing.
+-- How long the parts of a listing are, and how its lines follow from one another. A line has at most 100 bytes: its keys and ids are below 2^32,
+-- and a lookup is routed fewer than 64 times, with a letter each time. By induction on the messages. Assumes nothing.
 use mathlib.Core.Path.{_≡_, refl, _∙_}
 use mathlib.Core.Bool.{Bool, true, false, cond}
 use mathlib.Core.List.{List, [], _∷_, _++_, append-assoc, append-nil}
@@ -25,7 +25,7 @@ use Rattle.table_type.specs.Table.{nodeAt}
 use Rattle.table_type.proofs.IdLaws.{ids-at}
 use Rattle.table.specs.Valid.{validOf}
 use Rattle.file_list.specs.Trip.{followOf}
-use Rattle.file_list.specs.Print.{endText, lineOf, linesOf}
+use Rattle.file_list.specs.Print.{endText, viaText, lineOf, linesOf}
 use Rattle.file_list.proofs.Following.{Lone, lone, lone-listed, lone-slot, lone-key, follow-few, follow-below}
 
 -- ---- a line
@@ -34,9 +34,15 @@ use Rattle.file_list.proofs.Following.{Lone, lone, lone-listed, lone-sl
 pub line-length : (t : Table) (m : Message)
     → length (lineOf t m)
     ≡ length (decimal (m .word)) + 1 + (length (decimal (nodeAt t (m .dest) .id)) + 1)
-    + (length (endText t (followOf t m .end)) + 1 + (length (decimal (followOf t m .hops)) + 1))
+    + (length (endText t (followOf t m .end)) + 1
+    + (length (decimal (length (followOf t m .letters))) + 1 + (length (viaText (followOf t m .letters)) + 1)))
 unfolding lineOf
 line-length t m = simp length-append (omega arith)
+
+-- at least one byte, and else as many as letters
+via-short : (letters : List ℕ) → length letters < 64 → length (viaText letters) ≤ 63
+via-short [] h = omega arith
+via-short (x ∷ xs) h = omega arith
 
 module _ {t : Table} {m : Message} (l : Lone t m) where
   -- a number of the ring is a word
@@ -52,7 +58,10 @@ module _ {t : Table} {m : Message} (l : Lone t m) where
   end-short (At e) h = id-short e h
   end-short Nothing h = omega arith
 
-  pub line-short : length (lineOf t m) ≤ 36
+  letters-few : length (followOf t m .letters) < 64
+  letters-few = omega (arith, follow-few l, lone-listed l .n-high)
+
+  pub line-short : length (lineOf t m) ≤ 100
   line-short =
       omega (
         arith,
@@ -60,7 +69,8 @@ module _ {t : Table} {m : Message} (l : Lone t m) where
         decimal-word (m .word) (ring-word (m .word) (lone-key l)),
         id-short (m .dest) (lone-slot l),
         end-short (followOf t m .end) (follow-below l),
-        decimal-few 1 (followOf t m .hops) (omega (arith, follow-few l, lone-listed l .n-high)),
+        decimal-few 1 (length (followOf t m .letters)) (omega (arith, letters-few)),
+        via-short (followOf t m .letters) letters-few,
       )
 
 -- ---- lines
@@ -94,14 +104,14 @@ lines-more t ms q h = rw add-one (lines-suc t ms q h)
 abbrev Loners : Table → List Message → Type 0
 Loners t ms = (q : ℕ) → q < length ms → getD ms q blank .kind ≡ 1 → Lone t (getD ms q blank)
 
-line-if-short : (t : Table) (m : Message) → (m .kind ≡ 1 → Lone t m) → length (lineIf t m) ≤ 36
+line-if-short : (t : Table) (m : Message) → (m .kind ≡ 1 → Lone t m) → length (lineIf t m) ≤ 100
 line-if-short t m l = go (eqb (m .kind) 1) refl
   where
-    go : (b : Bool) → eqb (m .kind) 1 ≡ b → length (cond b (lineOf t m) []) ≤ 36
+    go : (b : Bool) → eqb (m .kind) 1 ≡ b → length (cond b (lineOf t m) []) ≤ 100
     go true e = line-short (l (eqb-true (m .kind) 1 e))
     go false e = omega arith
 
-all-short : (t : Table) (ms : List Message) → Loners t ms → length (linesOf t ms) ≤ 36 * length ms
+all-short : (t : Table) (ms : List Message) → Loners t ms → length (linesOf t ms) ≤ 100 * length ms
 unfolding linesOf
 all-short t [] l = omega arith
 all-short t (m ∷ ms) l =
@@ -110,7 +120,7 @@ all-short t (m ∷ ms) l =
 
 -- of the first messages of a valid table
 pub lines-short : (t : Table) (p : Pool) → validOf t p ≡ true → (q : ℕ) → q ≤ p .count
-    → length (linesOf t (take q (p .places))) ≤ 36 * q
+    → length (linesOf t (take q (p .places))) ≤ 100 * q
 lines-short t p v q h =
     let few = length-take q (p .places) in
     omega (

@@ -1,4 +1,4 @@
--- What comes next for a lookup at a node, by the rules alone. Definitions only. Assumes nothing.
+-- What comes next for a lookup at a node, and with which letter, by the rules alone. Definitions only. Assumes nothing.
 use mathlib.Core.Bool.{cond, not}
 use mathlib.Core.List.{List}
 use Prim.Native.Nat.{ℕ}
@@ -6,9 +6,10 @@ use Rattle.rules.specs.declared.Hop.{Hop}
 use Rattle.rules.specs.declared.Hop.the-variants.{To, NoRoute}
 use Rattle.rules.specs.declared.Node.{Node}
 use Rattle.rules.specs.declared.Ring.{Ring}
-use Rattle.rules.specs.Hop.{nextHop}
+use Rattle.rules.specs.Hop.{nextHop, viaOf}
 use Rattle.rules.specs.Leaf.{coversOf}
 use Rattle.rules.specs.Nodes.{sidesOf}
+use Rattle.rules.specs.Numbers.{viaNumber}
 use Rattle.rules.specs.Plans.{isReady}
 use Rattle.table_type.specs.declared.Table.{Table}
 use Rattle.table_type.specs.Table.{nodeAt, ringOf, idsOf}
@@ -28,3 +29,7 @@ turnOf g ids dead i v k =
 
 abbrev pub turnAt : Table → ℕ → ℕ → Turn
 turnAt t k i = turnOf (ringOf t) (idsOf t) (deadSet t) i (nodeAt t i) k
+
+-- the letter of the routing from slot i to h
+abbrev pub letterAt : Table → ℕ → ℕ → ℕ
+letterAt t i h = viaNumber (viaOf i (nodeAt t i) h)

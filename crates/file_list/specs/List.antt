@@ -12,7 +12,7 @@ use Rattle.file_list.specs.Print.{listingOf}
 
 -- 11 for a buffer of fewer bytes than this, which is more than any listing has
 abbrev pub room : ℕ
-room = 16384
+room = 65536
 
 unfoldable pub listOf : List ℕ → List ℕ → Wrote
 listOf file out = cond (ltb (length out) room) (notWritten no.NoRoom) (record { answer = Done; count = length (listingOf file) })

@@ -3,6 +3,7 @@ use mathlib.Core.Bool.{cond}
 use mathlib.Core.List.{List, [], _∷_, _++_}
 use Prim.Native.Nat.{ℕ}
 use lib.Dec.{eqb}
+use lib.ListN.{length}
 use Rattle.marks.specs.declared.Found.{Found}
 use Rattle.marks.specs.declared.Found.the-variants.{At, Nothing}
 use Rattle.rules.specs.declared.Message.{Message}
@@ -16,8 +17,7 @@ use Rattle.table_type.specs.Start.{noTable}
 use Rattle.table_type.specs.Table.{nodeAt}
 use Rattle.file.specs.Load.{loadOf}
 use Rattle.text.specs.Decimal.{decimal}
-use Rattle.file_list.specs.declared.Trip.{Trip}
-use Rattle.file_list.specs.Trip.{followOf}
+use Rattle.file_list.specs.Trip.{Trip, followOf}
 
 abbrev pub space : ℕ
 space = 32
@@ -25,9 +25,10 @@ space = 32
 abbrev pub newline : ℕ
 newline = 10
 
--- `key from to hops`
+-- `key from to hops via`
 abbrev pub headline : List ℕ
-headline = 107 ∷ 101 ∷ 121 ∷ 32 ∷ 102 ∷ 114 ∷ 111 ∷ 109 ∷ 32 ∷ 116 ∷ 111 ∷ 32 ∷ 104 ∷ 111 ∷ 112 ∷ 115 ∷ 10 ∷ []
+headline =
+    107 ∷ 101 ∷ 121 ∷ 32 ∷ 102 ∷ 114 ∷ 111 ∷ 109 ∷ 32 ∷ 116 ∷ 111 ∷ 32 ∷ 104 ∷ 111 ∷ 112 ∷ 115 ∷ 32 ∷ 118 ∷ 105 ∷ 97 ∷ 10 ∷ []
 
 -- `refused `
 abbrev pub refusedWord : List ℕ
@@ -38,11 +39,19 @@ abbrev pub endText : Table → Found → List ℕ
 endText t (At e) = decimal (nodeAt t e .id)
 endText t Nothing = 45 ∷ []
 
--- key; id where it waits; id that delivers it, or `-`; routings made
+-- a last column `via`, one letter for each routing, or `-` when hops is 0
+abbrev pub viaText : List ℕ → List ℕ
+viaText [] = 45 ∷ []
+viaText (x ∷ xs) = x ∷ xs
+
+-- routings made, and their letters
+abbrev pub hopsText : List ℕ → List ℕ
+hopsText letters = decimal (length letters) ++ (space ∷ (viaText letters ++ (newline ∷ [])))
+
+-- key; id where it waits; id that delivers it, or `-`; routings made; their letters
 abbrev pub lineWith : Table → Message → Trip → List ℕ
 lineWith t m trip =
-    decimal (m .word)
-    ++ (space ∷ (decimal (nodeAt t (m .dest) .id) ++ (space ∷ (endText t (trip .end) ++ (space ∷ (decimal (trip .hops) ++ (newline ∷ [])))))))
+    decimal (m .word) ++ (space ∷ (decimal (nodeAt t (m .dest) .id) ++ (space ∷ (endText t (trip .end) ++ (space ∷ hopsText (trip .letters))))))
 
 unfoldable pub lineOf : Table → Message → List ℕ
 lineOf t m = lineWith t m (followOf t m)

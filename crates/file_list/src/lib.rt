@@ -3,16 +3,17 @@ ghost use mathlib.Core.Path.{_≡_};
 ghost use mathlib.Core.Bool.{true};
 ghost use mathlib.Core.List.{[], _∷_, _++_};
 ghost use Prim.Native.Nat.{_+_, _*_, _^_, _<_, _≤_};
-ghost use lib.ListN.{length};
+ghost use lib.ListN.{length, take};
 ghost use Rattle.rules.specs.InnerAsks.{Listed, Below};
-ghost use Rattle.rules.specs.Numbers.{refusalNumber};
+ghost use Rattle.rules.specs.Hop.{viaOf};
+ghost use Rattle.rules.specs.Numbers.{refusalNumber, viaNumber};
 ghost use Rattle.rules.specs.Pool.{waiting};
 ghost use Rattle.table.specs.Valid.{validOf};
 ghost use Rattle.text.specs.Decimal.{decimal};
 ghost use Rattle.text.specs.InnerPrints.{Prints};
-ghost use Rattle.file_list.specs.Print.{headline, refusedWord, linesOf, printOf};
+ghost use Rattle.file_list.specs.Print.{headline, refusedWord, viaText, hopsText, linesOf, printOf};
 ghost use Rattle.file_list.specs.InnerFollow.{turnOf};
-ghost use Rattle.file_list.specs.InnerLine.{Ends, endIn, lineIn};
+ghost use Rattle.file_list.specs.InnerLine.{endIn, lineIn};
 ghost use Rattle.file_list.specs.List.{listOf, listedOf};
 ghost use Rattle.file_list.specs.InnerLoaded.{Loaded};
 use file::Wrote;
@@ -26,12 +27,6 @@ use rules::Refusal;
 use rules::Ring;
 use table_type::Stepped;
 use table_type::Table;
-
-// Where a lookup ended, if it was delivered, and how often it was routed.
-pub struct Trip {
-    pub end: Found,
-    pub hops: usize,
-}
 
 // What a node does with a lookup that it takes: delivers it, stops it (it is not ready, or there is no legal route), or routes it to
 // another slot.
@@ -60,6 +55,13 @@ fn turn_at(g: Ring, ids: &[u32; 64], dead: u64, i: usize, v: Node, k: u32) -> Tu
     }
 }
 
+// The letter of the routing from node i to h.
+fn letter_of(i: usize, v: Node, h: usize) -> u8
+    ensures { λ r. ⌜ r ≡ viaNumber (viaOf i v h) ⌝ }
+{
+    parts::via_number(hop::via_of(i, v, h)) as u8
+}
+
 // Writes the id of the slot that delivered a lookup, or `-`.
 fn put_end(b: &mut [u8], at: usize, ids: &[u32; 64], end: Found) -> usize
     requires { ⌜ Below end 64 × (at + length (endIn (now ids) end) ≤ length (now b)) ⌝ }
@@ -74,25 +76,53 @@ fn put_end(b: &mut [u8], at: usize, ids: &[u32; 64], end: Found) -> usize
     }
 }
 
-// Writes the line of a lookup that ended so.
-fn put_line(b: &mut [u8], at: usize, ids: &[u32; 64], m: Message, trip: Trip) -> usize
-    requires { ⌜ (m .dest < 64) × Ends trip × (at + length (lineIn (now ids) m trip) ≤ length (now b)) ⌝ }
-    ensures { λ r. ⌜ Prints (now (b .entry)) at (lineIn (now (ids .entry)) m trip) r (now (b .exit)) ⌝ }
+// Writes the letters of a lookup's routings, or `-` where there are none.
+fn put_via(b: &mut [u8], at: usize, letters: &[u8]) -> usize
+    requires { ⌜ at + length (viaText (now letters)) ≤ length (now b) ⌝ }
+    ensures { λ r. ⌜ Prints (now (b .entry)) at (viaText (now (letters .entry))) r (now (b .exit)) ⌝ }
+{
+    if letters.len() == 0 {
+        return text::put_byte(b, at, 45);
+    }
+    text::put_text(b, at, letters)
+}
+
+// Writes how often a lookup was routed, and the letters.
+fn put_hops(b: &mut [u8], at: usize, letters: &[u8]) -> usize
+    requires { ⌜ (length (now letters) < 64) × (at + length (hopsText (now letters)) ≤ length (now b)) ⌝ }
+    ensures { λ r. ⌜ Prints (now (b .entry)) at (hopsText (now (letters .entry))) r (now (b .exit)) ⌝ }
+{
+    let a1 = text::put_field(b, at, letters.len() as u32, 32);
+    let a2 = put_via(b, a1, letters);
+    text::put_byte(b, a2, 10)
+}
+
+// Writes the line of a lookup that ended so, routed `hops` times with these letters.
+fn put_line(
+    b: &mut [u8],
+    at: usize,
+    ids: &[u32; 64],
+    m: Message,
+    end: Found,
+    letters: &[u8],
+    hops: usize,
+) -> usize
+    requires { ⌜ (m .dest < 64) × Below end 64 × (hops < 64) × (hops ≤ length (now letters)) × (at + length (lineIn (now ids) m end (take hops (now letters))) ≤ length (now b)) ⌝ }
+    ensures { λ r. ⌜ Prints (now (b .entry)) at (lineIn (now (ids .entry)) m end (take hops (now (letters .entry)))) r (now (b .exit)) ⌝ }
 {
     let i = m.dest as usize;
     let own = ids[i];
-    let end = trip.end;
     let a1 = text::put_field(b, at, m.word, 32);
     let a2 = text::put_field(b, a1, own, 32);
     let a3 = put_end(b, a2, ids, end);
     let a4 = text::put_byte(b, a3, 32);
-    text::put_field(b, a4, trip.hops as u32, 10)
+    put_hops(b, a4, &letters[..hops])
 }
 
 // Follows each waiting lookup, in pool order, as the only message of the table, with no other step, and writes its line: by the rules alone, with no
 // pool and no test of validity at each hop. The table is looked at here alone, since a call for each lookup would copy it.
 fn follow(b: &mut [u8], start: usize, t: Table, p: Pool) -> usize
-    requires { ⌜ (validOf t p ≡ true) × (start + 36 * 256 ≤ length (now b)) ⌝ }
+    requires { ⌜ (validOf t p ≡ true) × (start + 100 * 256 ≤ length (now b)) ⌝ }
     ensures { λ r. ⌜ Prints (now (b .entry)) start (linesOf t (waiting p)) r (now (b .exit)) ⌝ }
 {
     let g = table_type::ring_of(t);
@@ -107,6 +137,7 @@ fn follow(b: &mut [u8], start: usize, t: Table, p: Pool) -> usize
             let from = m.dest as usize;
             let mut i = from;
             let mut hops: usize = 0;
+            let mut letters = [0u8; 64];
             let mut end = Found::Nothing;
             'hops: while hops < 64 {
                 let v = t.nodes[i];
@@ -118,12 +149,13 @@ fn follow(b: &mut [u8], start: usize, t: Table, p: Pool) -> usize
                     }
                     Turn::Stops => break 'hops,
                     Turn::Goes(h) => {
+                        letters[hops] = letter_of(i, v, h);
                         i = h;
                         hops += 1;
                     }
                 }
             }
-            at = put_line(b, at, &ids, m, Trip { end, hops });
+            at = put_line(b, at, &ids, m, end, &letters, hops);
         }
         q += 1;
     }
@@ -132,16 +164,16 @@ fn follow(b: &mut [u8], start: usize, t: Table, p: Pool) -> usize
 
 // Writes the listing of a loaded table: the header line, and the line of each waiting lookup.
 fn print(t: Table, p: Pool, out: &mut [u8]) -> usize
-    requires { ⌜ (validOf t p ≡ true) × (16384 ≤ length (now out)) ⌝ }
+    requires { ⌜ (validOf t p ≡ true) × (65536 ≤ length (now out)) ⌝ }
     ensures { λ r. ⌜ Prints (now (out .entry)) 0 (headline ++ linesOf t (waiting p)) r (now (out .exit)) ⌝ }
 {
-    let at = text::put_text(out, 0, b"key from to hops\n");
+    let at = text::put_text(out, 0, b"key from to hops via\n");
     follow(out, at, t, p)
 }
 
 // Writes the line of a refused file.
 fn put_refused(b: &mut [u8], why: Refusal) -> usize
-    requires { ⌜ 16384 ≤ length (now b) ⌝ }
+    requires { ⌜ 65536 ≤ length (now b) ⌝ }
     ensures { λ r. ⌜ Prints (now (b .entry)) 0 (refusedWord ++ (decimal (refusalNumber why) ++ (10 ∷ []))) r (now (b .exit)) ⌝ }
 {
     let number = parts::answer_number(Answer::Refused(why));
@@ -151,7 +183,7 @@ fn put_refused(b: &mut [u8], why: Refusal) -> usize
 
 // Writes the listing of what a load left.
 fn put_loaded(b: &mut [u8], s: Stepped) -> usize
-    requires { ⌜ Loaded s × (16384 ≤ length (now b)) ⌝ }
+    requires { ⌜ Loaded s × (65536 ≤ length (now b)) ⌝ }
     ensures { λ r. ⌜ Prints (now (b .entry)) 0 (printOf s) r (now (b .exit)) ⌝ }
 {
     let answer = s.answer;
@@ -162,11 +194,11 @@ fn put_loaded(b: &mut [u8], s: Stepped) -> usize
 }
 
 // Writes the listing of a file into the first bytes of a buffer, and tells how many: of a table file its header line and a line for each
-// waiting lookup, of any other file one line with the number of its refusal. 11 for a buffer of fewer than 16,384 bytes, which stays as it is.
+// waiting lookup, of any other file one line with the number of its refusal. 11 for a buffer of fewer than 65,536 bytes, which stays as it is.
 pub fn list(file: &[u8], out: &mut [u8]) -> Wrote
     ensures { λ r. ⌜ (r ≡ listOf (now (file .entry)) (now (out .entry))) × (now (out .exit) ≡ listedOf (now (file .entry)) (now (out .entry))) ⌝ }
 {
-    if out.len() < 16384 {
+    if out.len() < 65536 {
         return file_write::not_written(Refusal::NoRoom);
     }
     let s = file_read::load(

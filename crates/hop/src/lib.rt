@@ -1,12 +1,13 @@
-// The next hop of a lookup or a join request.
+// The next hop of a lookup or a join request, and where it came from.
 ghost use mathlib.Core.Path.{_≡_};
 ghost use Prim.Native.Nat.{ℕ, _^_, _<_, _≤_};
 ghost use Rattle.rules.specs.InnerAsks.{Listed};
-ghost use Rattle.rules.specs.Hop.{legalOf, byLeaf, leafCandidates, routeCandidates, nextHop};
+ghost use Rattle.rules.specs.Hop.{legalOf, byLeaf, leafCandidates, routeCandidates, nextHop, viaOf};
 use marks::Found;
 use rules::Hop;
 use rules::Node;
 use rules::Ring;
+use rules::Via;
 use rules::Way;
 
 // Is the leaf set alone looked at?
@@ -67,5 +68,16 @@ pub fn next_hop(g: Ring, ids: &[u32; 64], dead: u64, i: usize, v: Node, k: u32) 
         Hop::To(h)
     } else {
         Hop::NoRoute
+    }
+}
+
+// Where the next hop h of node i came from: the leaf set, or the routing set alone.
+pub fn via_of(i: usize, v: Node, h: usize) -> Via
+    ensures { λ r. ⌜ r ≡ viaOf i v h ⌝ }
+{
+    if marks::is_in(leaf::content(parts::sides_of(v), i), h) {
+        Via::Leaf
+    } else {
+        Via::Routing
     }
 }

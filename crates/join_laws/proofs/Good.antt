@@ -12,7 +12,8 @@ use Rattle.rules.specs.declared.Message.{Message}
 use Rattle.rules.specs.declared.Plan.{Plan}
 use Rattle.rules.specs.InnerAsks.{Listed}
 use Rattle.rules.specs.Nodes.{placed}
-use Rattle.rules.specs.Plans.{isDead, isWait, isUp, withLeases, quietPlan, sendPlan}
+use Rattle.rules.specs.declared.Via.{Via}
+use Rattle.rules.specs.Plans.{isDead, isWait, isUp, withLeases, quietPlan, sendBy}
 use Rattle.rules.specs.Pool.{blank}
 use Rattle.pool.proofs.Laws.{Fine}
 use Rattle.table.proofs.Nodes.{NodeRules}
@@ -52,7 +53,7 @@ fair-free m two three four five eight =
 pub sends-none : {t : View} (w : Node) → Fine (Fair t) (quietPlan w)
 sends-none {t} w = record { one = λ s. none-to (Fair t) blank s; rest = λ s l. none-sent (Fair t) blank s }
 
-pub sends-one : {t : View} (w : Node) (m : Message) (h : ℕ) → Fair t (placed m h) → Fine (Fair t) (sendPlan w m h)
+pub sends-one : {t : View} {via : Via} (w : Node) (m : Message) (h : ℕ) → Fair t (placed m h) → Fine (Fair t) (sendBy via w m h)
 sends-one {t} w m h f = record { one = λ s. one-to (Fair t) m h s f; rest = λ s l. none-sent (Fair t) blank s }
 
 -- ---- quiet plans

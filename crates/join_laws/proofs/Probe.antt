@@ -22,6 +22,7 @@ use Rattle.rules.specs.declared.Planned.the-variants.{Go}
 use Rattle.rules.specs.Leaf.{leafWithOne, isEmpty, overlaps, isComplete}
 use Rattle.rules.specs.Letters.{lsProbe, lsProbeReply}
 use Rattle.rules.specs.Nodes.{sidesOf, placed}
+use Rattle.rules.specs.declared.Via.the-variants.{Unrouted}
 use Rattle.rules.specs.Plans.{isWait, withStatus}
 use Rattle.rules.specs.Pool.{blank}
 use Rattle.rules.specs.Take.{failedWithout, probesOf, learntNode, waitsEmpty, probePlanOf, planTakeProbe}
@@ -191,7 +192,7 @@ module _ (t : View) (i : ℕ) (c : Calm t) (f : Fitting t) (here : Alive t i) (f
 
     -- the plan that leaves the status st
     abbrev planned : Status → Plan
-    planned st = record { node = learnt left st; first = blank; to = Nothing; each = lsProbe i heard trusted; all = asked }
+    planned st = record { node = learnt left st; first = blank; to = Nothing; each = lsProbe i heard trusted; all = asked; via = Unrouted }
 
     waits-good : Good t i (planned (t .at i .status))
     waits-good =

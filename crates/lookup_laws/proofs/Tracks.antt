@@ -28,17 +28,19 @@ use Rattle.rules.specs.declared.Action.the-variants.{NodeLeft, SuspectFaulty, P
 use Rattle.rules.specs.declared.Refusal.the-variants as no
 use Rattle.rules.specs.declared.Answer.{Answer}
 use Rattle.rules.specs.declared.Answer.the-variants.{Done, Refused}
+use Rattle.rules.specs.declared.Via.{Via}
+use Rattle.rules.specs.declared.Via.the-variants.{Unrouted}
 use Rattle.rules.specs.Fits.{messageFits}
 use Rattle.rules.specs.Letters.{lookup, noLegalRoute}
 use Rattle.rules.specs.Mail.{firstEqual, added}
 use Rattle.rules.specs.Nodes.{noNode, placed}
-use Rattle.rules.specs.Plans.{isReady, quietPlan, sendPlan, mailed}
+use Rattle.rules.specs.Plans.{isReady, quietPlan, sendBy, sendPlan, mailed}
 use Rattle.rules.specs.Pool.{waiting, messageAt, laid}
 use Rattle.rules.specs.Take.{forwardPlan, planDeliver, planForward, planTake}
 use Rattle.pool.proofs.Laws.{laid-at, All, all-index, all-removed, added-at, added-nothing, mailed-quiet, mailed-send, waiting-at}
 use Rattle.table_type.specs.declared.Table.{Table}
 use Rattle.table_type.specs.Table.{nodeAt, withNode, idsOf, ringOf}
-use Rattle.table.specs.Settle.{doneOf}
+use Rattle.table.specs.Settle.{doneBy}
 use Rattle.table.specs.Settled.{readySet, deadSet}
 use Rattle.table.specs.Valid.{validOf}
 use Rattle.table.proofs.Obeys.{obeys}
@@ -46,7 +48,7 @@ use Rattle.table.proofs.Sound.{Sound, sound}
 use Rattle.table.proofs.By.{goes, go-same, never-go, DoneWith, leavesOf, step-refused, step-done}
 use Rattle.table.specs.Step.{Gone, all-stay, one-goes, probes-go}
 use Rattle.table.specs.Step.{takenOf, deliveredOf, forwardedOf, asked, remaining, plannedOf}
-use Rattle.lookup_laws.specs.Fates.{others, coversAt, hopAt, Took, Ends, Tracked}
+use Rattle.lookup_laws.specs.Fates.{others, coversAt, hopAt, viaAt, Took, Ends, Tracked}
 use Rattle.lookup_laws.specs.Journey.{stepped, LookupAt, stays, landing, onward, fateTaken, probesBefore, fateDone}
 use Rattle.lookup_laws.specs.Journey.{fateBy, fateOf}
 use Rattle.lookup_laws.proofs.Stands.{Stands, stands-mailed, stands-down, stands-still, stands-last, stands-laid, stands-waiting}
@@ -72,7 +74,7 @@ pub record Holds (t : Table) (k d : ℕ) (x : Plan) : Type 0 where
   pub plan : x ≡ quietPlan (nodeAt t d)
 
 pub data Sends (t : Table) (k d : ℕ) (x : Plan) : Type 0 where
-  to : (h : ℕ) → hopAt t d k ≡ To h → x ≡ sendPlan (nodeAt t d) (lookup k) h → Sends t k d x
+  to : (h : ℕ) → hopAt t d k ≡ To h → x ≡ sendBy (viaAt t d h) (nodeAt t d) (lookup k) h → Sends t k d x
   nowhere : hopAt t d k ≡ NoRoute → x ≡ sendPlan (nodeAt t d) (noLegalRoute k) d → Sends t k d x
 
 pub record Passes (t : Table) (k d : ℕ) (x : Plan) : Type 0 where
@@ -140,9 +142,9 @@ module _ (t : Table) (p : Pool) (q k d : ℕ) (v : Sound t p) (l : LookupAt p q 
       rw (waiting-at p i low) (v .message i low)))
 
   -- a plan that keeps the node, made by an action on place q
-  module _ (a : Action) (x : Plan) (e : stepped t p a ≡ doneOf (withNode t (messageAt p q .dest) (x .node)) (laid (mailed x (others p q))))
+  module _ (a : Action) (x : Plan) (e : stepped t p a ≡ doneBy (x .via) (withNode t (messageAt p q .dest) (x .node)) (laid (mailed x (others p q))))
       (ready : isReady (nodeAt t d .status) ≡ true) where
-    took : (y : Plan) (ys : List Message) → x ≡ y → y .node ≡ nodeAt t d → mailed y (others p q) ≡ ys → Took t p d a a ys
+    took : (y : Plan) (ys : List Message) → x ≡ y → y .node ≡ nodeAt t d → mailed y (others p q) ≡ ys → Took t p d a a (y .via) ys
     took y ys s node mail =
         let same : withNode t (messageAt p q .dest) (y .node) ≡ t =
         ap₂ (λ (m : Message) (u : Node). withNode t (m .dest) u) (l .is) node ∙ same-node t d in
@@ -150,8 +152,8 @@ module _ (t : Table) (p : Pool) (q k d : ℕ) (v : Sound t p) (l : LookupAt p q 
           act = refl;
           ready = ready;
           leaves = e
-          ∙ ap (λ (z : Plan). doneOf (withNode t (messageAt p q .dest) (z .node)) (laid (mailed z (others p q)))) s
-          ∙ ap₂ (λ (u : Table) (zs : List Message). doneOf u (laid zs)) same mail;
+          ∙ ap (λ (z : Plan). doneBy (z .via) (withNode t (messageAt p q .dest) (z .node)) (laid (mailed z (others p q)))) s
+          ∙ ap₂ (λ (u : Table) (zs : List Message). doneBy (y .via) u (laid zs)) same mail;
         }
 
   -- delivered
@@ -161,20 +163,20 @@ module _ (t : Table) (p : Pool) (q k d : ℕ) (v : Sound t p) (l : LookupAt p q 
 
   -- forwarded
   module _ (x : Plan) (e : stepped t p (Forward q) ≡ leavesOf t p (Forward q) x) (w : Passes t k d x) where
-    sent : (m : Message) (h : ℕ) (ys : List Message) → x ≡ sendPlan (nodeAt t d) m h → added (others p q) (placed m h) ≡ ys
-        → Took t p d (Forward q) (Forward q) ys
-    sent m h ys s f =
-        took (Forward q) x e (w .ready) (sendPlan (nodeAt t d) m h) ys s refl (mailed-send (nodeAt t d) m h (others p q) ∙ f)
+    sent : (via : Via) (m : Message) (h : ℕ) (ys : List Message) → x ≡ sendBy via (nodeAt t d) m h → added (others p q) (placed m h) ≡ ys
+        → Took t p d (Forward q) (Forward q) via ys
+    sent via m h ys s f =
+        took (Forward q) x e (w .ready) (sendBy via (nodeAt t d) m h) ys s refl (mailed-send via (nodeAt t d) m h (others p q) ∙ f)
 
-    module _ (h : ℕ) (o : hopAt t d k ≡ To h) (s : x ≡ sendPlan (nodeAt t d) (lookup k) h) where
-      there : (ys : List Message) (r : ℕ) → Took t p d (Forward q) (Forward q) ys → Stands ys r (placed (lookup k) h)
+    module _ (h : ℕ) (o : hopAt t d k ≡ To h) (s : x ≡ sendBy (viaAt t d h) (nodeAt t d) (lookup k) h) where
+      there : (ys : List Message) (r : ℕ) → Took t p d (Forward q) (Forward q) (viaAt t d h) ys → Stands ys r (placed (lookup k) h)
           → LookupAt (stepped t p (Forward q) .pool) r k h
       there ys r w i = rw (w .leaves) (stands-laid i)
 
       lands : (f : Found) → firstEqual (others p q) (placed (lookup k) h) ≡ f
           → Tracked t p q k d (Forward q) (landing f h (length (others p q)))
       lands (At r) f =
-          let b = sent (lookup k) h (others p q) s (added-at (others p q) (placed (lookup k) h) r f) in
+          let b = sent (viaAt t d h) (lookup k) h (others p q) s (added-at (others p q) (placed (lookup k) h) r f) in
           record {
             took = b;
             uncovered = w .uncovered;
@@ -182,7 +184,7 @@ module _ (t : Table) (p : Pool) (q k d : ℕ) (v : Sound t p) (l : LookupAt p q 
             equal = there (others p q) r b (first-stands (ringOf t) (others p q) (placed (lookup k) h) r others-fit refl f);
           }
       lands Nothing f =
-          let b = sent (lookup k) h _ s (added-nothing (others p q) (placed (lookup k) h) f) in
+          let b = sent (viaAt t d h) (lookup k) h _ s (added-nothing (others p q) (placed (lookup k) h) f) in
           let last = stands-last (others p q) (placed (lookup k) h) in
           record { took = b; uncovered = w .uncovered; hop = o; now = there _ (length (others p q)) b last }
 
@@ -200,7 +202,7 @@ module _ (t : Table) (p : Pool) (q k d : ℕ) (v : Sound t p) (l : LookupAt p q 
     passed (to h o s) = rw o (lands h o s (firstEqual (others p q) (placed (lookup k) h)) refl)
     passed (nowhere o s) =
         let ys = added (others p q) (placed (noLegalRoute k) d) in
-        let b = sent (noLegalRoute k) d ys s refl in
+        let b = sent Unrouted (noLegalRoute k) d ys s refl in
         let last = tells (firstEqual (others p q) (placed (noLegalRoute k) d)) refl in
         rw o
         (record {

@@ -10,7 +10,9 @@ use Rattle.rules.specs.declared.Message.{Message}
 use Rattle.rules.specs.declared.Pool.{Pool}
 use Rattle.rules.specs.declared.Action.{Action}
 use Rattle.rules.specs.declared.Action.the-variants.{Deliver, Forward}
-use Rattle.rules.specs.Hop.{nextHop}
+use Rattle.rules.specs.declared.Via.{Via}
+use Rattle.rules.specs.declared.Via.the-variants.{Unrouted}
+use Rattle.rules.specs.Hop.{nextHop, viaOf}
 use Rattle.rules.specs.Leaf.{coversOf}
 use Rattle.rules.specs.Letters.{lookup, noLegalRoute}
 use Rattle.rules.specs.Mail.{added, removedAt}
@@ -19,7 +21,7 @@ use Rattle.rules.specs.Plans.{isReady}
 use Rattle.rules.specs.Pool.{waiting, messageAt, laid}
 use Rattle.table_type.specs.declared.Table.{Table}
 use Rattle.table_type.specs.Table.{nodeAt, idsOf, ringOf}
-use Rattle.table.specs.Settle.{doneOf}
+use Rattle.table.specs.Settle.{doneBy}
 use Rattle.table.specs.Settled.{deadSet}
 use Rattle.lookup_laws.specs.Journey.{stepped, LookupAt, Fate, stays, routed, met, delivered, unroutable}
 
@@ -34,36 +36,40 @@ coversAt t d k = coversOf (ringOf t) (idsOf t) d (sidesOf (nodeAt t d)) k
 abbrev pub hopAt : Table → ℕ → ℕ → Hop
 hopAt t d k = nextHop (ringOf t) (idsOf t) (deadSet t) d (nodeAt t d) k
 
--- the step is this action on place q at slot d, which is ready; it leaves the table as it was, and exactly these messages
-pub record Took (t : Table) (p : Pool) (d : ℕ) (a this : Action) (ys : List Message) : Type 0 where
+-- where the next hop h of slot d came from
+abbrev pub viaAt : Table → ℕ → ℕ → Via
+viaAt t d h = viaOf d (nodeAt t d) h
+
+-- the step is this action on place q at slot d, which is ready; it says this of the next hop, and leaves the table as it was, and exactly these messages
+pub record Took (t : Table) (p : Pool) (d : ℕ) (a this : Action) (via : Via) (ys : List Message) : Type 0 where
   pub act : a ≡ this
   pub ready : isReady (nodeAt t d .status) ≡ true
-  pub leaves : stepped t p a ≡ doneOf t (laid ys)
+  pub leaves : stepped t p a ≡ doneBy via t (laid ys)
 
 -- ---- what each fate says of the step a on the table t and the pool p, in which a Lookup of k for slot d waits at place q
 
 -- forwarded to h: the others wait as before, and the Lookup, now for h, at their end
 pub record Goes (t : Table) (p : Pool) (q k d : ℕ) (a : Action) (h r : ℕ) : Type 0 where
-  pub took : Took t p d a (Forward q) (others p q ++ (placed (lookup k) h ∷ []))
+  pub took : Took t p d a (Forward q) (viaAt t d h) (others p q ++ (placed (lookup k) h ∷ []))
   pub uncovered : coversAt t d k ≡ false
   pub hop : hopAt t d k ≡ To h
   pub now : LookupAt (stepped t p a .pool) r k h
 
 -- forwarded to h, where its equal waits, at place r
 pub record Meets (t : Table) (p : Pool) (q k d : ℕ) (a : Action) (h r : ℕ) : Type 0 where
-  pub took : Took t p d a (Forward q) (others p q)
+  pub took : Took t p d a (Forward q) (viaAt t d h) (others p q)
   pub uncovered : coversAt t d k ≡ false
   pub hop : hopAt t d k ≡ To h
   pub equal : LookupAt (stepped t p a .pool) r k h
 
 -- delivered
 pub record Ends (t : Table) (p : Pool) (q k d : ℕ) (a : Action) : Type 0 where
-  pub took : Took t p d a (Deliver q) (others p q)
+  pub took : Took t p d a (Deliver q) Unrouted (others p q)
   pub covered : coversAt t d k ≡ true
 
 -- forwarded with no legal route: NoLegalRoute of k for d waits in its stead
 pub record Strands (t : Table) (p : Pool) (q k d : ℕ) (a : Action) : Type 0 where
-  pub took : Took t p d a (Forward q) (added (others p q) (placed (noLegalRoute k) d))
+  pub took : Took t p d a (Forward q) Unrouted (added (others p q) (placed (noLegalRoute k) d))
   pub uncovered : coversAt t d k ≡ false
   pub no-hop : hopAt t d k ≡ NoRoute
   pub told : (r : ℕ) × (r < stepped t p a .pool .count) × (messageAt (stepped t p a .pool) r ≡ placed (noLegalRoute k) d)

@@ -1,9 +1,9 @@
 // Parts of nodes and messages, the tests of a status, and 01's numbers.
 ghost use mathlib.Core.Path.{_≡_};
 ghost use Prim.Native.Nat.{ℕ};
-ghost use Rattle.rules.specs.Numbers.{statusNumber, answerNumber};
+ghost use Rattle.rules.specs.Numbers.{statusNumber, answerNumber, viaNumber};
 ghost use Rattle.rules.specs.Nodes.{sidesOf, carriedOf, placed};
-ghost use Rattle.rules.specs.Plans.{isDead, isWait, isOk, isReady, isUp, withStatus, withLeases, withProbing, withSides, quietPlan, sendPlan};
+ghost use Rattle.rules.specs.Plans.{isDead, isWait, isOk, isReady, isUp, withStatus, withLeases, withProbing, withSides, quietPlan, sendBy, sendPlan};
 ghost use Rattle.rules.specs.Pool.{blank};
 ghost use Rattle.rules.specs.Letters.{letter, noSides};
 use marks::Found;
@@ -14,6 +14,7 @@ use rules::Plan;
 use rules::Refusal;
 use rules::Sides;
 use rules::Status;
+use rules::Via;
 
 // 01's number of a status.
 pub fn status_number(s: Status) -> u32
@@ -46,6 +47,17 @@ pub fn answer_number(a: Answer) -> u32
             Refusal::Invalid => 10,
             Refusal::NoRoom => 11,
         },
+    }
+}
+
+// The letter of where a hop came from, as a byte: `l` or `r`, and 0 for none.
+pub fn via_number(via: Via) -> u32
+    ensures { λ r. ⌜ r ≡ viaNumber via ⌝ }
+{
+    match via {
+        Via::Unrouted => 0,
+        Via::Leaf => 108,
+        Via::Routing => 114,
     }
 }
 
@@ -225,12 +237,13 @@ pub fn quiet_plan(v: Node) -> Plan
         to: Found::Nothing,
         each: none,
         all: 0,
+        via: Via::Unrouted,
     }
 }
 
-// The node, and one message to one slot.
-pub fn send_plan(v: Node, m: Message, s: usize) -> Plan
-    ensures { λ r. ⌜ r ≡ sendPlan v m s ⌝ }
+// The node, and one message to one slot, said to go there by `via`.
+pub fn send_by(via: Via, v: Node, m: Message, s: usize) -> Plan
+    ensures { λ r. ⌜ r ≡ sendBy via v m s ⌝ }
 {
     let none = blank_message();
     Plan {
@@ -239,5 +252,13 @@ pub fn send_plan(v: Node, m: Message, s: usize) -> Plan
         to: Found::At(s),
         each: none,
         all: 0,
+        via,
     }
+}
+
+// The same, where nothing is routed.
+pub fn send_plan(v: Node, m: Message, s: usize) -> Plan
+    ensures { λ r. ⌜ r ≡ sendPlan v m s ⌝ }
+{
+    send_by(Via::Unrouted, v, m, s)
 }

@@ -15,6 +15,7 @@ use rules::Refusal;
 use rules::Ring;
 use rules::Sides;
 use rules::Status;
+use rules::Via;
 use rules::Way;
 
 pub fn lease_request(i: u32) -> Message
@@ -55,6 +56,7 @@ fn lease_plan(g: Ring, ids: &[u32; 64], i: usize, v: Node) -> Plan
         to,
         each: first,
         all,
+        via: Via::Unrouted,
     }
 }
 

@@ -17,6 +17,7 @@ use rules::Ring;
 use rules::Sides;
 use rules::Status;
 use rules::Way;
+use rules::Via;
 
 // The node with all sets empty, but for the routing set.
 pub fn emptied(v: Node, st: Status, routing: u64) -> Node
@@ -59,6 +60,7 @@ pub fn probing_plan(i: u32, v: Node, set: u64) -> Plan
         to: Found::Nothing,
         each,
         all: set,
+        via: Via::Unrouted,
     }
 }
 

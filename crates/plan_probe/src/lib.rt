@@ -16,6 +16,7 @@ use rules::Refusal;
 use rules::Ring;
 use rules::Sides;
 use rules::Status;
+use rules::Via;
 
 pub fn ls_probe(i: u32, s: Sides, failed: u64) -> Message
     ensures { λ r. ⌜ r ≡ lsProbe i s failed ⌝ }
@@ -58,6 +59,7 @@ pub fn join_reply_plan(i: u32, v: Node, routing: u64, content: u64, s: Sides) ->
         to: Found::Nothing,
         each,
         all: probing,
+        via: Via::Unrouted,
     }
 }
 
@@ -145,6 +147,7 @@ fn probe_plan(g: Ring, ids: &[u32; 64], i: usize, v: Node, m: Message) -> Plan
         to: Found::At(j),
         each,
         all: p,
+        via: Via::Unrouted,
     }
 }
 
@@ -205,6 +208,7 @@ fn reply_plan(g: Ring, ids: &[u32; 64], i: usize, v: Node, m: Message) -> Plan
         to: Found::Nothing,
         each,
         all: p,
+        via: Via::Unrouted,
     }
 }
 

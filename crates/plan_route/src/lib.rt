@@ -68,14 +68,14 @@ pub fn plan_join(waits: bool, i: u32, v: Node, seed: usize, u: Node) -> Planned
     Planned::Go(parts::send_plan(next, join_request(i, 0), seed))
 }
 
-// A message to the next hop, or NoLegalRoute of k to i itself.
+// A message to the next hop, saying where it came from, or NoLegalRoute of k to i itself.
 pub fn forward(next: Hop, v: Node, m: Message, k: u32, i: usize) -> Plan
     ensures { λ r. ⌜ r ≡ forwardPlan next v m k i ⌝ }
 {
     let Hop::To(h) = next else {
         return parts::send_plan(v, no_legal_route(k), i);
     };
-    parts::send_plan(v, m, h)
+    parts::send_by(hop::via_of(i, v, h), v, m, h)
 }
 
 // Deliver: a message of this kind, with key k where it is a Lookup, at node i.

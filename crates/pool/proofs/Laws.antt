@@ -23,7 +23,8 @@ use Rattle.rules.specs.Nodes.{placed}
 use Rattle.rules.specs.Pool.{blank, messageAt, waiting, laid}
 use Rattle.rules.specs.Mail.{alike, allDifferent, added, removedAt, sentTo, sent}
 use Rattle.rules.specs.Actions.{waits}
-use Rattle.rules.specs.Plans.{quietPlan, sendPlan, addedTo, mailed}
+use Rattle.rules.specs.declared.Via.{Via}
+use Rattle.rules.specs.Plans.{quietPlan, sendBy, addedTo, mailed}
 use Rattle.pool.specs.InnerSending.{heldOf, copies}
 pub use Rattle.pool.proofs.Equal.{alike-same, same-alike, alike-refl, alike-sym, alike-trans, alike-dest}
 pub use Rattle.pool.proofs.Equal.{first-equal-at, first-equal-none, waits-nil, waits-cons, waits-append, waits-last}
@@ -238,9 +239,9 @@ pub mailed-quiet : (v : Node) (ys : List Message) → mailed (quietPlan v) ys �
 unfolding mailed
 mailed-quiet v ys = sent-none blank ys
 
-pub mailed-send : (v : Node) (m : Message) (s : ℕ) (ys : List Message) → mailed (sendPlan v m s) ys ≡ added ys (placed m s)
+pub mailed-send : (via : Via) (v : Node) (m : Message) (s : ℕ) (ys : List Message) → mailed (sendBy via v m s) ys ≡ added ys (placed m s)
 unfolding mailed
-mailed-send v m s ys = sent-none blank (added ys (placed m s))
+mailed-send via v m s ys = sent-none blank (added ys (placed m s))
 
 pub added-length : (xs : List Message) (m : Message) → (length xs ≤ length (added xs m)) × (length (added xs m) ≤ length xs + 1)
 added-length xs m = go (added-cases xs m)

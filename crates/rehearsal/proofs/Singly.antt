@@ -11,6 +11,7 @@ use lib.Seq.{take-all}
 use Rattle.rules.specs.declared.Answer.{Answer}
 use Rattle.rules.specs.declared.Answer.the-variants.{Done, Refused}
 use Rattle.rules.specs.declared.Pool.{Pool}
+use Rattle.rules.specs.Numbers.{answerNumber}
 use Rattle.rules.specs.Pool.{laid}
 use Rattle.table_type.specs.declared.Table.{Table}
 use Rattle.table_type.specs.declared.Stepped.{Stepped}
@@ -18,6 +19,7 @@ use Rattle.table.specs.Settle.{doneOf}
 use Rattle.table_type.specs.Start.{noTable}
 use Rattle.table.proofs.Proved.{keeps-valid}
 use Rattle.file.specs.Held.{Held}
+use Rattle.file.proofs.Exactly.{load-makes}
 use Rattle.file.proofs.Theorems.{load-of-file}
 use Rattle.face_table.proofs.Laid.{step-neat}
 use Rattle.face_file.proofs.Kept.{not-done}
@@ -92,9 +94,10 @@ after (x ∷ xs) (suc n) k file t p e =
 -- ---- with the start
 
 start-tells : (start : List ℕ) → Loads start → Tells start (loadedOf start .table) (loadedOf start .pool)
+unfolding loadedOf
 start-tells start e held =
-    let s : Stepped = loadedOf start in
-    ap (λ (w : Answer). record { answer = w; table = s .table; pool = s .pool }) e
+    let m = load-makes start noTable (laid []) 256 (ap answerNumber e) in
+    m ∙ sym (ap (λ (x : Stepped). doneOf (x .table) (x .pool)) m)
 
 -- it loads, and the claims are handed over from its table; or it does not, and the checker has ended
 abbrev pub Handing : List ℕ → List Claim → Type 0

@@ -1,4 +1,5 @@
--- Next hops computed by the checker, beside those of Cases: who is a candidate in each branch, the tie, and no legal route. Assumes nothing.
+-- Next hops computed by the checker, beside those of Cases: who is a candidate in each branch, the tie, no legal route, and where the hop
+-- came from. Assumes nothing.
 use mathlib.Core.Path.{_≡_, refl}
 use mathlib.Core.Bool.{Bool, true, false}
 use mathlib.Core.List.{List, [], _∷_}
@@ -6,7 +7,9 @@ use Prim.Native.Nat.{ℕ}
 use Rattle.rules.specs.declared.Status.the-variants.{Ready}
 use Rattle.rules.specs.declared.Hop.{Hop}
 use Rattle.rules.specs.declared.Hop.the-variants.{To, NoRoute}
-use Rattle.rules.specs.Hop.{leafCandidates, routeCandidates, byLeaf, nextHop}
+use Rattle.rules.specs.declared.Via.{Via}
+use Rattle.rules.specs.declared.Via.the-variants.{Leaf, Routing}
+use Rattle.rules.specs.Hop.{leafCandidates, routeCandidates, byLeaf, nextHop, viaOf}
 use Rattle.rules.proofs.Small.{opened, four, ids, node}
 
 -- on 01's worked ids: key 200 at 65, with 95 on its left and 18 on its right, and every node in its routing set; by the dead and by failed
@@ -62,3 +65,22 @@ next-hops =
       tie-kept = refl;
       alone = (refl, refl);
     }
+
+-- T-01: at 0 in slot 0, with 200 on its left and 40 on its right
+abbrev farVia : ℕ → ℕ → Via
+farVia routing h = viaOf 0 (node 0 Ready 8 2 0 0 routing 0 0) h
+
+pub record Vias : Type 0 where
+  -- in the leaf set alone, on either side
+  pub leaf : (farVia 0 3 ≡ Leaf) × (farVia 0 1 ≡ Leaf)
+  -- a node in both counts as leaf set
+  pub both : (farVia 15 3 ≡ Leaf) × (farVia 15 1 ≡ Leaf)
+  -- in the routing set alone
+  pub routing : farVia 15 2 ≡ Routing
+  -- as the next hop is found by content and routing set: 40 is in content, 100 is not
+  pub by-routing : (byLeaf four farIds 0 (node 0 Ready 8 2 0 0 15 0 0) ≡ false) × (farHop 15 60 ≡ To 1) × (farVia 15 1 ≡ Leaf)
+      × (farHop 15 110 ≡ To 2) × (farVia 15 2 ≡ Routing)
+
+pub vias : Vias
+unfolding opened
+vias = record { leaf = (refl, refl); both = (refl, refl); routing = refl; by-routing = (refl, refl, refl, refl, refl) }

@@ -10,6 +10,7 @@ use Rattle.rules.specs.declared.Status.the-variants.{Ok}
 use Rattle.rules.specs.declared.Message.{Message}
 use Rattle.rules.specs.declared.Pool.{Pool}
 use Rattle.rules.specs.declared.Plan.{Plan}
+use Rattle.rules.specs.declared.Via.the-variants.{Unrouted}
 use Rattle.rules.specs.Nodes.{placed}
 use Rattle.rules.specs.Letters.{noSides, lookup, lsProbe, lsProbeReply}
 use Rattle.rules.specs.Pool.{blank, messageAt, waiting, lay, laid}
@@ -54,7 +55,7 @@ abbrev reply : Message
 reply = lsProbeReply 0 noSides 0
 
 abbrev plan : Found → ℕ → Plan
-plan to all = record { node = node 10 Ok 0 0 0 0 0 0 0; first = reply; to = to; each = probe; all = all }
+plan to all = record { node = node 10 Ok 0 0 0 0 0 0 0; first = reply; to = to; each = probe; all = all; via = Unrouted }
 
 pub record Equals : Type 0 where
   pub same : alike plain plain ≡ true

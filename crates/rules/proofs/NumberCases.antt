@@ -1,4 +1,4 @@
--- 01's limits and numbers, and the fields of each message, one by one. Assumes nothing.
+-- 01's limits and numbers, T-01's letters, and the fields of each message, one by one. Assumes nothing.
 use mathlib.Core.Path.{_≡_, refl}
 use mathlib.Core.List.{List, [], _∷_}
 use Prim.Native.Nat.{ℕ}
@@ -7,8 +7,9 @@ use Rattle.rules.specs.declared.Status.the-variants as status
 use Rattle.rules.specs.declared.Refusal.the-variants as no
 use Rattle.rules.specs.declared.Answer.the-variants.{Done, Refused}
 use Rattle.rules.specs.declared.Message.{Message}
+use Rattle.rules.specs.declared.Via.the-variants as via
 use Rattle.rules.specs.Limits.{mLow, mHigh, lLow, lHigh, nodesHigh, messagesHigh}
-use Rattle.rules.specs.Numbers.{statusNumber, answerNumber}
+use Rattle.rules.specs.Numbers.{statusNumber, answerNumber, viaNumber}
 use Rattle.rules.specs.Nodes.{placed}
 use Rattle.rules.specs.Letters.{lookup, joinRequest, joinReply, lsProbe, lsProbeReply, noLegalRoute, leaseRequest, broadcastLSet}
 use Rattle.rules.proofs.Small.{sides}
@@ -42,6 +43,8 @@ pub record Numbers : Type 0 where
   pub invalid : answerNumber (Refused no.Invalid) ≡ 10
   -- write buffer too small
   pub no-room : answerNumber (Refused no.NoRoom) ≡ 11
+  -- none, `l` and `r`
+  pub vias : viaNumber via.Unrouted ∷ viaNumber via.Leaf ∷ viaNumber via.Routing ∷ [] ≡ 0 ∷ 108 ∷ 114 ∷ []
 
 pub numbers : Numbers
 numbers =
@@ -60,6 +63,7 @@ numbers =
       offsets = refl;
       invalid = refl;
       no-room = refl;
+      vias = refl;
     }
 
 -- kind, destination, node or key, flag, owner, sixth word, routing, left, right, failed

@@ -11,11 +11,12 @@ use Rattle.rules.specs.declared.Message.{Message}
 use Rattle.rules.specs.declared.Planned.{Planned}
 use Rattle.rules.specs.declared.Planned.the-variants.{No}
 use Rattle.rules.specs.declared.Refusal.the-variants as no
+use Rattle.rules.specs.declared.Via.the-variants.{Unrouted, Leaf, Routing}
 use Rattle.rules.specs.Nodes.{placed}
 use Rattle.rules.specs.Letters.{lookup, joinRequest, joinReply, noLegalRoute}
 use Rattle.rules.specs.Take.{planTake, planDeliver, planForward, planTakeJoinRequest, planTakeJoinReply, planTakeProbe, planTakeProbeReply}
 use Rattle.rules.specs.Take.{planTakeLeaseRequest, planTakeBroadcast}
-use Rattle.rules.proofs.Small.{opened, four, ids, node, sides, atEach, made}
+use Rattle.rules.proofs.Small.{opened, four, ids, node, sides, atEach, made, saidBy}
 
 -- ---- 1. 5 from either of the pair on another kind, whatever the status; then 2 unless ready; then 5 from Deliver when not covered and from Forward when
 -- covered. Delivered: nothing is added. Else Lookup goes to the next hop, or NoLegalRoute(k) to i.
@@ -89,6 +90,45 @@ join-request-taken =
       reply = refl;
       goes-on = refl;
       no-route = refl;
+    }
+
+-- ---- T-01. The next hop is to say which; a node in both counts as leaf set. Routing of lookups and of join requests pass this on.
+
+abbrev five : Ring
+five = record { m = 8; l = 1; n = 5 }
+
+-- on ids 0, 40, 100, 110, 200, at 0 with 200 on its left and 40 on its right, so by content and routing set: a Lookup of k, and a JoinRequest of slot j
+abbrev farIds : List ℕ
+farIds = 0 ∷ 40 ∷ 100 ∷ 110 ∷ 200 ∷ []
+
+abbrev looks : ℕ → ℕ → Planned
+looks routing k = planForward 1 five farIds 0 0 (node 0 Ready 16 2 0 0 routing 0 0) k
+
+abbrev joins : ℕ → ℕ → Planned
+joins routing j = planTakeJoinRequest five farIds 0 0 (node 0 Ready 16 2 0 0 routing 0 0) j 0
+
+pub record Said : Type 0 where
+  -- 18 is in the leaf set and in the routing set
+  pub both : saidBy (forwards 1 0 0 200 Ready) ≡ Leaf
+  -- delivered, no legal route, refused: nothing is routed
+  pub not-routed : (saidBy (delivers 1 0 60 Ready) ≡ Unrouted) × (saidBy (forwards 1 8 2 200 Ready) ≡ Unrouted) × (saidBy (forwards 1 0 0 200 Ok) ≡ Unrouted)
+  -- 100 is in the routing set alone
+  pub routing : (made (looks 31 105) ≡ (node 0 Ready 16 2 0 0 31 0 0, placed (lookup 105) 2 ∷ [])) × (saidBy (looks 31 105) ≡ Routing)
+  -- 200 is in content, though found by content and routing set
+  pub by-the-node : (made (looks 19 140) ≡ (node 0 Ready 16 2 0 0 19 0 0, placed (lookup 140) 4 ∷ [])) × (saidBy (looks 19 140) ≡ Leaf)
+  -- a JoinRequest of 110: by the routing set to 100, by content to 40, and a reply
+  pub join : (saidBy (joins 4 3) ≡ Routing) × (saidBy (joins 2 3) ≡ Leaf) × (saidBy (passing 0 0 3 Ready) ≡ Leaf)
+      × (saidBy (covering 3 Ready) ≡ Unrouted) × (saidBy (passing 4 1 3 Ready) ≡ Unrouted)
+
+pub said : Said
+unfolding opened
+said =
+    record {
+      both = refl;
+      not-routed = (refl, refl, refl);
+      routing = (refl, refl);
+      by-the-node = (refl, refl);
+      join = (refl, refl, refl, refl, refl);
     }
 
 -- ---- by kind; 1. 5 from Take on a Lookup, whatever the status; 6. 5 always.

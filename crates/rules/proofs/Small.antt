@@ -11,13 +11,15 @@ use Rattle.rules.specs.declared.Status.the-variants.{Dead, Wait, Ok, Rea
 use Rattle.rules.specs.declared.Node.{Node}
 use Rattle.rules.specs.declared.Message.{Message}
 use Rattle.rules.specs.declared.Planned.{Planned}
+use Rattle.rules.specs.declared.Via.{Via}
+use Rattle.rules.specs.declared.Via.the-variants.{Unrouted}
 use Rattle.rules.specs.declared.Planned.the-variants.{No, Go}
 use Rattle.rules.specs.Numbers.{refusalNumber}
 use Rattle.rules.specs.Nodes.{noNode}
 use Rattle.rules.specs.Pick.{best}
 use Rattle.rules.specs.Closest.{closest}
 use Rattle.rules.specs.Leaf.{contentOf, seenFrom, leafWith, leafWithOne, overlaps, isFull, isComplete, isEmpty, coversOf}
-use Rattle.rules.specs.Hop.{leafCandidates, routeCandidates, byLeaf, leafHop, routeHop, nextHop}
+use Rattle.rules.specs.Hop.{leafCandidates, routeCandidates, byLeaf, leafHop, routeHop, nextHop, viaOf}
 use Rattle.rules.specs.Mail.{alike, allDifferent, firstFrom, firstEqual, added, removedAt, sentTo}
 use Rattle.rules.specs.Fits.{numbersFit, idFits, sideFits, leafFits, othersFit, nodeFits, isBlank, slotFits}
 use Rattle.rules.specs.Fits.{wordFits, flagFits, carriedFits, ownerFits, routingFits, failedFits, fieldsFit, messageFits}
@@ -34,7 +36,7 @@ use Rattle.rules.specs.Leave.{replyWaits, planResignNode, lastEnd, planR
 unfoldable pub opened : Unit {0}
 unfolding fallOf signedOf absDistOf risesTo nearer leftCoverOf rightCoverOf coversKey has gather tally allTo single union meet without
     addOf removeOf sizeOf listed best closest contentOf seenFrom leafWith leafWithOne overlaps isFull isComplete isEmpty coversOf leafCandidates
-    routeCandidates byLeaf leafHop routeHop nextHop alike allDifferent firstFrom firstEqual added removedAt sentTo numbersFit idFits
+    routeCandidates byLeaf leafHop routeHop nextHop viaOf alike allDifferent firstFrom firstEqual added removedAt sentTo numbersFit idFits
     sideFits leafFits othersFit nodeFits isBlank slotFits wordFits flagFits carriedFits ownerFits routingFits failedFits fieldsFit
     messageFits mailed waits joinWaits planLookup planJoin leasePlan planRequestLease isNeighbour planLeaseExpired planGrantExpired
     planDeliver planForward planTakeJoinRequest planTakeJoinReply probes2 probesOf probePlanOf planTakeProbe statusAfterReply replyPlanOf
@@ -93,3 +95,8 @@ atEach f = numberOf (f Dead) ∷ numberOf (f Wait) ∷ numberOf (f Ok) ∷ numbe
 abbrev pub made : Planned → Node × List Message
 made (No why) = (noNode, [])
 made (Go x) = (x .node, mailed x [])
+
+-- where a plan says that the next hop came from
+abbrev pub saidBy : Planned → Via
+saidBy (No why) = Unrouted
+saidBy (Go x) = x .via

@@ -18,6 +18,7 @@ use Rattle.rules.specs.declared.Refusal.the-variants as no
 use Rattle.rules.specs.Nodes.{sidesOf}
 use Rattle.rules.specs.Mail.{firstEqual}
 use Rattle.rules.specs.declared.Plan.{Plan}
+use Rattle.rules.specs.declared.Via.the-variants.{Unrouted}
 use Rattle.rules.specs.declared.Planned.{Planned}
 use Rattle.rules.specs.declared.Planned.the-variants.{No, Go}
 use Rattle.rules.specs.Letters.{lookup, joinRequest, leaseRequest}
@@ -63,6 +64,7 @@ leasePlan g ids i v =
       to = unlessIn (v .lease) (leftNeighbour g ids i (sidesOf v));
       each = leaseRequest i;
       all = without (single (rightNeighbour g ids i (sidesOf v))) (v .lease);
+      via = Unrouted;
     }
 
 unfoldable pub planRequestLease : Ring → List ℕ → ℕ → Node → Planned

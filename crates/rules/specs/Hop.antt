@@ -1,4 +1,4 @@
--- The next hop for a key k at node i. Definitions only, each under 01's sentence; dead is the set of the dead nodes. Their laws are in crate rules. Assumes nothing.
+-- The next hop for a key k at node i, and where it came from (T-01). Definitions only, each under 01's or 02's sentence; dead is the set of the dead nodes. Their laws are in crate rules. Assumes nothing.
 use mathlib.Core.Bool.{Bool, cond, _&&_, _||_}
 use mathlib.Core.List.{List}
 use Prim.Native.Nat.{ℕ, _^_}
@@ -15,6 +15,8 @@ use Rattle.rules.specs.Nodes.{sidesOf}
 use Rattle.rules.specs.Leaf.{contentOf, overlaps, leftmost, rightmost}
 use Rattle.rules.specs.declared.Hop.{Hop}
 use Rattle.rules.specs.declared.Hop.the-variants.{To, NoRoute}
+use Rattle.rules.specs.declared.Via.{Via}
+use Rattle.rules.specs.declared.Via.the-variants as via
 
 -- some nodes without failed and dead
 abbrev pub legalOf : ℕ → Node → ℕ → ℕ
@@ -60,3 +62,7 @@ routeHop g ids dead i v k =
 -- if the sides overlap, or Fall(leftmost, i) ≤ Fall(leftmost, rightmost): by the leaf set; otherwise by content and routing set
 unfoldable pub nextHop : Ring → List ℕ → ℕ → ℕ → Node → ℕ → Hop
 nextHop g ids dead i v k = cond (byLeaf g ids i v) (leafHop g ids dead i v k) (routeHop g ids dead i v k)
+
+-- the next hop h is to say whether it came from the leaf set or the routing set; a node in both counts as leaf set
+unfoldable pub viaOf : ℕ → Node → ℕ → Via
+viaOf i v h = cond (has (contentOf (sidesOf v) i) h) via.Leaf via.Routing

@@ -18,6 +18,7 @@ use Rattle.rules.specs.declared.Refusal.the-variants as no
 use Rattle.rules.specs.Nodes.{sidesOf}
 use Rattle.rules.specs.Pool.{blank}
 use Rattle.rules.specs.declared.Plan.{Plan}
+use Rattle.rules.specs.declared.Via.the-variants.{Unrouted}
 use Rattle.rules.specs.declared.Planned.{Planned}
 use Rattle.rules.specs.declared.Planned.the-variants.{No, Go}
 use Rattle.rules.specs.Letters.{joinRequest, lsProbe}
@@ -43,7 +44,14 @@ planNodeLeft v =
 -- the nodes of a set are probed with i's leaf set and failed
 abbrev pub probingPlan : ℕ → Node → ℕ → Plan
 probingPlan i v set =
-    record { node = withProbing v (union (v .probing) set); first = blank; to = Nothing; each = lsProbe i (sidesOf v) (v .failed); all = set }
+    record {
+      node = withProbing v (union (v .probing) set);
+      first = blank;
+      to = Nothing;
+      each = lsProbe i (sidesOf v) (v .failed);
+      all = set;
+      via = Unrouted;
+    }
 
 unfoldable pub planSuspectFaulty : ℕ → Node → ℕ → Planned
 planSuspectFaulty i v j =

@@ -1,4 +1,4 @@
--- 01's numbers: of a status, and of the answers. Assumes nothing.
+-- 01's numbers: of a status, and of the answers; T-01's letters, as bytes. Assumes nothing.
 use Prim.Native.Nat.{ℕ}
 use Rattle.rules.specs.declared.Status.{Status}
 use Rattle.rules.specs.declared.Status.the-variants as status
@@ -6,6 +6,8 @@ use Rattle.rules.specs.declared.Refusal.{Refusal}
 use Rattle.rules.specs.declared.Refusal.the-variants as no
 use Rattle.rules.specs.declared.Answer.{Answer}
 use Rattle.rules.specs.declared.Answer.the-variants.{Done, Refused}
+use Rattle.rules.specs.declared.Via.{Via}
+use Rattle.rules.specs.declared.Via.the-variants as via
 
 -- status (0 dead, 1 wait, 2 ok, 3 ready)
 abbrev pub statusNumber : Status → ℕ
@@ -35,3 +37,9 @@ refusalNumber no.NoRoom = 11
 abbrev pub answerNumber : Answer → ℕ
 answerNumber Done = 0
 answerNumber (Refused why) = refusalNumber why
+
+-- one letter for each routing, `l` or `r`; 0 where there is none
+abbrev pub viaNumber : Via → ℕ
+viaNumber via.Unrouted = 0
+viaNumber via.Leaf = 108
+viaNumber via.Routing = 114

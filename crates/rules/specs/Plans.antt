@@ -13,6 +13,8 @@ use Rattle.rules.specs.Nodes.{placed}
 use Rattle.rules.specs.Pool.{blank}
 use Rattle.rules.specs.Mail.{added, sent}
 use Rattle.rules.specs.declared.Plan.{Plan}
+use Rattle.rules.specs.declared.Via.{Via}
+use Rattle.rules.specs.declared.Via.the-variants.{Unrouted}
 
 -- ---- statuses
 
@@ -109,11 +111,15 @@ withSides v s st =
 
 -- the node, and nothing added
 abbrev pub quietPlan : Node → Plan
-quietPlan v = record { node = v; first = blank; to = Nothing; each = blank; all = 0 }
+quietPlan v = record { node = v; first = blank; to = Nothing; each = blank; all = 0; via = Unrouted }
 
--- the node, and one message to one slot
+-- the node, and one message to one slot, said to go there by `via`
+abbrev pub sendBy : Via → Node → Message → ℕ → Plan
+sendBy via v m s = record { node = v; first = m; to = At s; each = blank; all = 0; via = via }
+
+-- the same, where nothing is routed
 abbrev pub sendPlan : Node → Message → ℕ → Plan
-sendPlan v m s = record { node = v; first = m; to = At s; each = blank; all = 0 }
+sendPlan v m s = sendBy Unrouted v m s
 
 -- a message to a slot, if there is one
 abbrev pub addedTo : Found → Message → List Message → List Message

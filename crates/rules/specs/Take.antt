@@ -20,12 +20,13 @@ use Rattle.rules.specs.Nodes.{sidesOf, carriedOf}
 use Rattle.rules.specs.Pool.{blank}
 use Rattle.rules.specs.declared.Hop.{Hop}
 use Rattle.rules.specs.declared.Hop.the-variants.{To, NoRoute}
-use Rattle.rules.specs.Hop.{nextHop}
+use Rattle.rules.specs.Hop.{nextHop, viaOf}
 use Rattle.rules.specs.declared.Plan.{Plan}
+use Rattle.rules.specs.declared.Via.the-variants as via
 use Rattle.rules.specs.declared.Planned.{Planned}
 use Rattle.rules.specs.declared.Planned.the-variants.{No, Go}
 use Rattle.rules.specs.Letters.{lookup, joinRequest, joinReply, lsProbe, lsProbeReply, noLegalRoute, broadcastLSet}
-use Rattle.rules.specs.Plans.{isDead, isWait, isReady, isUp, withLeases, quietPlan, sendPlan}
+use Rattle.rules.specs.Plans.{isDead, isWait, isReady, isUp, withLeases, quietPlan, sendBy, sendPlan}
 use Rattle.rules.specs.Actions.{isBeside, isNeighbour}
 
 -- ---- 1 Lookup
@@ -34,9 +35,9 @@ use Rattle.rules.specs.Actions.{isBeside, isNeighbour}
 -- and from either of the pair on another kind, both whatever the status; then 2 unless ready; then 5 from Deliver when not covered and from Forward when
 -- covered. (5 from Take on a Lookup: in planTake below.)
 
--- Lookup goes to the next hop, or NoLegalRoute(k) to i
+-- Lookup goes to the next hop, or NoLegalRoute(k) to i. Routing of lookups and of join requests pass this on: where the hop came from
 abbrev pub forwardPlan : Hop → Node → Message → ℕ → ℕ → Plan
-forwardPlan (To h) v m k i = sendPlan v m h
+forwardPlan (To h) v m k i = sendBy (viaOf i v h) v m h
 forwardPlan NoRoute v m k i = sendPlan v (noLegalRoute k) i
 
 -- 5 on another kind; 2 unless ready; 5 when not covered. Delivered: nothing is added
@@ -87,7 +88,7 @@ joinedNode v i routing content s =
 
 -- LSProbe to each in probing, carrying the new leaf set and empty failed
 abbrev pub joinedPlan : Node → ℕ → Sides → Plan
-joinedPlan v i s = record { node = v; first = blank; to = Nothing; each = lsProbe i s 0; all = v .probing }
+joinedPlan v i s = record { node = v; first = blank; to = Nothing; each = lsProbe i s 0; all = v .probing; via = via.Unrouted }
 
 abbrev pub joinReplyPlan : ℕ → Node → ℕ → ℕ → Sides → Plan
 joinReplyPlan i v routing content s = joinedPlan (joinedNode v i routing content s) i s
@@ -144,7 +145,7 @@ waitsEmpty v = isWait (v .status) && isEmpty (sidesOf v)
 -- probing plus P. Send LSProbeReply(S, F) to j, then LSProbe(S, F) to each of P
 abbrev pub probePlan : ℕ → Node → ℕ → Sides → ℕ → ℕ → Plan
 probePlan i v j s f p =
-    record { node = learntNode v j s f (union (v .probing) p) (v .status); first = lsProbeReply i s f; to = At j; each = lsProbe i s f; all = p }
+    record { node = learntNode v j s f (union (v .probing) p) (v .status); first = lsProbeReply i s f; to = At j; each = lsProbe i s f; all = p; via = via.Unrouted }
 
 -- S = leaf set, with j added unless in it
 unfoldable pub probePlanOf : Ring → List ℕ → ℕ → Node → Message → Plan
@@ -177,7 +178,7 @@ statusAfterReply g st s probing = cond (isWait st && (eqb probing 0 && (overlaps
 -- no reply is sent
 abbrev pub replyPlan : Ring → ℕ → Node → ℕ → Sides → ℕ → ℕ → ℕ → Plan
 replyPlan g i v j s f p probing =
-    record { node = learntNode v j s f probing (statusAfterReply g (v .status) s probing); first = blank; to = Nothing; each = lsProbe i s f; all = p }
+    record { node = learntNode v j s f probing (statusAfterReply g (v .status) s probing); first = blank; to = Nothing; each = lsProbe i s f; all = p; via = via.Unrouted }
 
 unfoldable pub replyPlanOf : Ring → List ℕ → ℕ → Node → Message → Plan
 replyPlanOf g ids i v m =

@@ -69,6 +69,13 @@ pub enum Hop {
     NoRoute,
 }
 
+// Where the next hop came from: the leaf set, or the routing set alone; Unrouted where nothing goes to a next hop.
+pub enum Via {
+    Unrouted,
+    Leaf,
+    Routing,
+}
+
 pub enum Refusal {
     OutOfRange,
     Status,
@@ -108,12 +115,14 @@ pub enum Action {
 }
 
 // What an action leaves of its node and adds to the pool: `first` to one slot, if any, then `each` to every slot of a set, in rising slot order.
+// `via` says where the next hop came from.
 pub struct Plan {
     pub node: Node,
     pub first: Message,
     pub to: Found,
     pub each: Message,
     pub all: u64,
+    pub via: Via,
 }
 
 pub enum Planned {

@@ -15,12 +15,13 @@ use Rattle.counts.specs.declared.First.{First}
 use Rattle.rehearsal.specs.declared.Verdict.{Verdict}
 use Rattle.file.specs.declared.Wrote.{Wrote}
 use Rattle.face_file.specs.Calls.{begunOf, wroteBy, leftBy}
-use Rattle.face_c.specs.Words.{askedOf, stepWord, stepLeft}
+use Rattle.face_c.specs.Words.{askedOf, stepWord, viaWord, stepLeft}
 use Rattle.run_driver.specs.declared.told.Reply.{Reply}
+use Rattle.run_driver.specs.declared.told.Led.{Led}
 use Rattle.run_driver.specs.Requests.{wordAt, actionIn, idCount, idsIn}
-use Rattle.run_driver.specs.Replies.{Says, numbered, noResult, noRequest, replyBy, replyIn, result}
+use Rattle.run_driver.specs.Replies.{Says, LeadsTo, numbered, noResult, noRequest, replyBy, replyIn, ledIn, result}
 use Rattle.run_driver.specs.Replies.{restSaid, firstSaid, verdictSaid}
-use Rattle.run_driver.specs.Kinds.{stepSaid, begunSaid, startSaid}
+use Rattle.run_driver.specs.Kinds.{stepSaid, stepViaSaid, begunSaid, startSaid}
 
 -- a number alone
 pub alone : {n : ℕ} {out : List ℕ} {r : Reply} → r ≡ numbered n → Says (noResult n out) r out
@@ -64,6 +65,18 @@ module _ (rest out : List ℕ) where
       → Says (stepSaid rest out) r new
   unfolding stepSaid
   step-says h p q s d e f g = rw (le-ltb (length rest) 24 h, ← (action-is rest p q s), ← d) (packed e f g)
+
+  pub step-via-short : length rest < 24 → {r : Reply} → r ≡ numbered noRequest
+      → LeadsTo (stepViaSaid rest out) (record { reply = r; lead = 0 }) out
+  unfolding stepViaSaid
+  step-via-short h e = rw (lt-ltb (length rest) 24 h) (record { led-is = rw e; left-is = refl })
+
+  pub step-via-says : 24 ≤ length rest → {a b c x : ℕ} {part new : List ℕ} {r : Led} → a ≡ wordAt 0 rest → b ≡ wordAt 8 rest → c ≡ wordAt 16 rest
+      → part ≡ drop 24 rest → r ≡ ledIn x → x ≡ viaWord (askedOf a b c) part out → new ≡ stepLeft (askedOf a b c) part out
+      → LeadsTo (stepViaSaid rest out) r new
+  unfolding stepViaSaid
+  step-via-says h p q s d e f g =
+      rw (le-ltb (length rest) 24 h, ← (action-is rest p q s), ← d) (record { led-is = e ∙ ap ledIn f; left-is = g })
 
   pub start-wrote : (ids : List ℕ) {m l a : ℕ} {new : List ℕ} {w : Wrote} {r : Reply} → m ≡ wordAt 0 rest → l ≡ wordAt 8 rest → a ≡ wordAt 16 rest
       → r ≡ replyBy w → w ≡ wroteBy (begunOf m l a ids) out → new ≡ leftBy (begunOf m l a ids) out

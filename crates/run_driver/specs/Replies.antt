@@ -15,6 +15,7 @@ use Rattle.counts.specs.declared.First.the-variants as first
 use Rattle.rehearsal.specs.declared.Verdict.{Verdict}
 use Rattle.rehearsal.specs.declared.Verdict.the-variants.{Accepted, Bad}
 use Rattle.run_driver.specs.declared.told.Reply.{Reply}
+use Rattle.run_driver.specs.declared.told.Led.{Led}
 
 -- a reply, and what the buffer then holds
 pub record Said : Type 0 where
@@ -44,6 +45,19 @@ replyBy w = record { number = answerNumber (w .answer); count = w .count }
 -- the same as one word: the number in its low 32 bits
 abbrev pub replyIn : ℕ → Reply
 replyIn x = record { number = x % 4294967296; count = x / 4294967296 }
+
+-- a reply whose result has one byte before what the buffer holds
+pub record LedSaid : Type 0 where
+  pub led : Led
+  pub left : List ℕ
+
+pub record LeadsTo (x : LedSaid) (r : Led) (left : List ℕ) : Type 0 where
+  pub led-is : r ≡ x .led
+  pub left-is : left ≡ x .left
+
+-- the word of a step with its letter: the number in its low 32 bits, the count in the next 24, the letter in the highest byte
+abbrev pub ledIn : ℕ → Led
+ledIn x = record { reply = record { number = x % 4294967296; count = x / 4294967296 % 16777216 }; lead = x / 72057594037927936 }
 
 -- the bytes of a result, where there is room for them
 unfoldable pub result : List ℕ → List ℕ → Said

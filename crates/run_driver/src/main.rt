@@ -4,7 +4,7 @@
 // the kinds. Between requests nothing is held but the checker of a rehearsal and the water records.
 mod asked; // what a request says
 mod claims; // kinds 5 and 6
-mod steps; // kinds 0 to 4
+mod steps; // kinds 0 to 4, and 11
 mod told; // what a reply says
 mod waiting; // kind 10
 mod records; // kinds 7 to 9
@@ -12,6 +12,7 @@ mod records; // kinds 7 to 9
 use libc::STDIN_FILENO;
 use libc::STDOUT_FILENO;
 use rehearsal::Checker;
+use told::Led;
 use told::Reply;
 use water::Store;
 
@@ -70,6 +71,22 @@ fn send(r: Reply, out: &[u8]) -> bool {
         return send_head(r.number, 0);
     }
     if !send_head(0, r.count) {
+        return false;
+    }
+    send_bytes(out, r.count)
+}
+
+// Sends a reply with the byte before its result: whether it could.
+fn send_led(l: Led, out: &[u8]) -> bool {
+    let r = l.reply;
+    if r.number != 0 {
+        return send_head(r.number, 0);
+    }
+    if !send_head(0, r.count % 1048576 + 1) {
+        return false;
+    }
+    let lead = [(l.lead % 256) as u8];
+    if !io::write_all(STDOUT_FILENO, &lead) {
         return false;
     }
     send_bytes(out, r.count)
@@ -167,10 +184,22 @@ fn record(s: Store, body: &[u8], n: usize, out: &mut [u8]) -> Stored {
     }
 }
 
+// Answers a step with its letter: whether the reply was sent.
+fn answer_led(request: &[u8], out: &mut [u8]) -> bool {
+    if request.len() == 0 {
+        return false;
+    }
+    let l = steps::make_step_via(&request[1..], out);
+    send_led(l, out)
+}
+
 // Answers a request of another kind: whether the reply was sent.
 fn answer(body: &[u8], n: usize, out: &mut [u8]) -> bool {
     if n > body.len() {
         return false;
+    }
+    if kind_in(body, n) == 11 {
+        return answer_led(&body[..n], out);
     }
     let r = reply_to(&body[..n], out);
     send(r, out)

@@ -1,12 +1,13 @@
-// Requests of one table file: load, step, start, settled and list.
+// Requests of one table file: load, step, start, settled and list, and the step with its letter.
 ghost use Prim.Native.Nat.{_≤_};
 ghost use lib.ListN.{length, take};
 ghost use Rattle.face_file.specs.Calls.{begunOf};
 ghost use Rattle.run_driver.specs.Requests.{wordAt};
-ghost use Rattle.run_driver.specs.Replies.{Says};
-ghost use Rattle.run_driver.specs.Kinds.{loadSaid, stepSaid, begunSaid, startSaid, settledSaid, listSaid};
+ghost use Rattle.run_driver.specs.Replies.{Says, LeadsTo};
+ghost use Rattle.run_driver.specs.Kinds.{loadSaid, stepSaid, stepViaSaid, begunSaid, startSaid, settledSaid, listSaid};
 use super::asked;
 use super::told;
+use super::told::Led;
 use super::told::Reply;
 
 // Reads a table file and writes it back.
@@ -27,6 +28,20 @@ pub fn make_step(rest: &[u8], out: &mut [u8]) -> Reply
     let x = words::read64(rest, 8);
     let y = words::read64(rest, 16);
     told::unpacked(face_c::tarpudhriv_step(&rest[24..], action, x, y, out))
+}
+
+// The same, with the letter of where the next hop came from before the file.
+pub fn make_step_via(rest: &[u8], out: &mut [u8]) -> Led
+    ensures { λ r. ⌜ LeadsTo (stepViaSaid (now (rest .entry)) (now (out .entry))) r (now (out .exit)) ⌝ }
+{
+    if rest.len() < 24 {
+        let reply = told::malformed();
+        return Led { reply, lead: 0 };
+    }
+    let action = words::read64(rest, 0);
+    let x = words::read64(rest, 8);
+    let y = words::read64(rest, 16);
+    told::unlettered(face_c::tarpudhriv_step_via(&rest[24..], action, x, y, out))
 }
 
 // A start of the first n ids.

@@ -6,7 +6,7 @@ ghost use mir.Syntax.{w64};
 ghost use mir.Val.{ofZ};
 ghost use Rattle.rules.specs.Numbers.{refusalNumber};
 ghost use Rattle.words.specs.Bytes.{bytesOf};
-ghost use Rattle.run_driver.specs.Replies.{Says, numbered, noRequest, replyBy, replyIn, result};
+ghost use Rattle.run_driver.specs.Replies.{Says, numbered, noRequest, replyBy, replyIn, ledIn, result};
 ghost use Rattle.run_driver.specs.Replies.{restSaid, firstSaid, verdictSaid};
 use counts::First;
 use face_table::Rest;
@@ -21,6 +21,12 @@ use water::Store;
 pub struct Reply {
     pub number: u32,
     pub count: usize,
+}
+
+// A reply whose result has the byte `lead` before the bytes of the buffer.
+pub struct Led {
+    pub reply: Reply,
+    pub lead: u64,
 }
 
 // A number alone.
@@ -51,6 +57,20 @@ pub fn unpacked(x: u64) -> Reply
     Reply {
         number: (x % 4294967296) as u32,
         count: (x / 4294967296) as usize,
+    }
+}
+
+// The word of a step with its letter as a reply.
+pub fn unlettered(x: u64) -> Led
+    ensures { λ r. ⌜ r ≡ ledIn x ⌝ }
+{
+    let reply = Reply {
+        number: (x % 4294967296) as u32,
+        count: (x / 4294967296 % 16777216) as usize,
+    };
+    Led {
+        reply,
+        lead: x / 72057594037927936,
     }
 }
 

@@ -2,7 +2,7 @@
 use libc::STDOUT_FILENO;
 
 pub fn show(file: &[u8]) {
-    let mut out = [0u8; 16384];
+    let mut out = io::large_buffer();
     let wrote = file_list::list(file, &mut out);
     let count = wrote.count;
     io::write_all(STDOUT_FILENO, &out[..count]);

@@ -27,7 +27,7 @@ use Rattle.rules.specs.Pool.{messageAt, laid}
 use Rattle.table_type.specs.declared.Table.{Table}
 use Rattle.table_type.specs.declared.Stepped.{Stepped}
 use Rattle.table_type.specs.Table.{nodeAt, withNode, ringOf}
-use Rattle.table.specs.Settle.{refusedOf, doneOf, carriedOut, settle}
+use Rattle.table.specs.Settle.{refusedOf, doneBy, carriedOut, settle}
 use Rattle.table.specs.Step.{Gone, all-stay, one-goes, probes-go, timesOut}
 use Rattle.table.specs.Step.{Asked, isSlot, isKey, requests, takes, takenOf, deliveredOf, forwardedOf, asked, remaining, plannedOf, actOf, isSound, stepOf}
 use Rattle.table.specs.Valid.{validOf}
@@ -94,14 +94,14 @@ never-go e = let z : _≡_ {A = ℕ} 0 1 = cc in omega arith
 pub by-settle : (C : Stepped → Type 0) (t : Table) (p : Pool) (ys : List Message) (i : ℕ) (what : Planned)
     → ((why : Refusal) → what ≡ No why → C (refusedOf t p why))
     → ((x : Plan) → what ≡ Go x → 256 < length (mailed x ys) → C (refusedOf t p no.Full))
-    → ((x : Plan) → what ≡ Go x → length (mailed x ys) ≤ 256 → C (doneOf (withNode t i (x .node)) (laid (mailed x ys))))
+    → ((x : Plan) → what ≡ Go x → length (mailed x ys) ≤ 256 → C (doneBy (x .via) (withNode t i (x .node)) (laid (mailed x ys))))
     → C (settle t p ys i what)
 unfolding settle carriedOut
 by-settle C t p ys i (No why) refused full done = refused why refl
 by-settle C t p ys i (Go x) refused full done = go (leb (length (mailed x ys)) 256) refl
   where
     go : (b : Bool) → leb (length (mailed x ys)) 256 ≡ b
-        → C (cond b (doneOf (withNode t i (x .node)) (laid (mailed x ys))) (refusedOf t p no.Full))
+        → C (cond b (doneBy (x .via) (withNode t i (x .node)) (laid (mailed x ys))) (refusedOf t p no.Full))
     go true e = done x refl (leb-true _ 256 e)
     go false e = full x refl (leb-false _ 256 e)
 
@@ -126,7 +126,7 @@ pub record DoneWith (t : Table) (p : Pool) (len : ℕ) (a : Action) (x : Plan) :
 
 -- what the plan leaves
 abbrev pub leavesOf : Table → Pool → Action → Plan → Stepped
-leavesOf t p a x = doneOf (withNode t (asked t p a .slot) (x .node)) (laid (mailed x (remaining p (asked t p a .gone))))
+leavesOf t p a x = doneBy (x .via) (withNode t (asked t p a .slot) (x .node)) (laid (mailed x (remaining p (asked t p a .gone))))
 
 sound-parts : (t : Table) (p : Pool) (len : ℕ) → isSound t p len ≡ true → (len ≡ 256) × Sound t p
 unfolding isSound

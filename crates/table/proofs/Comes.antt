@@ -22,14 +22,14 @@ use Rattle.rules.specs.declared.Plan.{Plan}
 use Rattle.rules.specs.declared.Planned.{Planned}
 use Rattle.rules.specs.declared.Planned.the-variants.{No, Go}
 use Rattle.rules.specs.Actions.{isNeighbour, leasePlan, planLookup, planJoin, planRequestLease, planLeaseExpired, planGrantExpired}
-use Rattle.rules.specs.Hop.{nextHop}
+use Rattle.rules.specs.Hop.{nextHop, viaOf}
 use Rattle.rules.specs.Leaf.{contentOf, leafWith, isComplete, isEmpty, coversOf}
 use Rattle.rules.specs.Leave.{emptied, probingPlan, afterTimeOut, withoutMember, lacksSide, lacksBoth, endsToProbe, lastEnd}
 use Rattle.rules.specs.Leave.{planNodeLeft, planSuspectFaulty, planProbeTimeOut, planDeclareDead, planLSRepair, planResignNode, planRecover}
 use Rattle.rules.specs.Letters.{lookup, joinRequest, joinReply, noLegalRoute}
 use Rattle.rules.specs.Nodes.{sidesOf, carriedOf}
 use Rattle.rules.specs.Pick.{idAt}
-use Rattle.rules.specs.Plans.{isDead, isWait, isReady, isOk, isUp, withStatus, withLeases, quietPlan, sendPlan}
+use Rattle.rules.specs.Plans.{isDead, isWait, isReady, isOk, isUp, withStatus, withLeases, quietPlan, sendBy, sendPlan}
 use Rattle.rules.specs.Take.{forwardPlan, joinReplyPlan, waitsEmpty, probePlanOf, replyPlanOf, grantPlan, broadcastPlan}
 use Rattle.rules.specs.Take.{planDeliver, planForward, planTakeJoinRequest, planTakeJoinReply, planTakeProbe, planTakeProbeReply}
 use Rattle.rules.specs.Take.{planTakeLeaseRequest, planTakeBroadcast, planTake}
@@ -148,7 +148,7 @@ module _ {Q : Refusal → Type 0} {P : Plan → Type 0} where
 
   -- ---- Deliver and Forward, and Take by kind
 
-  forward : (hop : Hop) (v : Node) (m : Message) (k i : ℕ) → ((h : ℕ) → hop ≡ To h → P (sendPlan v m h))
+  forward : (hop : Hop) (v : Node) (m : Message) (k i : ℕ) → ((h : ℕ) → hop ≡ To h → P (sendBy (viaOf i v h) v m h))
       → (hop ≡ NoRoute → P (sendPlan v (noLegalRoute k) i)) → Comes Q P (Go (forwardPlan hop v m k i))
   forward (To h) v m k i to none = goes (to h refl)
   forward NoRoute v m k i to none = goes (none refl)
@@ -162,7 +162,7 @@ module _ {Q : Refusal → Type 0} {P : Plan → Type 0} where
       (unless (not (coversOf g ids i (sidesOf v) k)) (says-no five) (goes delivered)))
 
   pub by-forward : (kind : ℕ) (g : Ring) (ids : List ℕ) (dead i : ℕ) (v : Node) (k : ℕ) → (kind ≡ 1 → Q no.Status) → Q no.Partner
-      → (kind ≡ 1 → (h : ℕ) → nextHop g ids dead i v k ≡ To h → P (sendPlan v (lookup k) h))
+      → (kind ≡ 1 → (h : ℕ) → nextHop g ids dead i v k ≡ To h → P (sendBy (viaOf i v h) v (lookup k) h))
       → (kind ≡ 1 → nextHop g ids dead i v k ≡ NoRoute → P (sendPlan v (noLegalRoute k) i))
       → Comes Q P (planForward kind g ids dead i v k)
   unfolding planForward
@@ -174,7 +174,7 @@ module _ {Q : Refusal → Type 0} {P : Plan → Type 0} where
 
   pub by-take-join-request : (g : Ring) (ids : List ℕ) (dead i : ℕ) (v : Node) (j routing : ℕ) → Q no.Status → Q no.Partner
       → P (sendPlan v (joinReply routing i (sidesOf v)) j)
-      → ((h : ℕ) → nextHop g ids dead i v (idAt ids j) ≡ To h → P (sendPlan v (joinRequest j (union routing (v .routing))) h))
+      → ((h : ℕ) → nextHop g ids dead i v (idAt ids j) ≡ To h → P (sendBy (viaOf i v h) v (joinRequest j (union routing (v .routing))) h))
       → (nextHop g ids dead i v (idAt ids j) ≡ NoRoute → P (sendPlan v (noLegalRoute (idAt ids j)) i))
       → Comes Q P (planTakeJoinRequest g ids dead i v j routing)
   unfolding planTakeJoinRequest

@@ -25,7 +25,8 @@ use Rattle.rules.specs.Leave.{withoutProbes}
 use Rattle.rules.specs.Mail.{removedAt}
 use Rattle.rules.specs.Nodes.{placed}
 use Rattle.rules.specs.Numbers.{refusalNumber, answerNumber}
-use Rattle.rules.specs.Plans.{quietPlan, sendPlan, mailed}
+use Rattle.rules.specs.declared.Via.{Via}
+use Rattle.rules.specs.Plans.{quietPlan, sendBy, mailed}
 use Rattle.rules.specs.Pool.{blank, messageAt, waiting}
 use Rattle.rules.specs.Take.{broadcastPlan, planTake}
 use Rattle.table_type.specs.declared.Table.{Table}
@@ -134,8 +135,8 @@ module _ {t : Table} {p : Pool} (s : Sound t p) where
     unfolding broadcastPlan
     take-broadcast m l = take-quiet _ l
 
-    take-send : (v : Node) (m : Message) (d : ℕ) → 256 < length (mailed (sendPlan v m d) rest) → ⊥
-    take-send v m d l = omega (arith, rw (mailed-send v m d rest) at l, added-length rest (placed m d) .1, rest-room)
+    take-send : (via : Via) (v : Node) (m : Message) (d : ℕ) → 256 < length (mailed (sendBy via v m d) rest) → ⊥
+    take-send via v m d l = omega (arith, rw (mailed-send via v m d rest) at l, added-length rest (placed m d) .1, rest-room)
 
     taken-named : Comes (Named p (Take place)) (Roomy t p (Take place)) (takenOf t (messageAt p place))
     taken-named =
@@ -148,13 +149,13 @@ module _ {t : Table} {p : Pool} (s : Sound t p) where
         let v = nodeAt t i in
         by-take (m .kind) g ids dead i v m (o .kind-low) (o .kind-high)
         (λ e. rw e)
-        (λ e. by-take-join-request g ids dead i v (m .word) (m .routing) (rw e) (rw e) (λ l. absurd (take-send _ _ _ l))
-        (λ d _ l. absurd (take-send _ _ _ l)) (λ _ l. absurd (take-send _ _ _ l)))
+        (λ e. by-take-join-request g ids dead i v (m .word) (m .routing) (rw e) (rw e) (λ l. absurd (take-send _ _ _ _ l))
+        (λ d _ l. absurd (take-send _ _ _ _ l)) (λ _ l. absurd (take-send _ _ _ _ l)))
         (λ e. by-take-join-reply g ids i v m (rw e) (rw e) (rw e) (λ _. rw e))
         (λ e. by-take-probe g ids i v m (rw e) (rw e) (rw e) (λ _. rw e))
         (λ e. by-take-probe-reply g ids i v m (rw e) (rw e) (rw e) (λ _. rw e))
         (λ e. rw e)
-        (λ e. by-take-lease-request g ids i v (m .word) (rw e) (rw e) (λ near l. absurd (take-send _ _ _ l)))
+        (λ e. by-take-lease-request g ids i v (m .word) (rw e) (rw e) (λ near l. absurd (take-send _ _ _ _ l)))
         (λ e. by-take-broadcast g ids i v m (rw e) (rw e) (rw e) (λ l. absurd (take-broadcast m l)))
 
     -- 2 and 5 of a Lookup, 5 of another kind
@@ -174,7 +175,7 @@ module _ {t : Table} {p : Pool} (s : Sound t p) where
     forwarded-named =
         let m = messageAt p place in
         by-forward (m .kind) (ringOf t) (idsOf t) (deadSet t) (m .dest) (nodeAt t (m .dest)) (m .word) pair-two (pair-five (eqb (m .kind) 1))
-        (λ _ d _ l. absurd (take-send _ _ _ l)) (λ _ _ l. absurd (take-send _ _ _ l))
+        (λ _ d _ l. absurd (take-send _ _ _ _ l)) (λ _ _ l. absurd (take-send _ _ _ _ l))
 
   planned-named : (a : Action) → asked t p a .range ≡ true → Comes (Named p a) (Roomy t p a) (plannedOf (asked t p a))
   planned-named (Lookup i k) e = by-lookup _ i k (nodeAt t i) refl (λ _. refl)

@@ -22,7 +22,8 @@ use Rattle.rules.specs.Fits.{nodeFits, messageFits}
 use Rattle.rules.specs.Leaf.{leftNeighbour, rightNeighbour}
 use Rattle.rules.specs.Letters.{leaseRequest}
 use Rattle.rules.specs.Nodes.{sidesOf, placed}
-use Rattle.rules.specs.Plans.{withStatus, withLeases, quietPlan, sendPlan}
+use Rattle.rules.specs.declared.Via.{Via}
+use Rattle.rules.specs.Plans.{withStatus, withLeases, quietPlan, sendBy}
 use Rattle.rules.specs.Pool.{blank}
 use Rattle.rules.proofs.Leaf.{seen-listed}
 use Rattle.pool.proofs.Laws.{Fine}
@@ -73,8 +74,8 @@ module _ {g : Ring} {i : ℕ} {v : Node} where
   quiet-fine e r =
       record { same-id = e; rules = r; mail = record { one = λ s. none-to (Fits g) blank s; rest = λ s l. none-sent (Fits g) blank s } }
 
-  pub send-fine : {w : Node} {m : Message} {h : ℕ} → w .id ≡ v .id → NodeRules g i w → Fits g (placed m h)
-      → FinePlan g i v (sendPlan w m h)
+  pub send-fine : {via : Via} {w : Node} {m : Message} {h : ℕ} → w .id ≡ v .id → NodeRules g i w → Fits g (placed m h)
+      → FinePlan g i v (sendBy via w m h)
   send-fine {m = m} {h = h} e r f =
       record { same-id = e; rules = r; mail = record { one = λ s. one-to (Fits g) m h s f; rest = λ s l. none-sent (Fits g) blank s } }
 

@@ -1,5 +1,6 @@
 -- Small cases of the step, computed by the checker from its definition: which refusal comes first, the least number that is out of range, a
--- request made twice, what a Take removes, what a full pool takes in, and what lies past the count afterwards. Assumes nothing.
+-- request made twice, what a Take removes, what a full pool takes in, what lies past the count afterwards, and where
+-- the answer says that the next hop came from. Assumes nothing.
 use mathlib.Core.Path.{_≡_, refl}
 use mathlib.Core.List.{List, [], _∷_, map}
 use Prim.Native.Nat.{ℕ}
@@ -9,15 +10,17 @@ use Rattle.marks.specs.Marks.{has, gather, tally, firstTo, allTo, single, union
 use Rattle.rules.specs.declared.Action.{Action}
 use Rattle.rules.specs.declared.Action.the-variants.{Lookup, Join, RequestLease, LeaseExpired, GrantExpired, Take, Deliver, Forward}
 use Rattle.rules.specs.declared.Message.{Message}
+use Rattle.rules.specs.declared.Node.{Node}
+use Rattle.rules.specs.declared.Status.the-variants.{Wait, Ready}
 use Rattle.rules.specs.declared.Pool.{Pool}
 use Rattle.rules.specs.Letters.{lookup, joinRequest, noLegalRoute}
-use Rattle.rules.specs.Nodes.{placed}
-use Rattle.rules.specs.Numbers.{answerNumber}
+use Rattle.rules.specs.Nodes.{noNode, placed}
+use Rattle.rules.specs.Numbers.{answerNumber, viaNumber}
 use Rattle.rules.specs.Pool.{waiting, lay, laid}
 use Rattle.rules.specs.Pick.{best}
 use Rattle.rules.specs.Closest.{closest}
 use Rattle.rules.specs.Leaf.{contentOf, seenFrom, leafWith, leafWithOne, overlaps, isComplete, isEmpty, coversOf}
-use Rattle.rules.specs.Hop.{leafCandidates, routeCandidates, byLeaf, leafHop, routeHop, nextHop}
+use Rattle.rules.specs.Hop.{leafCandidates, routeCandidates, byLeaf, leafHop, routeHop, nextHop, viaOf}
 use Rattle.rules.specs.Mail.{alike, allDifferent, firstFrom, firstEqual, added, removedAt, sentTo}
 use Rattle.rules.specs.Fits.{numbersFit, idFits, sideFits, leafFits, othersFit, nodeFits, isBlank, slotFits}
 use Rattle.rules.specs.Fits.{wordFits, flagFits, carriedFits, ownerFits, routingFits, failedFits, fieldsFit, messageFits}
@@ -134,6 +137,44 @@ pub record Waits : Type 0 where
   -- a refused step leaves all 256 places as they were
   pub refused-same : stepOf ring one 256 (Lookup 4 0) .pool ≡ one
 
+-- ---- T-01: where the next hop came from
+
+-- by id, left and right, with every node but that of slot 3 in the routing set
+abbrev ready : ℕ → ℕ → ℕ → Node
+ready id left right =
+    record { id = id; status = Ready; left = left; right = right; probing = 0; failed = 0; routing = 23; lease = 31; grant = 31 }
+
+-- on ids 0, 40, 100, 110, 200, node 0 has 200 on its left and 40 on its right: by content and routing set. 110 is to join
+abbrev wide : Table
+wide =
+    record {
+      m = 8;
+      l = 1;
+      n = 5;
+      nodes =
+          ready 0 16 2 ∷ ready 40 4 1 ∷ ready 100 16 2
+          ∷ record { id = 110; status = Wait; left = 0; right = 0; probing = 0; failed = 0; routing = 8; lease = 0; grant = 0 }
+          ∷ ready 200 1 4 ∷ replicate 59 noNode;
+    }
+
+abbrev saidBy : Table → List Message → Action → ℕ
+saidBy t ms a = viaNumber (stepOf t (laid ms) 256 a .via)
+
+pub record Said : Type 0 where
+  -- a Lookup of 65 goes from 17 to 95, which is in both its sets
+  pub leaf : saidBy ring (placed (lookup 65) 0 ∷ []) (Forward 0) ≡ 108
+  -- told also where the routed message meets its equal
+  pub met : saidBy ring (placed (lookup 65) 0 ∷ placed (lookup 65) 3 ∷ []) (Forward 0) ≡ 108
+  -- delivered, refused, and a step that routes nothing
+  pub none-routed : (saidBy ring (placed (lookup 17) 0 ∷ []) (Deliver 0) ≡ 0) × (saidBy ring (placed (noLegalRoute 17) 0 ∷ []) (Take 0) ≡ 0)
+      × (saidBy ring [] (Lookup 0 65) ≡ 0)
+  -- a Lookup of 105 goes from 0 to 100, which is in the routing set alone
+  pub routing : saidBy wide (placed (lookup 105) 0 ∷ []) (Forward 0) ≡ 114
+  pub routing-met : saidBy wide (placed (lookup 105) 0 ∷ placed (lookup 105) 2 ∷ []) (Forward 0) ≡ 114
+  -- a JoinRequest of 110 goes from 0 to 100 too; it goes from 40 to 100, its neighbour; 100 replies
+  pub join : (saidBy wide (placed (joinRequest 3 0) 0 ∷ []) (Take 0) ≡ 114) × (saidBy wide (placed (joinRequest 3 0) 1 ∷ []) (Take 0) ≡ 108)
+      × (saidBy wide (placed (joinRequest 3 0) 2 ∷ []) (Take 0) ≡ 0)
+
 -- ---- a full pool, and one with a place left
 
 abbrev filled : ℕ → Pool
@@ -154,12 +195,13 @@ pub record StepCases : Type 0 where
   pub repeats : Repeats
   pub pair : Pair
   pub waits-after : Waits
+  pub said : Said
   pub fills : Fills
 
 pub step-cases : StepCases
 unfolding fallOf signedOf absDistOf risesTo nearer leftCoverOf rightCoverOf coversKey has gather tally firstTo allTo single union meet
     without addOf removeOf sizeOf lowestOf listed best closest contentOf seenFrom leafWith leafWithOne overlaps isComplete isEmpty
-    coversOf leafCandidates routeCandidates byLeaf leafHop routeHop nextHop alike allDifferent firstFrom firstEqual added removedAt
+    coversOf leafCandidates routeCandidates byLeaf leafHop routeHop nextHop viaOf alike allDifferent firstFrom firstEqual added removedAt
     sentTo numbersFit idFits sideFits leafFits othersFit nodeFits isBlank slotFits wordFits flagFits carriedFits ownerFits routingFits
     failedFits fieldsFit messageFits mailed waits joinWaits planLookup planJoin planLeaseExpired planGrantExpired leasePlan planRequestLease isNeighbour
     planDeliver planForward planTakeJoinRequest planTakeJoinReply probes2 probesOf probePlanOf planTakeProbe statusAfterReply replyPlanOf planTakeProbeReply
@@ -199,6 +241,14 @@ step-cases =
         added-last = refl;
         taken-last = refl;
         refused-same = refl;
+      };
+      said = record {
+        leaf = refl;
+        met = refl;
+        none-routed = (refl, refl, refl);
+        routing = refl;
+        routing-met = refl;
+        join = (refl, refl, refl);
       };
       fills = record { one-more = refl; the-last = refl; one-for-one = refl };
     }

@@ -11,6 +11,7 @@ use Rattle.rules.specs.declared.Status.{Status}
 use Rattle.rules.specs.declared.Status.the-variants.{Dead, Ok, Ready}
 use Rattle.rules.specs.declared.Ring.{Ring}
 use Rattle.rules.specs.declared.Node.{Node}
+use Rattle.rules.specs.declared.Via.the-variants.{Leaf}
 use Rattle.rules.specs.declared.Message.{Message}
 use Rattle.rules.specs.declared.Pool.{Pool}
 use Rattle.rules.specs.declared.Plan.{Plan}
@@ -27,7 +28,7 @@ use Rattle.rules.specs.Plans.{mailed}
 use Rattle.table_type.specs.declared.Table.{Table}
 use Rattle.table_type.specs.Table.{withNode}
 use Rattle.table.specs.Valid.{nodesFit, messagesFit, poolFits, validOf}
-use Rattle.table.specs.Settle.{refusedOf, doneOf, carriedOut, settle}
+use Rattle.table.specs.Settle.{refusedOf, doneBy, carriedOut, settle}
 
 -- ---- tables
 
@@ -113,14 +114,14 @@ module _ (t : Table) (p : Pool) (ys : List Message) (i : ℕ) where
   unfolding settle carriedOut
   full x e = rw e
 
-  pub not-full : (x : Plan) → length (mailed x ys) ≡ 256 → settle t p ys i (Go x) ≡ doneOf (withNode t i (x .node)) (laid (mailed x ys))
+  pub not-full : (x : Plan) → length (mailed x ys) ≡ 256 → settle t p ys i (Go x) ≡ doneBy (x .via) (withNode t i (x .node)) (laid (mailed x ys))
   unfolding settle carriedOut
   not-full x e = rw e
 
 -- a lookup of 90 is sent to slot 0, and the node of slot 1 becomes ok: that node alone is another, the pool is what waited and the new message,
--- and the pool before is no part of it
+-- the pool before is no part of it, and the answer says what the plan says of the hop
 pub done : settle (table 8 a b []) (laid (k 70 ∷ [])) (k 80 ∷ []) 1
-    (Go (record { node = node 18 Ok 1 1; first = lookup 90; to = At 0; each = blank; all = 0 }))
-    ≡ doneOf (table 8 a (node 18 Ok 1 1) []) (laid (k 80 ∷ placed (lookup 90) 0 ∷ []))
+    (Go (record { node = node 18 Ok 1 1; first = lookup 90; to = At 0; each = blank; all = 0; via = Leaf }))
+    ≡ doneBy Leaf (table 8 a (node 18 Ok 1 1) []) (laid (k 80 ∷ placed (lookup 90) 0 ∷ []))
 unfolding settle carriedOut mailed sentTo added firstEqual firstFrom alike allTo has
 done = refl

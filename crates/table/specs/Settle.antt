@@ -1,4 +1,4 @@
--- What every action shares: it is refused and changes nothing, or it leaves a node and adds messages. Assumes nothing.
+-- What every action shares: it is refused and changes nothing, or it leaves a node and adds messages, and says where the next hop came from. Assumes nothing.
 use mathlib.Core.Bool.{cond}
 use mathlib.Core.List.{List}
 use Prim.Native.Nat.{ℕ}
@@ -12,6 +12,8 @@ use Rattle.rules.specs.declared.Answer.the-variants.{Done, Refused}
 use Rattle.rules.specs.declared.Plan.{Plan}
 use Rattle.rules.specs.declared.Planned.{Planned}
 use Rattle.rules.specs.declared.Planned.the-variants.{No, Go}
+use Rattle.rules.specs.declared.Via.{Via}
+use Rattle.rules.specs.declared.Via.the-variants.{Unrouted}
 use Rattle.rules.specs.Limits.{messagesHigh}
 use Rattle.rules.specs.Pool.{laid}
 use Rattle.rules.specs.Plans.{mailed}
@@ -20,15 +22,19 @@ use Rattle.table_type.specs.declared.Stepped.{Stepped}
 use Rattle.table_type.specs.Table.{withNode}
 
 abbrev pub refusedOf : Table → Pool → Refusal → Stepped
-refusedOf t p why = record { answer = Refused why; table = t; pool = p }
+refusedOf t p why = record { answer = Refused why; table = t; pool = p; via = Unrouted }
 
+abbrev pub doneBy : Via → Table → Pool → Stepped
+doneBy via t p = record { answer = Done; table = t; pool = p; via = via }
+
+-- done, and nothing was routed
 abbrev pub doneOf : Table → Pool → Stepped
-doneOf t p = record { answer = Done; table = t; pool = p }
+doneOf t p = doneBy Unrouted t p
 
--- 6 if the pool after the step would exceed 256; else node i and the pool are those of the plan
+-- 6 if the pool after the step would exceed 256; else node i and the pool are those of the plan, and the answer says what the plan does of the hop
 unfoldable pub carriedOut : Table → Pool → List Message → ℕ → Plan → Stepped
 carriedOut t p ys i x =
-    cond (leb (length (mailed x ys)) messagesHigh) (doneOf (withNode t i (x .node)) (laid (mailed x ys))) (refusedOf t p no.Full)
+    cond (leb (length (mailed x ys)) messagesHigh) (doneBy (x .via) (withNode t i (x .node)) (laid (mailed x ys))) (refusedOf t p no.Full)
 
 -- the table t, the pool p that a refusal leaves, the messages ys that wait when additions begin, the node's slot, and what is planned
 unfoldable pub settle : Table → Pool → List Message → ℕ → Planned → Stepped

@@ -14,13 +14,13 @@ use Rattle.pool.proofs.NewOnes.{news-room}
 use Rattle.pool.specs.InnerSending.{leftOf, newsOf, roomOf}
 use Rattle.table_type.specs.declared.Table.{Table}
 use Rattle.table_type.specs.Table.{withNode}
-use Rattle.table.specs.Settle.{refusedOf, doneOf, carriedOut}
+use Rattle.table.specs.Settle.{refusedOf, doneBy, carriedOut}
 
 module _ (t : Table) (p : Pool) (gone i : ℕ) (x : Plan) (w : New) (whole : length (waiting p) ≡ p .count) (told : w ≡ newsOf x (leftOf p gone)) where
   room-is : roomOf (p .count) gone w ≡ leb (length (mailed x (leftOf p gone))) 256
   room-is = ap (roomOf (p .count) gone) told ∙ news-room p gone x whole
 
-  pub fits : roomOf (p .count) gone w ≡ true → doneOf (withNode t i (x .node)) (laid (mailed x (leftOf p gone))) ≡ carriedOut t p (leftOf p gone) i x
+  pub fits : roomOf (p .count) gone w ≡ true → doneBy (x .via) (withNode t i (x .node)) (laid (mailed x (leftOf p gone))) ≡ carriedOut t p (leftOf p gone) i x
   unfolding carriedOut
   fits e = rw (sym room-is ∙ e)
 

@@ -6,15 +6,29 @@ ghost use Prim.Native.Nat.{_≤_};
 ghost use Rattle.rules.specs.Pool.{laid};
 ghost use Rattle.table_type.specs.Start.{noTable};
 ghost use Rattle.table.specs.Settle.{refusedOf, doneOf};
-ghost use Rattle.table_parts.specs.InnerAnswers.{answeredOf, whyOf};
+ghost use Rattle.table_parts.specs.InnerAnswers.{answeredBy, answeredOf, whyOf};
 ghost use Rattle.table_parts.specs.InnerSlots.{slotsWith};
 use rules::Answer;
 use rules::Planned;
 use rules::Pool;
 use rules::Refusal;
+use rules::Via;
 use table_type::Stepped;
 use table_type::Table;
 
+// The answer with what it leaves, and where the next hop came from.
+pub fn answered_by(via: Via, t: Table, p: Pool, answer: Answer) -> Stepped
+    ensures { λ r. ⌜ r ≡ answeredBy via t p answer ⌝ }
+{
+    Stepped {
+        answer,
+        table: t,
+        pool: p,
+        via,
+    }
+}
+
+// The same, where nothing was routed.
 pub fn answered(t: Table, p: Pool, answer: Answer) -> Stepped
     ensures { λ r. ⌜ r ≡ answeredOf t p answer ⌝ }
 {
@@ -22,6 +36,7 @@ pub fn answered(t: Table, p: Pool, answer: Answer) -> Stepped
         answer,
         table: t,
         pool: p,
+        via: Via::Unrouted,
     }
 }
 

@@ -29,7 +29,7 @@ use Rattle.pool.proofs.Laws.{waiting-short}
 use Rattle.pool.proofs.Probes.{left-short}
 use Rattle.table_type.specs.declared.Table.{Table}
 use Rattle.table_type.specs.Table.{withNode}
-use Rattle.table.specs.Settle.{refusedOf, doneOf, carriedOut, settle}
+use Rattle.table.specs.Settle.{refusedOf, doneBy, carriedOut, settle}
 use Rattle.table.specs.Step.{Gone, all-stay, one-goes, probes-go, asked, remaining, plannedOf, isSound, stepOf}
 use Rattle.table.specs.Valid.{validOf}
 use Rattle.table.proofs.By.{goes}
@@ -150,12 +150,12 @@ module _ {t : Table} {p : Pool} {a : Action} (c : Called t p a) where
 
         -- probes that have timed out go, and nothing is sent
         left-room : (ys : List Message) (x : Plan) (i : ℕ) → mailed x ys ≡ ys → length ys ≤ 256
-            → doneOf (withNode t i (x .node)) (laid ys) ≡ carriedOut t p ys i x
+            → doneBy (x .via) (withNode t i (x .node)) (laid ys) ≡ carriedOut t p ys i x
         unfolding carriedOut
         left-room ys x i q l = rw (q, le-leb (length ys) 256 l)
 
         pub times-out : r .timed ≡ true → (x : Plan) → what ≡ Go x
-            → doneOf (withNode t (r .slot) (x .node)) (laid (withoutProbes (waiting p) (r .slot) (r .partner))) ≡ stepOf t p len a
+            → doneBy (x .via) (withNode t (r .slot) (x .node)) (laid (withoutProbes (waiting p) (r .slot) (r .partner))) ≡ stepOf t p len a
         unfolding settle
         times-out b x e =
             let ys = withoutProbes (waiting p) (r .slot) (r .partner) in

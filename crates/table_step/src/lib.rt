@@ -55,8 +55,9 @@ pub fn step(t: Table, p: Pool, len: usize, a: Action) -> Stepped
         let j = asks.partner;
         let w = plan.node;
         u.nodes[k] = w;
+        let by = plan.via;
         let left = pool::without_probes(q, k as u32, j as u32);
-        return table_parts::answered(u, left, Answer::Done);
+        return table_parts::answered_by(by, u, left, Answer::Done);
     }
     let mut new = pool::first_new(plan);
     if pool::sends(plan) & !asks.fresh {
@@ -97,5 +98,6 @@ pub fn step(t: Table, p: Pool, len: usize, a: Action) -> Stepped
         q.places[at] = none;
         at += 1;
     }
-    table_parts::answered(u, q, Answer::Done)
+    let via = plan.via;
+    table_parts::answered_by(via, u, q, Answer::Done)
 }

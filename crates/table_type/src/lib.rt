@@ -15,6 +15,7 @@ use rules::Refusal;
 use rules::Ring;
 use rules::Sides;
 use rules::Status;
+use rules::Via;
 
 // Ids have m digits, a side of a leaf set holds at most l nodes, and n nodes are listed, in the slots 0 to n - 1.
 pub struct Table {
@@ -24,11 +25,12 @@ pub struct Table {
     pub nodes: [Node; 64],
 }
 
-// What a step, a load or a start leaves: the answer, the table and the pool.
+// What a step, a load or a start leaves: the answer, the table and the pool; and where the next hop came from, if a step routed a message to one.
 pub struct Stepped {
     pub answer: Answer,
     pub table: Table,
     pub pool: Pool,
+    pub via: Via,
 }
 
 // What the start makes: a table, or the table of no node beside the refusal.

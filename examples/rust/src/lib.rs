@@ -1,4 +1,4 @@
-//! The bench for Rust: safe functions over the five calls. A table is its file, as bytes; a refusal is 01's number.
+//! The bench for Rust: safe functions over the six calls. A table is its file, as bytes; a refusal is 01's number.
 
 use std::error::Error;
 use std::fmt;
@@ -7,7 +7,7 @@ use std::fmt;
 pub const FILE: usize = 18_464;
 
 /// The room that a listing asks for.
-pub const LISTING: usize = 16_384;
+pub const LISTING: usize = 65_536;
 
 /// One step of the bench. Slots and places count from 0.
 #[derive(Clone, Copy, Debug)]
@@ -74,6 +74,15 @@ mod calls {
             out: *mut u8,
             out_len: usize,
         ) -> u64;
+        pub fn tarpudhriv_step_via(
+            file: *const u8,
+            file_len: usize,
+            action: u64,
+            x: u64,
+            y: u64,
+            out: *mut u8,
+            out_len: usize,
+        ) -> u64;
         pub fn tarpudhriv_start(
             m: u64,
             l: u64,
@@ -111,10 +120,36 @@ impl Action {
     }
 }
 
-/// The high 32 bits of a reply, or the refusal that its low 32 bits say.
+/// Where the next hop came from. A node in both counts as leaf set.
+#[derive(Clone, Copy, Debug, PartialEq, Eq)]
+pub enum Via {
+    LeafSet,
+    RoutingSet,
+}
+
+impl Via {
+    /// The letter in the highest byte of a reply.
+    fn of(word: u64) -> Option<Via> {
+        match (word >> 56) as u8 {
+            b'l' => Some(Via::LeafSet),
+            b'r' => Some(Via::RoutingSet),
+            _ => None,
+        }
+    }
+
+    /// Its letter in a listing.
+    pub fn letter(self) -> u8 {
+        match self {
+            Via::LeafSet => b'l',
+            Via::RoutingSet => b'r',
+        }
+    }
+}
+
+/// The 24 bits above the number of a reply, or the refusal that its low 32 bits say.
 fn told(word: u64) -> Result<usize, Refused> {
     match word as u32 {
-        0 => Ok((word >> 32) as usize),
+        0 => Ok((word >> 32) as usize & 0xff_ffff),
         number => Err(Refused(number)),
     }
 }
@@ -140,6 +175,20 @@ pub fn step(file: &[u8], action: Action) -> Result<Vec<u8>, Refused> {
     written(FILE, |out| unsafe {
         calls::tarpudhriv_step(file.as_ptr(), file.len(), action, x, y, out.as_mut_ptr(), out.len())
     })
+}
+
+/// The table file after one step, and where the next hop came from, if the step routed a message to another node.
+pub fn step_via(file: &[u8], action: Action) -> Result<(Option<Via>, Vec<u8>), Refused> {
+    let (action, x, y) = action.words();
+    let mut via = None;
+    let after = written(FILE, |out| {
+        let word = unsafe {
+            calls::tarpudhriv_step_via(file.as_ptr(), file.len(), action, x, y, out.as_mut_ptr(), out.len())
+        };
+        via = Via::of(word);
+        word
+    })?;
+    Ok((via, after))
 }
 
 /// The table file of ids of `m` digits, leaf sets of `l` a side, ready where `a` has a mark.

@@ -4,21 +4,22 @@ use mathlib.Core.Path.{_≡_, refl, sym, ap, _∙_}
 use mathlib.Core.List.{List}
 use Prim.Native.Nat.{ℕ}
 use Rattle.rules.specs.declared.Action.{Action}
-use Rattle.file.specs.declared.Wrote.{Wrote}
-use Rattle.face_file.specs.Calls.{loadedOf, nextOf, wroteBy, leftBy}
+use Rattle.face_file.specs.Calls.{loadedOf, nextOf, leftBy, movedBy}
+use Rattle.face_file.specs.declared.Moved.{Moved}
 use Rattle.face_c.specs.declared.Asked.{Asked}
 use Rattle.face_c.specs.declared.Asked.the-variants.{Is, None}
 use Rattle.face_c.specs.Words.{packOf, unknown, stepWord, stepLeft}
-use Rattle.face_c.proofs.Counts.{wrote-by-small}
+use Rattle.face_c.proofs.Counts.{moved-is, moved-small}
 use Rattle.face_c.proofs.tarpudhriv_step.Statement.{statement}
 use Rattle.face_c.proofs.tarpudhriv_step.Tie as tie
 
 module _ (q : Asked) (file out : List ℕ) where
-  step-known : (a : Action) → q ≡ Is a → (w : Wrote) (new : List ℕ) (r : ℕ) → r ≡ packOf w
-      → (w ≡ wroteBy (nextOf (loadedOf file) a) out) × (new ≡ leftBy (nextOf (loadedOf file) a) out)
+  step-known : (a : Action) → q ≡ Is a → (m : Moved) (new : List ℕ) (r : ℕ) → r ≡ packOf (m .wrote)
+      → (m ≡ movedBy (nextOf (loadedOf file) a) out) × (new ≡ leftBy (nextOf (loadedOf file) a) out)
       → (r ≡ stepWord q file out) × (new ≡ stepLeft q file out)
   unfolding stepWord stepLeft
-  step-known a e w new r p k = (rw e (p ∙ ap packOf (k .0)), rw e (k .1))
+  step-known a e m new r p k =
+      (rw e (p ∙ ap (λ (x : Moved). packOf (x .wrote)) (k .0) ∙ ap packOf (moved-is (nextOf (loadedOf file) a) out)), rw e (k .1))
 
   step-unknown : q ≡ None → (unknown ≡ stepWord q file out) × (out ≡ stepLeft q file out)
   unfolding stepWord stepLeft
@@ -34,7 +35,7 @@ step-file-requires : tie.Need-step-file-requires
 step-file-requires c κs = search needs
 
 packed-requires : tie.Need-packed-requires
-packed-requires c κs = rw (c .before .before .step-file .ensures .0) (wrote-by-small _ _)
+packed-requires c κs = rw (c .before .before .step-file .ensures .0) (moved-small _ _)
 
 enum-told : tie.Need-enum-told
 enum-told c = search needs

@@ -1,11 +1,12 @@
 -- `file_list::follow` meets its contract. The invariants: the lines of the messages passed stand in the buffer; what remains of a lookup's way
 -- gives its trip (Underway). The measures: the messages left, and the takes left. Assumes nothing.
 use borrow.Author.Needs.{needs}
-use mathlib.Core.Path.{_≡_, sym, _∙_}
+use mathlib.Core.Path.{_≡_, refl, sym, _∙_}
 use mathlib.Core.Logic.{⊎-elim}
 use Prim.Native.Nat.{ℕ, _-_, _<_, _≤_, zero-le}
 use native.Mathlib.Omega.{arith}
 use lib.ListN.{length, take}
+use lib.Seq.{length-take-le}
 use Rattle.rules.specs.declared.Node.{Node}
 use Rattle.rules.specs.Pool.{messageAt}
 use Rattle.table_type.specs.Table.{ringOf, idsOf}
@@ -26,10 +27,10 @@ use Rattle.file_list.proofs.follow.Statement.{statement}
 use Rattle.file_list.proofs.follow.Tie as tie
 
 abbrev Inv-hops : tie.InvT-hops
-Inv-hops b start t p g ids dead n at q m from i₀ hops₀ end₀ i hops end = Underway t m i hops end
+Inv-hops b start t p g ids dead n at q m from i₀ hops₀ letters₀ end₀ i hops letters end = Underway t m i hops letters end
 
 abbrev μ-hops : tie.MeasureT-hops
-μ-hops b start t p g ids dead n at q m from i₀ hops₀ end₀ i hops end = 64 - hops
+μ-hops b start t p g ids dead n at q m from i₀ hops₀ letters₀ end₀ i hops letters end = 64 - hops
 
 abbrev Inv-lookups : tie.InvT-lookups
 Inv-lookups b₀ start t p g ids dead n at₀ q₀ b at q = (q ≤ n) × Prints b₀ at₀ (linesOf t (take q (p .places))) at b
@@ -70,7 +71,7 @@ told c i k v e =
 -- the way's end is that of the steps
 trip-told : (c : tie.Left-hops Inv-hops μ-hops Inv-lookups μ-lookups)
     → let l = place (c .before .before) in
-    ended (c .hops-test .end) (c .before .hops .hops) ≡ followOf (start l .args .t3) (messageAt (start l .args .t4) (l .lookups .q))
+    ended (c .hops-test .end) (take (c .before .hops .hops) (c .before .hops .letters)) ≡ followOf (start l .args .t3) (messageAt (start l .args .t4) (l .lookups .q))
 trip-told c =
     let h = c .before .hops in
     let l = place (c .before .before) in
@@ -103,7 +104,7 @@ cast-from : tie.Need-cast-from Inv-hops μ-hops Inv-lookups μ-lookups
 cast-from c = search needs
 
 hops-holds : tie.Need-hops-holds Inv-hops μ-hops Inv-lookups μ-lookups
-hops-holds c = sets-out (is-lone c)
+hops-holds c = sets-out (is-lone c) _ refl
 
 mul-v : tie.Need-mul-v Inv-hops μ-hops Inv-lookups μ-lookups
 mul-v c = let w = inside (is-lone (c .before .before)) (c .before .hops .inv) in omega arith
@@ -126,6 +127,12 @@ enum-told-2 c = search needs
 enum-known-turn : tie.Need-enum-known-turn Inv-hops μ-hops Inv-lookups μ-lookups
 enum-known-turn c = search needs
 
+letter-of-requires : tie.Need-letter-of-requires Inv-hops μ-hops Inv-lookups μ-lookups
+letter-of-requires c κs = search needs
+
+array-write-letters : tie.Need-array-write-letters Inv-hops μ-hops Inv-lookups μ-lookups
+array-write-letters c = search needs
+
 add-hops : tie.Need-add-hops Inv-hops μ-hops Inv-lookups μ-lookups
 add-hops c = search needs
 
@@ -134,21 +141,28 @@ hops-less c = search needs
 
 hops-again : tie.Need-hops-again Inv-hops μ-hops Inv-lookups μ-lookups
 hops-again c =
-    let w = c .before .before .before in
+    let w = c .before .before .before .before in
     let h = w .before .before .before .before in
-    let goes = sym (told (place (h .before)) _ _ _ (w .turn-at .ensures)) ∙ c .before .turn .given .1 in
-    goes-on (is-lone (h .before)) (h .hops .inv) (omega arith) goes
+    let goes = sym (told (place (h .before)) _ _ _ (w .turn-at .ensures)) ∙ c .before .before .turn .given .1 in
+    rw (c .letter-of .ensures) (goes-on (is-lone (h .before)) (h .hops .inv) (omega arith) goes)
+
+slice-aggregate-put-line : tie.Need-slice-aggregate-put-line Inv-hops μ-hops Inv-lookups μ-lookups
+slice-aggregate-put-line c = search needs
 
 put-line-requires : tie.Need-put-line-requires Inv-hops μ-hops Inv-lookups μ-lookups
 put-line-requires c κs =
-    let w = c .before .before in
+    let w = c .before .before .before in
     let one = is-lone (w .before .before) in
+    let way = w .before .hops .inv in
+    let low : w .before .hops .hops ≤ length (w .before .hops .letters) = omega (arith, way .few, way .long) in
     let l = place (w .before .before) in
     let a = start l .args in
     let m = messageAt (a .t4) (l .lookups .q) in
     let line = line-told (a .t3) m (l .before .before .ids .ensures) (trip-told w) in (
       omega (arith, lone-slot one, lone-listed one .n-high),
-      trip-ends one (trip-told w),
+      trip-ends one (trip-told w) .0,
+      rw (length-take-le _ _ low) at (trip-ends one (trip-told w) .1),
+      low,
       rw line (omega (
         arith,
         line-short one,
@@ -180,8 +194,8 @@ lookups-again c =
             };
             hops-test = w .3;
           } in
-          rw (w .9, w .10) (lines-line (a .t3) (a .t4 .places) (l .lookups .q) h (w .0 .taken) (l .lookups .inv .1)
-          (rw (line-told (a .t3) m ids trip) at (w .6 .ensures))))
+          rw (w .10, w .11) (lines-line (a .t3) (a .t4 .places) (l .lookups .q) h (w .0 .taken) (l .lookups .inv .1)
+          (rw (line-told (a .t3) m ids trip) at (w .7 .ensures))))
           (λ w. rw (w .1, w .2) (lines-skip (a .t3) (a .t4 .places) (l .lookups .q) h (w .0 .left) (l .lookups .inv .1))) (c .if1 .came),
     )
 
@@ -216,9 +230,12 @@ follow-spec =
     enum-told
     enum-told-2
     enum-known-turn
+    letter-of-requires
+    array-write-letters
     add-hops
     hops-less
     hops-again
+    slice-aggregate-put-line
     put-line-requires
     add-q
     lookups-less

@@ -18,11 +18,14 @@ send-plan-requires c κs = search needs
 returns : tie.Need-returns
 returns c = rw (c .before .before .enum-told .given .1, c .send-plan .ensures, c .before .no-legal-route .ensures)
 
-send-plan-requires-2 : tie.Need-send-plan-requires-2
-send-plan-requires-2 c κs = search needs
+via-of-requires : tie.Need-via-of-requires
+via-of-requires c κs = search needs
+
+send-by-requires : tie.Need-send-by-requires
+send-by-requires c κs = search needs
 
 returns-2 : tie.Need-returns-2
-returns-2 c = rw (c .before .before .next .given .1, c .send-plan2 .ensures)
+returns-2 c = rw (c .before .before .before .next .given .1, c .send-by .ensures, c .before .via-of .ensures)
 
 pub forward-spec : {M : Type 1} → statement M
 forward-spec =
@@ -33,5 +36,6 @@ forward-spec =
     no-legal-route-requires
     send-plan-requires
     returns
-    send-plan-requires-2
+    via-of-requires
+    send-by-requires
     returns-2)

@@ -8,6 +8,9 @@ use Rattle.file_list.proofs.Length.{list-inside}
 use Rattle.run_parts.proofs.show.Statement.{statement}
 use Rattle.run_parts.proofs.show.Tie as tie
 
+large-buffer-requires : tie.Need-large-buffer-requires
+large-buffer-requires c κs = search needs
+
 inside : (c : tie.After-list) → c .list .result .count ≤ length (c .list .last .1 .0)
 inside c = rw (c .list .ensures .0, c .list .ensures .1) (list-inside _ _)
 
@@ -33,6 +36,7 @@ pub show-spec : {M : Type 1} → statement M
 show-spec =
     tie.close
     (tie.spec
+    large-buffer-requires
     slice-aggregate-list
     list-requires
     array-share-prefix-out

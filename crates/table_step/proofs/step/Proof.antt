@@ -32,7 +32,7 @@ use Rattle.table_plan.specs.InnerAsked.{Called, Asks, slotWith}
 use Rattle.table_plan.proofs.Called.{counted}
 use Rattle.table_type.specs.declared.Table.{Table}
 use Rattle.table_type.specs.Table.{withNode}
-use Rattle.table.specs.Settle.{refusedOf, doneOf}
+use Rattle.table.specs.Settle.{refusedOf, doneBy}
 use Rattle.table.specs.Step.{asked, plannedOf, isSound}
 use Rattle.table.specs.Valid.{validOf}
 use Rattle.table.proofs.Sound.{sound, is-valid}
@@ -56,10 +56,10 @@ abbrev μ-slots : tie.MeasureT-slots
 μ-slots len u q₀ valid gone request there plan i none rest₀ n₀ at q rest n = sizeOf rest
 
 abbrev Inv-blanks : tie.InvT-blanks
-Inv-blanks len u q₀ valid gone request there i none rest n at₀ q at = Blanked n q₀ q at
+Inv-blanks len u q₀ valid gone request there plan i none rest n at₀ q at = Blanked n q₀ q at
 
 abbrev μ-blanks : tie.MeasureT-blanks
-μ-blanks len u q₀ valid gone request there i none rest n at₀ q at = 256 - at
+μ-blanks len u q₀ valid gone request there plan i none rest n at₀ q at = 256 - at
 
 -- ---- where the walk stands: validity told, the table sound, what is asked told, the action in range, whether it is repeated, its plan, the
 -- plan that goes, its new messages, room for them, and the gap about to be closed
@@ -312,8 +312,8 @@ cast-without-probes-2 c = omega (arith, left-partner c)
 without-probes-requires : tie.Need-without-probes-requires Inv-gap μ-gap Inv-slots μ-slots Inv-blanks μ-blanks
 without-probes-requires c κs = counted (called (aim (leaving c)))
 
-answered-requires-4 : tie.Need-answered-requires-4 Inv-gap μ-gap Inv-slots μ-slots Inv-blanks μ-blanks
-answered-requires-4 c κs = search needs
+answered-by-requires : tie.Need-answered-by-requires Inv-gap μ-gap Inv-slots μ-slots Inv-blanks μ-blanks
+answered-by-requires c κs = search needs
 
 returns-4 : tie.Need-returns-4 Inv-gap μ-gap Inv-slots μ-slots Inv-blanks μ-blanks
 returns-4 c =
@@ -322,7 +322,7 @@ returns-4 c =
     let e = aim k in
     let s = start e .args in
     let x = w .before .before .before .what .given .0 .0 in
-    c .answered4 .ensures ∙ ap (doneOf (withNode (s .t) (left-asks w .slot) (x .node))) (c .before .without-probes .ensures)
+    c .answered-by .ensures ∙ ap (doneBy (x .via) (withNode (s .t) (left-asks w .slot) (x .node))) (c .before .without-probes .ensures)
     ∙ times-out (called e) (left-asks w) (asks-is (asks e)) (s .len) (is-sound (asks e .before)) _ (planned-is k) (w .before .if4 .taken) x
     (w .before .before .before .what .given .1)
 
@@ -338,8 +338,8 @@ news-requires c κs = let w = c .before .before .before .before .before .before 
 room-requires : tie.Need-room-requires Inv-gap μ-gap Inv-slots μ-slots Inv-blanks μ-blanks
 room-requires c κs = counted-of c
 
-answered-requires-5 : tie.Need-answered-requires-5 Inv-gap μ-gap Inv-slots μ-slots Inv-blanks μ-blanks
-answered-requires-5 c κs = search needs
+answered-requires-4 : tie.Need-answered-requires-4 Inv-gap μ-gap Inv-slots μ-slots Inv-blanks μ-blanks
+answered-requires-4 c κs = search needs
 
 returns-5 : tie.Need-returns-5 Inv-gap μ-gap Inv-slots μ-slots Inv-blanks μ-blanks
 returns-5 c =
@@ -347,7 +347,7 @@ returns-5 c =
     let e = aim (aimed k) in
     let s = start e .args in
     let m = readOf (called e) (told-asks k) (asks-is (asks e)) in
-    c .answered5 .ensures
+    c .answered4 .ensures
     ∙ full (s .t) (s .p) (told-gone k) (slotWith (told-asks k) m) (told-plan k) _ (whole k) (new-is k)
     (sym (c .before .before .room .ensures) ∙ not-true _ (c .before .if6 .taken))
     ∙ carries (called e) (told-asks k) (asks-is (asks e)) (s .len) (is-sound (asks e .before)) _ (planned-is (aimed k)) (untimed k .if4 .left) (told-plan k) _
@@ -426,8 +426,8 @@ low-one c =
     let l = c .before .before .before .before .before .before in
     one-fits _ _ _ (new-of l) (roomy (ready l)) _ _ (l .left-count .ensures) (c .before .before .one .given .1)
 
-mul-t80 : tie.Need-mul-t80 Inv-gap μ-gap Inv-slots μ-slots Inv-blanks μ-blanks
-mul-t80 c = omega (arith, low-one c)
+mul-t82 : tie.Need-mul-t82 Inv-gap μ-gap Inv-slots μ-slots Inv-blanks μ-blanks
+mul-t82 c = omega (arith, low-one c)
 
 element-set-from-q : tie.Need-element-set-from-q Inv-gap μ-gap Inv-slots μ-slots Inv-blanks μ-blanks
 element-set-from-q c = low-one c
@@ -491,8 +491,8 @@ low-next c =
     let k = c .before .before in
     filling-low _ _ _ _ _ _ (lowest k) (k .before .before .before .before .slots .inv)
 
-mul-t85 : tie.Need-mul-t85 Inv-gap μ-gap Inv-slots μ-slots Inv-blanks μ-blanks
-mul-t85 c = omega (arith, low-next c)
+mul-t87 : tie.Need-mul-t87 Inv-gap μ-gap Inv-slots μ-slots Inv-blanks μ-blanks
+mul-t87 c = omega (arith, low-next c)
 
 element-set-from-q-2 : tie.Need-element-set-from-q-2 Inv-gap μ-gap Inv-slots μ-slots Inv-blanks μ-blanks
 element-set-from-q-2 c = low-next c
@@ -534,8 +534,8 @@ blanks-again c =
     let l = c .before .before .before .before .before .before .before .before .before .before in
     rw (l .before .blank-message .ensures) (blanked-more _ _ _ _ (omega arith) (c .before .before .blanks .inv))
 
-answered-requires-6 : tie.Need-answered-requires-6 Inv-gap μ-gap Inv-slots μ-slots Inv-blanks μ-blanks
-answered-requires-6 c κs = search needs
+answered-by-requires-2 : tie.Need-answered-by-requires-2 Inv-gap μ-gap Inv-slots μ-slots Inv-blanks μ-blanks
+answered-by-requires-2 c κs = search needs
 
 returns-6 : tie.Need-returns-6 Inv-gap μ-gap Inv-slots μ-slots Inv-blanks μ-blanks
 returns-6 c =
@@ -548,8 +548,8 @@ returns-6 c =
     let e = aim (aimed j) in
     let s = start e .args in
     let none = sym (o .before .before .lowest .ensures) ∙ o .enum-told3 .given .1 in
-    c .answered6 .ensures
-    ∙ ap (doneOf (withNode (s .t) (l .before .before .before .slot-of .result) (told-plan j .node)))
+    c .answered-by2 .ensures
+    ∙ ap (doneBy (told-plan j .via) (withNode (s .t) (l .before .before .before .slot-of .result) (told-plan j .node)))
     (after-is (s .p) (told-gone j) (told-plan j) (new-of l) (roomy y) _ _ (put-is (k .before) .head)
     (blanked-end _ _ _ (omega (arith, k .slots .inv .room)) (k .slots .inv .long) (omega arith) (b .before .blanks .inv)
     ∙ ap laid (filling-end _ _ _ _ _ none (k .slots .inv))))
@@ -589,13 +589,13 @@ step-spec =
     cast-without-probes
     cast-without-probes-2
     without-probes-requires
-    answered-requires-4
+    answered-by-requires
     returns-4
     first-new-requires
     sends-requires
     news-requires
     room-requires
-    answered-requires-5
+    answered-requires-4
     returns-5
     slot-of-requires
     mul-v
@@ -614,7 +614,7 @@ step-spec =
     enum-known-one
     cast-to-slot
     to-slot-requires
-    mul-t80
+    mul-t82
     element-set-from-q
     add-n
     enum-told-2
@@ -624,7 +624,7 @@ step-spec =
     enum-told-3
     cast-to-slot-2
     to-slot-requires-2
-    mul-t85
+    mul-t87
     element-set-from-q-2
     add-n-2
     removed-requires
@@ -636,5 +636,5 @@ step-spec =
     add-at-2
     blanks-less
     blanks-again
-    answered-requires-6
+    answered-by-requires-2
     returns-6)

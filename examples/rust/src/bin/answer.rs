@@ -1,9 +1,9 @@
 //! answer: answers the driver's requests (docs/DRIVER.md) on standard input, but those of water records and of
-//! what waits for a node, by the five calls. A rehearsal is checked by step and `==`.
+//! what waits for a node, by the six calls. A rehearsal is checked by step and `==`.
 
 use std::io::{self, Read, Write};
 use std::process::ExitCode;
-use tarpudhriv::{Action, Refused};
+use tarpudhriv::{Action, Refused, Via};
 
 /// What a request that is none is answered.
 const MALFORMED: Refused = Refused(u32::MAX);
@@ -70,6 +70,12 @@ fn action(rest: &[u8]) -> Result<Action, Refused> {
     }
 }
 
+/// A step with its letter before the file, 0 where it routed nothing.
+fn step_via(rest: &[u8]) -> Result<Vec<u8>, Refused> {
+    let (via, file) = tarpudhriv::step_via(&rest[24..], action(rest)?)?;
+    Ok([&[via.map_or(0, Via::letter)][..], &file].concat())
+}
+
 fn start(rest: &[u8]) -> Result<Vec<u8>, Refused> {
     let ids: Vec<u32> =
         rest[24..].chunks(4).map(|id| u32::from_le_bytes(id.try_into().expect("four bytes"))).collect();
@@ -89,6 +95,7 @@ fn reply_to(rehearsal: &mut Rehearsal, request: &[u8]) -> Result<Vec<u8>, Refuse
         4 => Ok(tarpudhriv::list(rest)),
         5 => Ok(rehearsal.begin(rest)),
         6 if rest.len() >= 24 => rehearsal.next(action(rest)?, &rest[24..]),
+        11 if rest.len() >= 24 => step_via(rest),
         _ => Err(MALFORMED),
     }
 }
