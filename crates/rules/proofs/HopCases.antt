@@ -45,7 +45,7 @@ pub record NextHops : Type 0 where
   -- key 20 at 40, with 0 on its left and 100 on its right, by content and routing set: 0 is at the same distance, and the nearer
   pub tie-by-routing : (byLeaf four farIds 1 (node 40 Ready 1 4 0 0 15 0 0) ≡ false)
       × (nextHop four farIds 0 1 (node 40 Ready 1 4 0 0 15 0 0) 20 ≡ To 0)
-  -- key 20 at 0, with 40 on its left: 40 is at the same distance, and not the nearer
+  -- key 20 at 0, with 40 on its right: 40 is at the same distance, and not the nearer
   pub tie-kept : farHop 15 20 ≡ NoRoute
   -- the branch: the ends may be the same Fall apart; with both sides empty they are the node itself
   pub alone : (byLeaf four ids 0 (node 17 Ready 0 0 0 0 15 0 0) ≡ true) × (nextHop four ids 0 0 (node 17 Ready 0 0 0 0 15 0 0) 80 ≡ NoRoute)

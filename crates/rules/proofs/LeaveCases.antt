@@ -33,10 +33,10 @@ node-left-cases = record { two = refl; done = (refl, refl) }
 
 -- by probing and failed
 abbrev suspects : ℕ → ℕ → ℕ → Status → Planned
-suspects probing failed j s = planSuspectFaulty 0 (node 10 s 6 48 probing failed 1 38 17) j
+suspects probing failed j s = planSuspectFaulty 0 (node 10 s 6 48 probing failed 63 38 17) j
 
 abbrev suspected : ℕ → ℕ → Status → Node × List Message
-suspected probing j s = (node 10 s 6 48 probing 4 1 38 17, placed (lsProbe 0 (sides 6 48) 4) j ∷ [])
+suspected probing j s = (node 10 s 6 48 probing 4 63 38 17, placed (lsProbe 0 (sides 6 48) 4) j ∷ [])
 
 pub record SuspectFaultyCases : Type 0 where
   pub two : atEach (suspects 8 4 1) ≡ 2 ∷ 2 ∷ 0 ∷ 0 ∷ []
@@ -48,6 +48,8 @@ pub record SuspectFaultyCases : Type 0 where
   -- a member of the left, and one of the right
   pub left : made (suspects 8 4 1 Ok) ≡ suspected 10 1 Ok
   pub right : made (suspects 8 4 5 Ready) ≡ suspected 40 5 Ready
+  -- a granted one stays granted
+  pub granted : made (suspects 8 4 4 Ready) ≡ suspected 24 4 Ready
 
 pub suspect-faulty-cases : SuspectFaultyCases
 unfolding opened
@@ -60,14 +62,18 @@ suspect-faulty-cases =
       five-failed = refl;
       left = refl;
       right = refl;
+      granted = refl;
     }
 
 -- ---- ProbeTimeOut(i, j): i not dead, i and j differ, j probed; j leaves probing and lease and enters failed, the waiting LSProbes from i to j go, and unless j is
 -- granted it leaves the leaf set, with i becoming wait if it was there.
 
--- by the sides, probing and grant
+-- by the sides, probing, lease and grant
+abbrev timesLeased : ℕ → ℕ → ℕ → ℕ → ℕ → ℕ → Status → Planned
+timesLeased left right probing lease grant j s = planProbeTimeOut 0 (node 10 s left right probing 16 63 lease grant) j
+
 abbrev times : ℕ → ℕ → ℕ → ℕ → ℕ → Status → Planned
-times left right probing grant j s = planProbeTimeOut 0 (node 10 s left right probing 16 1 38 grant) j
+times left right probing grant j s = timesLeased left right probing 38 grant j s
 
 pub record ProbeTimeOutCases : Type 0 where
   pub two : atEach (times 6 48 6 0 1) ≡ 2 ∷ 0 ∷ 0 ∷ 0 ∷ []
@@ -75,13 +81,15 @@ pub record ProbeTimeOutCases : Type 0 where
   pub five : atEach (times 6 48 4 0 1) ≡ 2 ∷ 5 ∷ 5 ∷ 5 ∷ []
   pub five-itself : atEach (times 6 48 1 0 0) ≡ 2 ∷ 5 ∷ 5 ∷ 5 ∷ []
   -- a member that is not granted leaves, and the node waits; a grant of another does not count
-  pub member : made (times 6 48 6 0 1 Ready) ≡ (node 10 Wait 4 48 4 18 1 36 0, [])
-  pub both-sides : made (times 6 34 2 4 1 Ok) ≡ (node 10 Wait 4 32 0 18 1 36 4, [])
-  pub waits-on : made (times 6 48 32 0 5 Wait) ≡ (node 10 Wait 6 16 0 48 1 6 0, [])
+  pub member : made (times 6 48 6 0 1 Ready) ≡ (node 10 Wait 4 48 4 18 63 36 0, [])
+  pub both-sides : made (times 6 34 2 4 1 Ok) ≡ (node 10 Wait 4 32 0 18 63 36 4, [])
+  pub waits-on : made (times 6 48 32 0 5 Wait) ≡ (node 10 Wait 6 16 0 48 63 6 0, [])
   -- a granted member stays, and so does the status
-  pub granted : made (times 6 48 6 2 1 Ready) ≡ (node 10 Ready 6 48 4 18 1 36 2, [])
+  pub granted : made (times 6 48 6 2 1 Ready) ≡ (node 10 Ready 6 48 4 18 63 36 2, [])
   -- who is no member is failed, and the status stays
-  pub stranger : made (times 6 48 8 0 3 Ready) ≡ (node 10 Ready 6 48 0 24 1 38 0, [])
+  pub stranger : made (times 6 48 8 0 3 Ready) ≡ (node 10 Ready 6 48 0 24 63 38 0, [])
+  -- and no longer leased
+  pub stranger-leased : made (timesLeased 6 48 8 46 0 3 Ready) ≡ (node 10 Ready 6 48 0 24 63 38 0, [])
 
 pub probe-time-out-cases : ProbeTimeOutCases
 unfolding opened
@@ -95,6 +103,7 @@ probe-time-out-cases =
       waits-on = refl;
       granted = refl;
       stranger = refl;
+      stranger-leased = refl;
     }
 
 abbrev probeTo : ℕ → Message
@@ -120,7 +129,7 @@ probes-gone = record { gone = refl; last = refl; stay = refl; none = refl }
 
 -- by the sides, failed and grant
 abbrev declares : ℕ → ℕ → ℕ → ℕ → ℕ → Status → Planned
-declares left right failed grant j s = planDeclareDead (six 2) sixIds 0 (node 10 s left right 10 failed 1 38 grant) j
+declares left right failed grant j s = planDeclareDead (six 2) sixIds 0 (node 10 s left right 10 failed 63 38 grant) j
 
 pub record DeclareDeadCases : Type 0 where
   pub two : atEach (declares 6 48 2 0 1) ≡ 2 ∷ 2 ∷ 0 ∷ 0 ∷ []
@@ -129,12 +138,12 @@ pub record DeclareDeadCases : Type 0 where
   pub five-stranger : atEach (declares 6 48 8 0 3) ≡ 2 ∷ 2 ∷ 5 ∷ 5 ∷ []
   pub five-granted-left : atEach (declares 6 48 2 2 1) ≡ 2 ∷ 2 ∷ 5 ∷ 5 ∷ []
   pub five-granted-right : atEach (declares 6 48 32 32 5) ≡ 2 ∷ 2 ∷ 5 ∷ 5 ∷ []
-  -- neighbours; failed, probing and lease keep j
-  pub left : made (declares 6 48 2 4 1 Ok) ≡ (node 10 Wait 4 48 10 2 1 38 4, [])
-  pub right : made (declares 6 48 32 0 5 Ready) ≡ (node 10 Wait 6 16 10 32 1 38 0, [])
-  pub both-sides : made (declares 6 34 6 0 1 Ready) ≡ (node 10 Wait 4 32 10 6 1 38 0, [])
+  -- neighbours; failed, probing, routing and lease keep j
+  pub left : made (declares 6 48 2 4 1 Ok) ≡ (node 10 Wait 4 48 10 2 63 38 4, [])
+  pub right : made (declares 6 48 32 0 5 Ready) ≡ (node 10 Wait 6 16 10 32 63 38 0, [])
+  pub both-sides : made (declares 6 34 6 0 1 Ready) ≡ (node 10 Wait 4 32 10 6 63 38 0, [])
   -- a granted member that is no neighbour
-  pub granted : made (declares 6 48 4 4 2 Ready) ≡ (node 10 Wait 2 48 10 4 1 38 4, [])
+  pub granted : made (declares 6 48 4 4 2 Ready) ≡ (node 10 Wait 2 48 10 4 63 38 4, [])
 
 pub declare-dead-cases : DeclareDeadCases
 unfolding opened
@@ -155,10 +164,10 @@ declare-dead-cases =
 
 -- by L, the sides and probing
 abbrev repairs : ℕ → ℕ → ℕ → ℕ → Status → Planned
-repairs l left right probing s = planLSRepair (six l) sixIds 0 (node 10 s left right probing 8 1 38 4)
+repairs l left right probing s = planLSRepair (six l) sixIds 0 (node 10 s left right probing 8 63 38 4)
 
 abbrev asked : ℕ → ℕ → ℕ → Node
-asked left right probing = node 10 Wait left right probing 8 1 38 4
+asked left right probing = node 10 Wait left right probing 8 63 38 4
 
 abbrev asks : ℕ → ℕ → ℕ → Message
 asks left right j = placed (lsProbe 0 (sides left right) 8) j
@@ -173,12 +182,17 @@ pub record LSRepairCases : Type 0 where
   -- 2 before 4 before 5
   pub five : atEach (repairs 2 2 48 8) ≡ 2 ∷ 5 ∷ 2 ∷ 2 ∷ []
   pub four-first : atEach (repairs 2 6 48 8) ≡ 2 ∷ 4 ∷ 2 ∷ 2 ∷ []
+  pub four-first-left : atEach (repairs 2 0 48 8) ≡ 2 ∷ 4 ∷ 2 ∷ 2 ∷ []
+  pub four-first-right : atEach (repairs 2 6 0 8) ≡ 2 ∷ 4 ∷ 2 ∷ 2 ∷ []
   -- 80 is leftmost, 160 rightmost
   pub both : made (repairs 3 6 48 0 Wait) ≡ (asked 6 48 20, asks 6 48 2 ∷ asks 6 48 4 ∷ [])
   -- 200 is leftmost, 40 rightmost: in rising slot order
   pub rising : made (repairs 3 40 6 0 Wait) ≡ (asked 40 6 34, asks 40 6 1 ∷ asks 40 6 5 ∷ [])
   pub left-short : made (repairs 2 4 48 0 Wait) ≡ (asked 4 48 4, asks 4 48 2 ∷ [])
   pub right-short : made (repairs 2 6 16 0 Wait) ≡ (asked 6 16 16, asks 6 16 4 ∷ [])
+  -- the far end of a short side with more than one: 80 of 40 and 80, 160 of 160 and 200
+  pub left-end : made (repairs 3 6 56 0 Wait) ≡ (asked 6 56 4, asks 6 56 2 ∷ [])
+  pub right-end : made (repairs 3 14 48 0 Wait) ≡ (asked 14 48 16, asks 14 48 4 ∷ [])
 
 pub ls-repair-cases : LSRepairCases
 unfolding opened
@@ -191,10 +205,14 @@ ls-repair-cases =
       four-overlap = refl;
       five = refl;
       four-first = refl;
+      four-first-left = refl;
+      four-first-right = refl;
       both = refl;
       rising = refl;
       left-short = refl;
       right-short = refl;
+      left-end = refl;
+      right-end = refl;
     }
 
 -- ---- ResignNode(i, n): i wait and n ready; no JoinReply to i waits; a side empty; probing empty. All sets empty but the routing set, which is i; a JoinRequest to n.
@@ -244,7 +262,7 @@ resign-node-cases =
 
 -- by whether some node is ok or ready, the sides and probing
 abbrev recovers : Bool → ℕ → ℕ → ℕ → Status → Planned
-recovers someUp left right probing s = planRecover someUp (six 3) sixIds 0 (node 10 s left right probing 8 1 38 4)
+recovers someUp left right probing s = planRecover someUp (six 3) sixIds 0 (node 10 s left right probing 8 63 38 4)
 
 pub record RecoverCases : Type 0 where
   pub two : atEach (recovers false 0 48 0) ≡ 2 ∷ 0 ∷ 2 ∷ 2 ∷ []
@@ -254,6 +272,7 @@ pub record RecoverCases : Type 0 where
   -- 2 before 4 before 5
   pub five : atEach (recovers false 0 48 8) ≡ 2 ∷ 5 ∷ 2 ∷ 2 ∷ []
   pub four-first : atEach (recovers false 6 48 8) ≡ 2 ∷ 4 ∷ 2 ∷ 2 ∷ []
+  pub four-first-empty : atEach (recovers false 0 0 8) ≡ 2 ∷ 4 ∷ 2 ∷ 2 ∷ []
   pub two-first : atEach (recovers true 6 48 8) ≡ 2 ∷ 2 ∷ 2 ∷ 2 ∷ []
   -- 160 is rightmost, 80 leftmost
   pub left-empty : made (recovers false 0 48 0 Wait) ≡ (asked 0 48 16, asks 0 48 4 ∷ [])
@@ -269,6 +288,7 @@ recover-cases =
       four-both = refl;
       five = refl;
       four-first = refl;
+      four-first-empty = refl;
       two-first = refl;
       left-empty = refl;
       right-empty = refl;

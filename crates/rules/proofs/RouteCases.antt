@@ -1,5 +1,5 @@
--- Deliver and Forward of kind 1, Take of kinds 2 and 6, and which plan belongs to which kind, computed by the checker on 01's worked ids: each refusal, the lowest where two apply, and
--- what is done. Assumes nothing.
+-- Deliver and Forward of kind 1, Take of kinds 2 and 6, and which plan belongs to which kind, computed by the checker on 01's worked ids: each refusal, the lowest where two
+-- apply, and what is done. Assumes nothing.
 use mathlib.Core.Path.{_≡_, refl}
 use mathlib.Core.List.{List, [], _∷_}
 use Prim.Native.Nat.{ℕ}
