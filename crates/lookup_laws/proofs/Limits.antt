@@ -1,4 +1,4 @@
--- How far the statements reach, computed on small tables. n - 1 routings are reached, and R - 1 for two ready nodes. Each hypothesis of the
+-- How far the statements reach, computed on small tables. n - 1 routings are reached, though other steps fall between, and R - 1 for two ready nodes. Each hypothesis of the
 -- second half is needed: without it a valid table is named in which the lookup does not arrive, or in which a step between stops it. Of
 -- settled, which part fails is told part by part (`partsOf`; together they are settled). Assumes nothing.
 use mathlib.Core.Path.{_≡_, refl, _∙_, ap}
@@ -18,7 +18,7 @@ use Rattle.rules.specs.declared.Way.the-variants.{Up, Down}
 use Rattle.rules.specs.declared.Node.{Node}
 use Rattle.rules.specs.declared.Pool.{Pool}
 use Rattle.rules.specs.declared.Action.{Action}
-use Rattle.rules.specs.declared.Action.the-variants.{LeaseExpired, Deliver, Forward}
+use Rattle.rules.specs.declared.Action.the-variants.{LeaseExpired, Deliver, Forward, ProbeTimeOut}
 use Rattle.rules.specs.declared.Refusal.the-variants as no
 use Rattle.rules.specs.declared.Answer.the-variants.{Refused}
 use Rattle.rules.specs.Actions.{isNeighbour, planLeaseExpired}
@@ -27,7 +27,8 @@ use Rattle.rules.specs.Fits.{numbersFit, idFits, sideFits, leafFits, othersFit,
 use Rattle.rules.specs.Fits.{wordFits, flagFits, carriedFits, ownerFits, routingFits, failedFits, fieldsFit, messageFits}
 use Rattle.rules.specs.Hop.{leafCandidates, routeCandidates, byLeaf, leafHop, routeHop, nextHop}
 use Rattle.rules.specs.Leaf.{contentOf, seenFrom, leafWith, overlaps, coversOf}
-use Rattle.rules.specs.Letters.{lookup}
+use Rattle.rules.specs.Leave.{withoutProbes, planProbeTimeOut}
+use Rattle.rules.specs.Letters.{noSides, lookup, lsProbe}
 use Rattle.rules.specs.Mail.{alike, allDifferent, firstFrom, firstEqual, added, removedAt, sentTo}
 use Rattle.rules.specs.Nodes.{noNode, placed}
 use Rattle.rules.specs.Pick.{best}
@@ -40,10 +41,11 @@ use Rattle.table.specs.Settle.{doneOf, carriedOut, settle}
 use Rattle.table.specs.Settled.{readySet, deadSet, settledAt, isSettled}
 use Rattle.table_type.specs.Start.{slotIds, slotsTo, startNode, startNodes, startFits, idsRise, listFits, startOf}
 use Rattle.table.specs.Step.{isSound, stepOf}
-use Rattle.table_type.specs.Table.{nodeAt}
+use Rattle.table_type.specs.Table.{nodeAt, withNode}
 use Rattle.table.specs.Valid.{nodesFit, messagesFit, poolFits, validOf}
 use Rattle.lookup_laws.specs.Journey.{stepped, LookupAt, Fate, stays, routed, met, delivered, unroutable, fateOf, routings, Delivers}
 use Rattle.lookup_laws.specs.Journey.{here, on}
+use Rattle.lookup_laws.specs.Pair.{forwardsAt}
 use Rattle.lookup_laws.specs.Claims.{Ready, Alone, Arrives}
 use Rattle.lookup_laws.proofs.Holder.{nextOf}
 use Rattle.lookup_laws.specs.Joining.{leftAt, rightAt}
@@ -56,7 +58,7 @@ unfolding validOf numbersFit nodesFit slotFits idFits nodeFits leafFits sideFits
     best coversKey leftCoverOf rightCoverOf fallOf nextHop byLeaf overlaps meet gather leafHop routeHop leafCandidates
     routeCandidates contentOf union addOf without removeOf nearer absDistOf signedOf risesTo deadSet readySet settledAt isSettled
     single firstEqual firstFrom added removedAt startOf startFits listFits idsRise slotIds startNodes startNode slotsTo
-    leafWith closest
+    leafWith closest withoutProbes planProbeTimeOut
 opened = tt
 
 -- ---- tables
@@ -87,6 +89,27 @@ chain-valid = refl
 pub chain-routings : routings chain (only 0 3) (Forward 0 ∷ Forward 0 ∷ Forward 0 ∷ Deliver 0 ∷ []) 0 ≡ chain .n - 1
 unfolding chain opened
 chain-routings = refl
+
+-- a refused Deliver falls before them
+pub refused-between : routings chain (only 0 3) (Deliver 0 ∷ Forward 0 ∷ Forward 0 ∷ Forward 0 ∷ []) 0 ≡ chain .n - 1
+unfolding chain opened
+refused-between = refl
+
+-- 0 probes 1, and the probe waits before the lookup: it times out, and the lookup moves up
+unfoldable pub probing-chain : Table
+probing-chain =
+    withNode chain 0 (record { id = 0; status = status.Ready; left = 0; right = 0; probing = 2; failed = 0; routing = 0; lease = 0; grant = 0 })
+
+abbrev pub behind : Pool
+behind = laid (placed (lsProbe 0 noSides 0) 1 ∷ placed (lookup 0) 3 ∷ [])
+
+pub time-out-moves : (validOf probing-chain behind ≡ true) × (fateOf probing-chain behind 1 (ProbeTimeOut 0 1) ≡ stays 0)
+unfolding chain probing-chain opened
+time-out-moves = (refl, refl)
+
+pub time-out-between : routings probing-chain behind (ProbeTimeOut 0 1 ∷ Forward 0 ∷ Forward 0 ∷ Forward 0 ∷ []) 1 ≡ chain .n - 1
+unfolding chain probing-chain opened
+time-out-between = refl
 
 -- two ready nodes, as started: the lookup of the other's id is routed R - 1 times, and delivered
 unfoldable pub pair : Table
@@ -313,6 +336,15 @@ pub met-computes :
     × (fateOf pair both-look 0 (Deliver 0) ≡ stays 0) × (fateOf pair both-look 0 (Forward 0) ≡ met 1 0)
 unfolding pair opened
 met-computes = (refl, (omega arith, refl), refl, refl)
+
+-- a Forward that met its equal is a routing
+pub met-counts : routings pair both-look (Forward 0 ∷ []) 0 ≡ 1
+unfolding pair opened
+met-counts = refl
+
+-- a Forward of what waits for another slot is none at this one
+pub another-forwards : (forwardsAt both-look (Forward 1) 0 ≡ false) × (forwardsAt both-look (Forward 0) 0 ≡ true)
+another-forwards = (refl, refl)
 
 pub met-fails : LookupAt both-look 0 2 0 × (Arrives pair both-look 0 2 → ⊥)
 met-fails = (record { waits = omega arith; is = refl }, λ a. stuck (ap ending (met-computes .2)) (ap going (met-computes .3)) (a .delivers))
