@@ -162,7 +162,9 @@ module _ {g : Ring} {ids : List ℕ} (l : Listed g ids) {i : ℕ} (hi : i < g .n
 
   pub fine-ls-repair : FinePlanned g i v (planLSRepair g ids i v)
   unfolding endsToProbe
-  fine-ls-repair = by-ls-repair g ids i v tt tt tt (λ e. probing-fine (go (short (v .left) && short (v .right)) (short (v .left) && eqb (sizeOf (v .right)) (g .l)) (left e) (right e)))
+  fine-ls-repair =
+      by-ls-repair g ids i v tt tt tt
+      (λ e. probing-fine (go (short (v .left) && short (v .right)) (short (v .left) && eqb (sizeOf (v .right)) (g .l)) (left e) (right e)))
     where
       short : ℕ → Bool
       short side = ltb (sizeOf side) (g .l)

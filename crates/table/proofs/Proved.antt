@@ -1,5 +1,5 @@
 -- What every step keeps, proved. A done step writes one node by a fine plan, so the ids stay and the node obeys its rules; what waits
--- afterwards is what waited, less the message taken, and what the plan added where no equal waits. Assumes nothing.
+-- afterwards is what waited, less the message taken, and what the plan added where no equal waits. And a step that routes nothing says so. Assumes nothing.
 use mathlib.Core.Path.{_≡_, refl, ap}
 use mathlib.Core.Logic.{_⊎_, inl, inr}
 use mathlib.Core.Bool.{true}
@@ -17,6 +17,7 @@ use Rattle.rules.specs.declared.Plan.{Plan}
 use Rattle.rules.specs.declared.Action.{Action}
 use Rattle.rules.specs.declared.Action.the-variants.{Lookup, Join, RequestLease, LeaseExpired, GrantExpired, Take, Deliver, Forward}
 use Rattle.rules.specs.declared.Action.the-variants.{NodeLeft, SuspectFaulty, ProbeTimeOut, DeclareDead, LSRepair, ResignNode, Recover}
+use Rattle.rules.specs.declared.Via.the-variants.{Unrouted}
 use Rattle.rules.specs.Actions.{waits, joinWaits}
 use Rattle.rules.specs.Fits.{hasKey, nodeFits}
 use Rattle.rules.specs.Leave.{withoutProbes, replyWaits}
@@ -35,7 +36,7 @@ use Rattle.pool.proofs.Probes.{all-left, apart-left}
 use Rattle.table.proofs.Nodes.{NodeRules, node-rules}
 use Rattle.table.proofs.Obeys.{obeys}
 use Rattle.table.proofs.Sound.{Sound, sound-valid}
-use Rattle.table.specs.Claims.{KeepsValid, SameRing, KeepsRing, RefusalKeeps}
+use Rattle.table.specs.Claims.{KeepsValid, SameRing, KeepsRing, RefusalKeeps, RoutedOnly}
 use Rattle.table.proofs.By.{DoneWith, leavesOf, slot-in-range, by-step, step-refused, step-done}
 use Rattle.table.proofs.Comes.{go-comes}
 use Rattle.table.proofs.Plans.{Fits, FinePlan, FinePlanned, fine-fits}
@@ -43,6 +44,7 @@ use Rattle.table.proofs.Plans.{fine-lookup, fine-join, fine-request-lea
 use Rattle.table.proofs.Leaves.{fine-node-left, fine-suspect-faulty, fine-probe-time-out, fine-declare-dead}
 use Rattle.table.proofs.Leaves.{fine-ls-repair, fine-resign-node, fine-recover}
 use Rattle.table.proofs.Takes.{fine-deliver, fine-forward, fine-take}
+use Rattle.table.proofs.Routed.{planned-silent}
 
 -- ---- every plan is fine
 
@@ -170,3 +172,7 @@ keeps-ring t p len a =
 
 pub refusal-keeps : RefusalKeeps
 refusal-keeps t p len a why e = step-refused t p len a why e .1
+
+pub routed-only : RoutedOnly
+routed-only t p len a n =
+    by-step (λ s. s .via ≡ Unrouted) t p len a (λ why r. refl) (λ x d. go-comes (planned-silent (d .sound) a (d .in-range) n) x (d .plan))
