@@ -8,6 +8,7 @@ use lib.ListN.{take, set, replicate}
 use Rattle.ring.specs.Distance.{fallOf, signedOf, absDistOf, risesTo, nearer, leftCoverOf, rightCoverOf, coversKey}
 use Rattle.marks.specs.Marks.{has, gather, tally, allTo, union, meet, without, addOf, removeOf, sizeOf, listed}
 use Rattle.rules.specs.declared.Node.{Node}
+use Rattle.rules.specs.declared.Status.{Status}
 use Rattle.rules.specs.declared.Status.the-variants.{Wait, Ready}
 use Rattle.rules.specs.Fits.{numbersFit, idFits, sideFits, leafFits, othersFit, nodeFits, isBlank, slotFits}
 use Rattle.rules.specs.Fits.{wordFits, flagFits, carriedFits, ownerFits, routingFits, failedFits, fieldsFit, messageFits}
@@ -109,6 +110,9 @@ abbrev ready : ℕ → ℕ → ℕ → Node
 ready id left right =
     record { id = id; status = Ready; left = left; right = right; probing = 0; failed = 0; routing = 23; lease = 31; grant = 31 }
 
+abbrev plain : ℕ → Status → ℕ → ℕ → Node
+plain id s left right = record { id = id; status = s; left = left; right = right; probing = 0; failed = 0; routing = 0; lease = 0; grant = 0 }
+
 -- on ids 0, 40, 100, 110, 200, node 0 has 200 on its left and 40 on its right: by content and routing set. 110 waits
 abbrev far : Table
 far =
@@ -122,6 +126,26 @@ far =
           ∷ ready 200 1 4 ∷ replicate 59 noNode;
     }
 
+-- the same, where 110 is ready between 100 and 200
+abbrev further : Table
+further =
+    record {
+      m = 8;
+      l = 1;
+      n = 5;
+      nodes = ready 0 16 2 ∷ ready 40 4 1 ∷ ready 100 8 2 ∷ ready 110 16 4 ∷ ready 200 1 8 ∷ replicate 59 noNode;
+    }
+
+-- on ids 0, 1 and 2, node 0 has 1 and 2 on its left; 2 waits
+abbrev stuck : Table
+stuck =
+    record {
+      m = 2;
+      l = 2;
+      n = 3;
+      nodes = plain 0 Ready 6 2 ∷ plain 1 Ready 1 1 ∷ plain 2 Wait 0 0 ∷ replicate 61 noNode;
+    }
+
 abbrev line : ℕ → ℕ → List ℕ
 line k d = lineOf far (placed (lookup k) d)
 
@@ -130,6 +154,10 @@ pub record Letters : Type 0 where
   pub by-routing : line 105 0 ≡ 49 ∷ 48 ∷ 53 ∷ 32 ∷ 48 ∷ 32 ∷ 49 ∷ 48 ∷ 48 ∷ 32 ∷ 49 ∷ 32 ∷ 114 ∷ 10 ∷ []
   -- `105 40 100 1 l`
   pub by-leaf : line 105 1 ≡ 49 ∷ 48 ∷ 53 ∷ 32 ∷ 52 ∷ 48 ∷ 32 ∷ 49 ∷ 48 ∷ 48 ∷ 32 ∷ 49 ∷ 32 ∷ 108 ∷ 10 ∷ []
+  -- `115 0 110 2 rl`: to 100 by the routing set, which goes first, and from there to 110 beside it
+  pub both-in-order : lineOf further (placed (lookup 115) 0) ≡ 49 ∷ 49 ∷ 53 ∷ 32 ∷ 48 ∷ 32 ∷ 49 ∷ 49 ∷ 48 ∷ 32 ∷ 50 ∷ 32 ∷ 114 ∷ 108 ∷ 10 ∷ []
+  -- `2 0 - 1 l`: it goes to 2, which is not ready
+  pub letters-stuck : lineOf stuck (placed (lookup 2) 0) ≡ 50 ∷ 32 ∷ 48 ∷ 32 ∷ 45 ∷ 32 ∷ 49 ∷ 32 ∷ 108 ∷ 10 ∷ []
   -- `5 0 0 0 -`, delivered where it waits
   pub at-once : line 5 0 ≡ 53 ∷ 32 ∷ 48 ∷ 32 ∷ 48 ∷ 32 ∷ 48 ∷ 32 ∷ 45 ∷ 10 ∷ []
   -- `5 110 - 0 -`, where the node is not ready
@@ -137,4 +165,4 @@ pub record Letters : Type 0 where
 
 pub letters : Letters
 unfolding opened
-letters = record { by-routing = refl; by-leaf = refl; at-once = refl; refused = refl }
+letters = record { by-routing = refl; by-leaf = refl; both-in-order = refl; letters-stuck = refl; at-once = refl; refused = refl }
