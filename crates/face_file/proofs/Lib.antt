@@ -1,2 +1,3 @@
 pub mod Unique
 pub mod Kept
+pub mod Cases

@@ -1,4 +1,5 @@
--- What a caller gets who lends its list, computed by the checker: M and L in their places, the count told, and lists that have not 256 places. Assumes nothing.
+-- What a caller gets who lends its list, computed by the checker: M and L in their places, the count and the letter told, and lists
+-- that have not 256 places. Assumes nothing.
 use mathlib.Core.Path.{_≡_, refl}
 use mathlib.Core.List.{List, [], _∷_}
 use Prim.Native.Nat.{ℕ}
@@ -8,13 +9,14 @@ use Rattle.marks.specs.Marks.{has, gather, tally, allTo, single, listed}
 use Rattle.rules.specs.declared.Message.{Message}
 use Rattle.rules.specs.declared.Answer.the-variants.{Done, Refused}
 use Rattle.rules.specs.declared.Refusal.the-variants as no
+use Rattle.rules.specs.declared.Via.the-variants.{Unrouted, Leaf, Routing}
 use Rattle.rules.specs.Closest.{closest}
 use Rattle.rules.specs.Leaf.{leafWith}
 use Rattle.rules.specs.Letters.{lookup}
 use Rattle.rules.specs.Pool.{blank, laid}
 use Rattle.table_type.specs.declared.Stepped.{Stepped}
 use Rattle.table_type.specs.Start.{slotIds, slotsTo, startNode, startNodes, startFits, idsRise, listFits, startOf, noTable}
-use Rattle.table.specs.Settle.{doneOf}
+use Rattle.table.specs.Settle.{doneBy, doneOf}
 use Rattle.face_table.specs.Asked.{startStep}
 use Rattle.face_lent.specs.Lent.{blanks, placesOf, takenOf, givenOf, lent, lentStart, replyOf}
 
@@ -33,6 +35,9 @@ pub record Lends : Type 0 where
   pub answer : (begun blanks .answer ≡ Done) × (begun short .answer ≡ Refused no.Invalid)
   -- no messages after a start; the count of those that wait
   pub count : (replyOf (begun blanks) .count ≡ 0) × (replyOf (doneOf noTable (laid (lookup 3 ∷ lookup 4 ∷ []))) .count ≡ 2) × (lent blanks 7 .count ≡ 7)
+  -- where the next hop came from, as the step says it
+  pub via : (replyOf (doneBy Leaf noTable (laid [])) .via ≡ Leaf) × (replyOf (doneBy Routing noTable (laid [])) .via ≡ Routing)
+      × (replyOf (begun blanks) .via ≡ Unrouted)
   -- all of 256 places, or none
   pub places : (placesOf 256 ≡ 256) × (placesOf 255 ≡ 0) × (placesOf 257 ≡ 0) × (takenOf short ≡ blanks) × (givenOf short blanks ≡ short)
       × (givenOf blanks short ≡ short)
@@ -44,5 +49,6 @@ lends =
       limits = (refl, refl, refl);
       answer = (refl, refl);
       count = (refl, refl, refl);
+      via = (refl, refl, refl);
       places = (refl, refl, refl, refl, refl, refl);
     }
