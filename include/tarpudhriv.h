@@ -1,8 +1,8 @@
 /* The bench for C: six calls on table files (docs/FORMAT.md). Link target/staticlib/libface_c.a, which `rt staticlib face_c` makes (x86-64).
  *
  * Every call answers one 64-bit word. Its low 32 bits are the number: 0 done, 1 to 11 refused (docs/REFUSALS.md). The 24 bits above
- * are the count of bytes written to the start of `out`, and the highest byte is 0 but for step_via. Where the number is not 0 the count is 0 and `out` is untouched; where it is 0,
- * the bytes of `out` past the count are untouched. The reply and what `out` then holds are proved for every input of any length.
+ * are the count of bytes written to the start of `out`, and the highest byte is 0 but for step_via. Where the number is not 0 the count and
+ * the highest byte are 0 and `out` is untouched; where it is 0, the bytes of `out` past the count are untouched. The reply and what `out` then holds are proved for every input of any length.
  *
  * A call asks for pointers that may be read (`out`: written) for their length, are not null, also where the length is 0, and an `out`
  * that overlaps no other argument. It keeps nothing, allocates nothing and calls nothing outside but the C library's memory functions, so
