@@ -21,7 +21,8 @@ fn at_most(n: usize, most: usize) -> usize
 // One function, since it works on one copy of the table and one of the pool: every function that takes them, and looks at a place by its number, has
 // copies of its own. So the pool is handed to others only where they must look: to validity, where an n above 64 and a count above 256 are lowered first
 // and put back (else the compiler hands it one more copy of what came in); for a request, to see whether it is repeated, after which the message of a Lookup or a
-// Join is known to be new; for a plan that sends; and where probes have timed out, which go while nothing is sent. Where no message is taken place 0 is read, and nothing depends on it.
+// Join is known to be new; for a plan that sends; and where probes have timed out, which go while nothing is sent. Where no message is
+// taken place 0 is read, and nothing depends on it.
 pub fn step(t: Table, p: Pool, len: usize, a: Action) -> Stepped
     ensures { λ r. ⌜ r ≡ stepOf t p len a ⌝ }
 {
