@@ -2,7 +2,8 @@
  *
  * Every call answers one 64-bit word. Its low 32 bits are the number: 0 done, 1 to 11 refused (docs/REFUSALS.md). The 24 bits above
  * are the count of bytes written to the start of `out`, and the highest byte is 0 but for step_via. Where the number is not 0 the count and
- * the highest byte are 0 and `out` is untouched; where it is 0, the bytes of `out` past the count are untouched. The reply and what `out` then holds are proved for every input of any length.
+ * the highest byte are 0 and `out` is untouched; where it is 0, the bytes of `out` past the count are untouched. The
+ * reply and what `out` then holds are proved for every input of any length.
  *
  * A call asks for pointers that may be read (`out`: written) for their length, are not null, also where the length is 0, and an `out`
  * that overlaps no other argument. It keeps nothing, allocates nothing and calls nothing outside but the C library's memory functions, so
@@ -26,14 +27,14 @@ enum {
 
 /* The actions of a step, and what x and y are. */
 enum {
-    TARPUDHRIV_LOOKUP = 1,        /* x slot, y key */
-    TARPUDHRIV_JOIN = 2,          /* x slot, y slot of the seed */
-    TARPUDHRIV_REQUEST_LEASE = 3, /* x slot */
-    TARPUDHRIV_LEASE_EXPIRED = 4, /* x slot, y slot */
-    TARPUDHRIV_GRANT_EXPIRED = 5, /* x slot, y slot */
-    TARPUDHRIV_TAKE = 6,          /* x place of the message, from 0 */
-    TARPUDHRIV_DELIVER = 7,       /* x place of a Lookup: delivered where its node covers the key */
-    TARPUDHRIV_FORWARD = 8,       /* x place of a Lookup: to the next hop where it does not */
+    TARPUDHRIV_LOOKUP = 1,          /* x slot, y key */
+    TARPUDHRIV_JOIN = 2,            /* x slot, y slot of the seed */
+    TARPUDHRIV_REQUEST_LEASE = 3,   /* x slot */
+    TARPUDHRIV_LEASE_EXPIRED = 4,   /* x slot, y slot */
+    TARPUDHRIV_GRANT_EXPIRED = 5,   /* x slot, y slot */
+    TARPUDHRIV_TAKE = 6,            /* x place of the message, from 0 */
+    TARPUDHRIV_DELIVER = 7,         /* x place of a Lookup: delivered where its node covers the key */
+    TARPUDHRIV_FORWARD = 8,         /* x place of a Lookup: to the next hop where it does not */
     TARPUDHRIV_NODE_LEFT = 9,       /* x slot */
     TARPUDHRIV_SUSPECT_FAULTY = 10, /* x slot, y slot */
     TARPUDHRIV_PROBE_TIME_OUT = 11, /* x slot, y slot */

@@ -65,6 +65,48 @@ pub const ROWS: &[Row] = &[
         words: &["PLACE"],
         says: "the lookup at place PLACE is sent on",
     },
+    Row {
+        number: 9,
+        form: "node left NODE",
+        words: &["NODE"],
+        says: "NODE is switched off and forgets everything",
+    },
+    Row {
+        number: 10,
+        form: "suspect faulty NODE PARTNER",
+        words: &["NODE", "PARTNER"],
+        says: "NODE suspects PARTNER and probes it",
+    },
+    Row {
+        number: 11,
+        form: "probe time out NODE PARTNER",
+        words: &["NODE", "PARTNER"],
+        says: "NODE has waited long enough for PARTNER and holds it for failed",
+    },
+    Row {
+        number: 12,
+        form: "declare dead NODE PARTNER",
+        words: &["NODE", "PARTNER"],
+        says: "NODE declares PARTNER dead and lets it go",
+    },
+    Row {
+        number: 13,
+        form: "ls repair NODE",
+        words: &["NODE"],
+        says: "NODE probes the far ends of its leaf set to fill it",
+    },
+    Row {
+        number: 14,
+        form: "resign node NODE at SEED",
+        words: &["NODE", "SEED"],
+        says: "NODE gives its sets up and asks SEED to be let in again",
+    },
+    Row {
+        number: 15,
+        form: "recover NODE",
+        words: &["NODE"],
+        says: "NODE probes the far end of the one side that it has",
+    },
 ];
 
 /// The two that handle a lookup: at a ready node one of them is done.

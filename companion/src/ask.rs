@@ -57,9 +57,11 @@ fn key(given: &Given, word: &OsString) -> Result<u64, Trouble> {
 fn in_range(desk: &mut Desk, table: &Table, key: u64) -> Result<(), Trouble> {
     let action = [1, 0, key];
     let quiet = Table { messages: vec![], ..table.clone() };
-    let reply = desk.driver()?.step(action, &file::write(&quiet))?;
     let reason = |number| Why::new(&quiet).refused(action, number);
-    reply.done().map(|_| ()).map_err(|trouble| trouble.of(&key.to_string(), reason))
+    match desk.driver()?.step(action, &file::write(&quiet))?.number {
+        0 => Ok(()),
+        number => Err(Trouble::refused(number).of(&key.to_string(), reason)),
+    }
 }
 
 /// What each ready node covers, and the keys that nobody or several cover.

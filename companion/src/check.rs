@@ -105,7 +105,7 @@ fn what_is_wrong(
         let reason = Why::new(&file::known(good)?).refused(action, reply.number);
         return Ok(Refusal { number: reply.number, of: String::new(), reason }.to_string());
     }
-    let result = file::known(&reply.result)?;
+    let result = file::known(&reply.file)?;
     let load = desk.driver()?.load(stated)?;
     if load.number != 0 {
         let reason = faults::of_file(stated, load.number);

@@ -80,7 +80,8 @@ pub const COMMANDS: &[Command] = &[
         name: "list",
         usage: "TABLE",
         says: "where each waiting lookup travels, with its path",
-        help: "One line for each waiting lookup: key, where it waits, who delivers it (`-`: nobody), routings made, path.",
+        help: "One line for each waiting lookup: key, where it waits, who delivers it (`-`: nobody), routings made, for each\n\
+               of them `l` where the next node is in the leaf set and `r` where it is in the routing set alone (`-`: no routing), path.",
         options: &[],
         run: ask::list,
     },
@@ -117,8 +118,9 @@ pub const COMMANDS: &[Command] = &[
         usage: "TABLE",
         says: "whether it is safe to join: nobody is wait, and the clauses hold that joins in turn keep",
         help: "The test of crate join_laws (specs/Safe), as this command reads it. From a table that passes, while nobody joins as another\n\
-               is wait, no two ready nodes come to cover one key, whatever is done: that is proved (docs/CLAIMS.md, Join in turn). The\n\
-               status is 1 where the table does not pass, and what keeps it from passing is told.",
+               is wait, and nobody leaves, suspects or repairs (T-03's actions), no two ready nodes come to cover one key: that is\n\
+               proved (docs/CLAIMS.md, Join in turn). The status is 1 where the table does not pass, and what keeps it from passing\n\
+               is told.",
         options: &[],
         run: ask::safe,
     },
@@ -152,8 +154,8 @@ pub const COMMANDS: &[Command] = &[
         usage: "TABLE PLAN [OPTIONS]",
         says: "searches every order of a join plan: what can go wrong, by the fewest actions",
         help: "Every order of taking messages, of lease requests and of the plan's actions. PLAN has a line for each action: `join NODE at\n\
-               SEED`, `lookup KEY at NODE`, `lease expired NODE PARTNER`, `grant expired NODE PARTNER`; nodes by id, and `any` for a second\n\
-               node is each other one. Each may be done at any time, as often as the step lets it.\n\
+               SEED`, `lookup KEY at NODE`, `lease expired NODE PARTNER`, `grant expired NODE PARTNER`, and those of docs/SERVICE.md; nodes\n\
+               by id, and `any` for a second node is each other one. Each may be done at any time, as often as the step lets it.\n\
                `001 ROW` in place of TABLE PLAN is a row of document 001's table 4.1, with its nodes, plan and property; `001 all` the whole\n\
                table beside 001's, with times.\n\
                Status: 0 all searched and nothing found, 1 found, 3 stopped before the end and nothing found, 2 else.\n\

@@ -17,6 +17,37 @@ pub struct Reply {
     pub result: Vec<u8>,
 }
 
+/// Where a hop came from: a node in both counts as leaf set (T-01).
+#[derive(Clone, Copy, Debug, PartialEq, Eq)]
+pub enum Via {
+    Leaf,
+    Routing,
+}
+
+impl Via {
+    /// The listing's letter.
+    pub fn letter(self) -> char {
+        match self {
+            Via::Leaf => 'l',
+            Via::Routing => 'r',
+        }
+    }
+
+    pub fn words(self) -> &'static str {
+        match self {
+            Via::Leaf => "by the leaf set",
+            Via::Routing => "by the routing set",
+        }
+    }
+}
+
+/// What a step is answered: a number and, where it is 0, how a message was routed, if one was, and the file after it.
+pub struct Stepped {
+    pub number: u32,
+    pub via: Option<Via>,
+    pub file: Vec<u8>,
+}
+
 /// An action's number and its two words.
 pub type ActionWords = [u64; 3];
 
@@ -65,9 +96,17 @@ impl Driver {
         self.ask(0, &[], file)
     }
 
-    /// The file after the action.
-    pub fn step(&mut self, action: ActionWords, file: &[u8]) -> Result<Reply, Trouble> {
-        self.ask(1, &action, file)
+    /// The file after the action, and how it routed a message, if it did.
+    pub fn step(&mut self, action: ActionWords, file: &[u8]) -> Result<Stepped, Trouble> {
+        let Reply { number, result } = self.ask(11, &action, file)?;
+        let (via, file) = match result.split_first() {
+            None if number != 0 => (None, vec![]),
+            Some((0, file)) => (None, file.to_vec()),
+            Some((b'l', file)) => (Some(Via::Leaf), file.to_vec()),
+            Some((b'r', file)) => (Some(Via::Routing), file.to_vec()),
+            _ => return Err(Trouble::Failed("the proved driver's step has no such letter".to_string())),
+        };
+        Ok(Stepped { number, via, file })
     }
 
     /// The file of the start.

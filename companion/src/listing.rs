@@ -6,7 +6,7 @@ use crate::survey::{End, Journey, Survey};
 use crate::table::{Names, Table};
 use crate::trouble::Trouble;
 
-/// The listing with a last column, the path. It is the listing's own: the same lookups, ends and numbers of routings.
+/// The listing with a last column, the path. It is the listing's own: the same lookups, ends and routings.
 pub fn listing(driver: &mut Driver, table: &Table) -> Result<String, Trouble> {
     let said = driver.listing(&file::write(table))?;
     let journeys = Survey::new(driver).journeys(table)?;
@@ -18,7 +18,7 @@ pub fn listing(driver: &mut Driver, table: &Table) -> Result<String, Trouble> {
         return Err(differs(&said));
     }
     for (line, journey) in lines.iter().zip(&journeys) {
-        if !line.starts_with(&fields(journey, &names)) {
+        if **line != fields(journey, &names) {
             return Err(differs(line));
         }
         text += &format!("{line} {}\n", path(journey, table, &names));
@@ -30,11 +30,19 @@ fn differs(line: &str) -> Trouble {
     Trouble::Failed(format!("the path of a lookup is not that of the listing: {line}"))
 }
 
-/// The listing's line, as far as 01 has it.
+/// The listing's line.
 fn fields(journey: &Journey, names: &Names) -> String {
     let [first, last] = [journey.path.first(), journey.path.last()].map(|slot| names.of(*slot.unwrap_or(&0)));
     let to = if journey.end == End::Delivered { &last } else { "-" };
-    format!("{} {first} {to} {}", journey.key, journey.path.len() - 1)
+    format!("{} {first} {to} {} {}", journey.key, journey.path.len() - 1, via(journey))
+}
+
+/// A letter for each routing, `-` where there is none.
+pub fn via(journey: &Journey) -> String {
+    match journey.via.as_slice() {
+        [] => "-".to_string(),
+        via => via.iter().map(|via| via.letter()).collect(),
+    }
 }
 
 /// `17>95>65`, and why it is delivered nowhere.

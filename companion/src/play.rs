@@ -2,7 +2,7 @@
 
 use crate::action;
 use crate::change;
-use crate::driver::{ActionWords, Driver};
+use crate::driver::{ActionWords, Driver, Stepped};
 use crate::file;
 use crate::plan::{Ask, Asked};
 use crate::table::{Names, Node, Table};
@@ -97,7 +97,7 @@ impl<'a> Play<'a> {
     pub fn step(&mut self, words: ActionWords) -> Result<Step, Trouble> {
         let reply = self.driver.step(words, &file::write(&self.table))?;
         if reply.number == 0 {
-            return self.made(words, &reply.result);
+            return self.made(words, reply);
         }
         let reason = Why::new(&self.table).refused(words, reply.number);
         let written = action::written(words, &self.names);
@@ -112,9 +112,9 @@ impl<'a> Play<'a> {
         })
     }
 
-    fn made(&mut self, words: ActionWords, result: &[u8]) -> Result<Step, Trouble> {
-        let after = file::known(result)?;
-        let sentence = tell::step(words, &self.table, &after);
+    fn made(&mut self, words: ActionWords, reply: Stepped) -> Result<Step, Trouble> {
+        let after = file::known(&reply.file)?;
+        let sentence = tell::step(words, &self.table, &after, reply.via);
         let changes = change::between(&self.table, &after);
         let warning = turn::warning(words, &self.table);
         self.table = after.clone();
@@ -140,7 +140,7 @@ impl<'a> Play<'a> {
                 let words = [row.number, place, 0];
                 let reply = self.driver.step(words, &file)?;
                 if reply.number == 0 {
-                    return self.made(words, &reply.result).map(Some);
+                    return self.made(words, reply).map(Some);
                 }
             }
         }

@@ -34,6 +34,10 @@ impl Why<'_> {
             6 => self.place(x).or_else(|| self.take(&self.table().messages[x as usize])),
             DELIVER => self.place(x).or_else(|| self.deliver(x as usize)),
             FORWARD => self.place(x).or_else(|| self.forward(x as usize)),
+            9 | 13 | 15 => self.slot(x).or_else(|| self.departs(number, x as u32)),
+            10..=12 | 14 => {
+                self.slot(x).or_else(|| self.slot(y)).or_else(|| self.parts(number, x as u32, y as u32))
+            }
             _ => None,
         }
     }
@@ -129,6 +133,113 @@ impl Why<'_> {
 
     fn differ(&self, slot: u32, other: u32, by: &str) -> Reason {
         (slot == other).then(|| (5, format!("{by} asks for two nodes that differ")))
+    }
+
+    /// T-03's actions of one node.
+    fn departs(&self, number: u64, slot: u32) -> Reason {
+        match number {
+            9 => self.alive(slot, "NodeLeft"),
+            13 => self.repair(slot),
+            _ => self.recover(slot),
+        }
+    }
+
+    /// T-03's actions of two nodes.
+    fn parts(&self, number: u64, slot: u32, other: u32) -> Reason {
+        match number {
+            10 => self.suspect(slot, other),
+            11 => self.time_out(slot, other),
+            12 => self.declare(slot, other),
+            _ => self.resign(slot, other),
+        }
+    }
+
+    /// 5, unless the other node is in a set of the node, or where it is in one.
+    fn partner(&self, slot: u32, other: u32, set: u64, is_in: bool, says: &str) -> Reason {
+        let reason = || format!("{} {says} {}", self.name(other), self.name(slot));
+        ((set >> other & 1 == 1) != is_in).then(|| (5, reason()))
+    }
+
+    fn suspect(&self, slot: u32, other: u32) -> Reason {
+        let (by, node) = ("SuspectFaulty", self.rules.node(slot));
+        let partner = |set, is_in, says| self.partner(slot, other, set, is_in, says);
+        self.asks(slot, &[Node::OK, Node::READY], by)
+            .or_else(|| self.differ(slot, other, by))
+            .or_else(|| partner(self.rules.content(slot), true, "is not in the leaf set of"))
+            .or_else(|| partner(node.probing(), false, "is probed already by"))
+            .or_else(|| partner(node.failed(), false, "is held for failed already by"))
+    }
+
+    fn time_out(&self, slot: u32, other: u32) -> Reason {
+        let by = "ProbeTimeOut";
+        let probing = self.rules.node(slot).probing();
+        self.alive(slot, by)
+            .or_else(|| self.differ(slot, other, by))
+            .or_else(|| self.partner(slot, other, probing, true, "is not probed by"))
+    }
+
+    fn declare(&self, slot: u32, other: u32) -> Reason {
+        let (by, node) = ("DeclareDead", self.rules.node(slot));
+        let partner = |set, is_in, says| self.partner(slot, other, set, is_in, says);
+        let sides = [self.rules.left_neighbour(slot), self.rules.right_neighbour(slot)];
+        let granted = sides.contains(&other) && node.grant() >> other & 1 == 1;
+        let (name, them) = (self.name(slot), self.name(other));
+        let ends = format!(
+            "{them} is a neighbour of {name} with a grant; that ends first: `grant expired {name} {them}`"
+        );
+        self.asks(slot, &[Node::OK, Node::READY], by)
+            .or_else(|| partner(node.failed(), true, "is not held for failed by"))
+            .or_else(|| partner(self.rules.content(slot), true, "is not in the leaf set of"))
+            .or_else(|| granted.then_some((5, ends)))
+    }
+
+    /// 5, where the node probes somebody.
+    fn idle(&self, slot: u32, by: &str) -> Reason {
+        let probing = self.rules.node(slot).probing();
+        let them = || format!("{} still probes {} ({by})", self.name(slot), self.names.all(probing));
+        (probing != 0).then(|| (5, them()))
+    }
+
+    /// 4, with what the leaf set is.
+    fn leaf(&self, slot: u32, asks: &str) -> (u32, String) {
+        (4, format!("{}: {}; {asks}", self.name(slot), self.leaf_set(slot)))
+    }
+
+    /// How many sides of the leaf set have members.
+    fn sides(&self, slot: u32) -> usize {
+        let node = self.rules.node(slot);
+        [node.left(), node.right()].iter().filter(|side| **side != 0).count()
+    }
+
+    fn repair(&self, slot: u32) -> Reason {
+        let asks = "LSRepair asks for one that is not complete, with members on both sides";
+        let short = self.sides(slot) == 2 && !self.rules.complete(slot);
+        self.asks(slot, &[Node::WAIT], "LSRepair")
+            .or_else(|| (!short).then(|| self.leaf(slot, asks)))
+            .or_else(|| self.idle(slot, "LSRepair"))
+    }
+
+    fn resign(&self, slot: u32, seed: u32) -> Reason {
+        let by = "ResignNode";
+        let replied = self.found(|m| m.kind == Message::JOIN_REPLY && m.at == slot);
+        self.asks(slot, &[Node::WAIT], by)
+            .or_else(|| self.asks(seed, &[Node::READY], "ResignNode's seed"))
+            .or_else(|| replied.first().map(|reply| (3, format!("{reply} waits ({by})"))))
+            .or_else(|| (self.sides(slot) == 2).then(|| self.leaf(slot, "ResignNode asks for an empty side")))
+            .or_else(|| self.idle(slot, by))
+    }
+
+    fn recover(&self, slot: u32) -> Reason {
+        let by = "Recover";
+        let up = self.rules.with_status(|status| status == Node::OK || status == Node::READY);
+        let asks = "Recover asks for one side with members, and one without";
+        let others = |up: &u32| {
+            format!("{} is {}; Recover asks that no node is ok or ready", self.name(*up), self.status(*up))
+        };
+        self.asks(slot, &[Node::WAIT], by)
+            .or_else(|| up.first().map(|up| (2, others(up))))
+            .or_else(|| (self.sides(slot) != 1).then(|| self.leaf(slot, asks)))
+            .or_else(|| self.idle(slot, by))
     }
 
     pub fn take(&self, message: &Message) -> Reason {
@@ -229,5 +340,55 @@ impl Why<'_> {
         self.asks(at, &[Node::OK, Node::READY], by)
             .or_else(|| (!self.rules.complete(at)).then(|| (4, short())))
             .or_else(|| (owner == at).then(|| (5, format!("it is {}'s own (01, Take 8)", self.name(at)))))
+    }
+}
+
+#[cfg(test)]
+mod tests {
+    use super::*;
+    use crate::action;
+    use crate::parse::{self, Text};
+    use crate::words::lines;
+
+    /// Refusals of T-03 as the change request has them: an action on a table, the number, a part of the reason.
+    const DEPARTURES: &[(&str, u32, &str)] = &[
+        ("node left 40", 2, "40 is dead"),
+        ("suspect faulty 20 5", 2, "20 is wait"),
+        ("suspect faulty 5 5", 5, "two nodes that differ"),
+        ("suspect faulty 5 40", 5, "40 is not in the leaf set of 5"),
+        ("suspect faulty 5 20", 5, "20 is probed already by 5"),
+        ("suspect faulty 5 30", 5, "30 is held for failed already by 5"),
+        ("probe time out 40 5", 2, "40 is dead"),
+        ("probe time out 5 10", 5, "10 is not probed by 5"),
+        ("declare dead 20 5", 2, "20 is wait"),
+        ("declare dead 5 10", 5, "10 is not held for failed by 5"),
+        ("declare dead 5 40", 5, "40 is not in the leaf set of 5"),
+        ("declare dead 5 30", 5, "that ends first: `grant expired 5 30`"),
+        ("ls repair 5", 2, "5 is ready"),
+        ("ls repair 30", 4, "members on both sides"),
+        ("ls repair 20", 5, "20 still probes 10"),
+        ("resign node 20 at 40", 2, "40 is dead"),
+        ("resign node 10 at 5", 3, "JoinReply owner 5 at 10 (place 0) waits"),
+        ("resign node 20 at 5", 4, "asks for an empty side"),
+        ("recover 20", 2, "5 is ready; Recover asks that no node is ok or ready"),
+        ("recover slot 9", 1, "slot 9 is not listed"),
+    ];
+
+    #[test]
+    fn departures_are_refused_as_they_should() {
+        let text = "ring M=6 L=2\n\
+            node 5 ready left 10 20 right 30 probing 20 failed 30 40 grant 30\n\
+            node 10 wait\nnode 20 wait left 30 right 10 probing 10\nnode 30 wait left 5\nnode 40 dead\n\
+            JoinReply owner 5 at 10\n";
+        let Ok(Text::Table(table)) = parse::text(text) else { panic!("no table") };
+        let why = Why::new(&table);
+        for (words, number, part) in DEPARTURES {
+            let action = action::action(&mut lines(words).remove(0), &why.names).unwrap();
+            let told = why.rule(action);
+            assert!(
+                told.as_ref().is_some_and(|(rule, reason)| rule == number && reason.contains(part)),
+                "{words}: {told:?}"
+            );
+        }
     }
 }

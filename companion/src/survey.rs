@@ -1,7 +1,7 @@
 //! What a table says of keys and lookups, found by asking the proved code.
 
 use crate::action::{self, DELIVER, FORWARD};
-use crate::driver::Driver;
+use crate::driver::{Driver, Via};
 use crate::file;
 use crate::rules::Rules;
 use crate::table::{Message, Names, Node, Table};
@@ -20,6 +20,8 @@ pub struct Journey {
     pub key: u32,
     /// Slots: where it waits, then where each routing takes it.
     pub path: Vec<u32>,
+    /// How each routing was made.
+    pub via: Vec<Via>,
     pub end: End,
 }
 
@@ -32,7 +34,7 @@ pub enum End {
 
 /// What handling a lookup does to it.
 enum Fate {
-    Routed(u32),
+    Routed(u32, Via),
     Ended(End),
 }
 
@@ -163,12 +165,15 @@ impl Asked<'_> {
     }
 
     fn journey(&mut self, lookup: &Message) -> Result<Journey, Trouble> {
-        let mut path = vec![lookup.at];
+        let (mut path, mut via) = (vec![lookup.at], vec![]);
         loop {
             let at = path[path.len() - 1];
             match self.handled(&Message { at, ..*lookup })? {
-                Fate::Routed(to) => path.push(to),
-                Fate::Ended(end) => return Ok(Journey { key: lookup.word, path, end }),
+                Fate::Routed(to, how) => {
+                    path.push(to);
+                    via.push(how);
+                }
+                Fate::Ended(end) => return Ok(Journey { key: lookup.word, path, via, end }),
             }
         }
     }
@@ -181,7 +186,7 @@ impl Asked<'_> {
         let file = file::write(&self.table.with_only(*lookup));
         let reply = self.driver.step([FORWARD, 0, 0], &file)?;
         match reply.number {
-            0 => Ok(fate(&file::known(&reply.result)?)),
+            0 => fate(&file::known(&reply.file)?, reply.via),
             2 => Ok(Fate::Ended(End::NotReady)),
             number => Err(Trouble::refused(number)),
         }
@@ -189,10 +194,13 @@ impl Asked<'_> {
 }
 
 /// What became of the only message, a lookup that was sent on.
-fn fate(after: &Table) -> Fate {
-    match after.messages.first() {
-        Some(message) if message.kind == Message::LOOKUP => Fate::Routed(message.at),
-        _ => Fate::Ended(End::NoLegalRoute),
+fn fate(after: &Table, via: Option<Via>) -> Result<Fate, Trouble> {
+    match (after.messages.first(), via) {
+        (Some(message), Some(via)) if message.kind == Message::LOOKUP => Ok(Fate::Routed(message.at, via)),
+        (Some(message), None) if message.kind == Message::NO_LEGAL_ROUTE => {
+            Ok(Fate::Ended(End::NoLegalRoute))
+        }
+        _ => Err(Trouble::Failed("a lookup that was sent on is neither routed nor lost".to_string())),
     }
 }
 

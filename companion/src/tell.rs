@@ -1,17 +1,17 @@
 //! A done step in a sentence.
 
 use crate::action;
-use crate::driver::ActionWords;
+use crate::driver::{ActionWords, Via};
 use crate::rules::Rules;
 use crate::table::{Message, Names, Node, Table};
 
 /// What a step did, with the nodes whose status it changed.
-pub fn step(action: ActionWords, before: &Table, after: &Table) -> String {
+pub fn step(action: ActionWords, before: &Table, after: &Table, via: Option<Via>) -> String {
     let names = Names::new(before.ids());
     let handled = action::on_messages().any(|row| row.number == action[0]);
     let message =
         usize::try_from(action[1]).ok().and_then(|place| before.messages.get(place)).filter(|_| handled);
-    let told = Told { before, after, names: &names };
+    let told = Told { before, after, via, names: &names };
     let sentence = match message {
         Some(message) => told.handled(message),
         None => told.asked(action),
@@ -22,6 +22,8 @@ pub fn step(action: ActionWords, before: &Table, after: &Table) -> String {
 struct Told<'a> {
     before: &'a Table,
     after: &'a Table,
+    /// How a message was routed, if one was.
+    via: Option<Via>,
     names: &'a Names,
 }
 
@@ -88,21 +90,15 @@ impl Told<'_> {
     fn routed(&self, message: &Message, what: &str, end: &str) -> String {
         let at = self.name(message.at);
         let added = self.added();
-        match added.iter().find(|new| new.kind == message.kind) {
-            Some(on) => format!("{at} sends {what} on to {}", self.name(on.at)),
-            None if added.iter().any(|new| new.kind == Message::NO_LEGAL_ROUTE) => {
+        let to = added.iter().find(|new| new.kind == message.kind).map(|new| self.name(new.at));
+        match (self.via.map(Via::words), to) {
+            (Some(by), Some(to)) => format!("{at} sends {what} on to {to}, {by}"),
+            (Some(by), None) => format!("{at} sends {what} on, {by}, and it meets its equal"),
+            (None, _) if added.iter().any(|new| new.kind == Message::NO_LEGAL_ROUTE) => {
                 format!("{at} knows no legal route for {what}")
             }
-            None if self.covered(message) => format!("{at} covers it: {what} is {end}"),
-            None => format!("{what} meets its equal"),
+            (None, _) => format!("{at} covers it: {what} is {end}"),
         }
-    }
-
-    /// Whether the destination covers what is looked for, as 01 is read here.
-    fn covered(&self, message: &Message) -> bool {
-        let rules = Rules(self.before);
-        let key = if message.kind == Message::LOOKUP { message.word } else { rules.id(message.word) };
-        rules.covers(message.at, key)
     }
 
     /// A probe or its reply: who comes into the leaf set, and who is probed then.

@@ -1,5 +1,5 @@
 //! Text and file are inverse: on the driver's corpus, on the requests of the file that RING_REQUESTS names, and on
-//! odd records.
+//! odd records. Every refused step of the corpus, and of these requests with the replies that RING_REPLIES names, has a reason.
 
 use crate::file;
 use crate::layout::{lanes, spread};
@@ -7,6 +7,7 @@ use crate::parse::{self, Text};
 use crate::print;
 use crate::survey::Arc;
 use crate::table::{Message, Node, Table};
+use crate::why::Why;
 use std::fs;
 
 /// The bodies of requests or replies.
@@ -19,6 +20,12 @@ fn bodies(mut stream: &[u8]) -> Vec<&[u8]> {
         stream = rest;
     }
     bodies
+}
+
+/// The requests of the driver's corpus, and its replies.
+fn corpus() -> [Vec<u8>; 2] {
+    let folder = concat!(env!("CARGO_MANIFEST_DIR"), "/../crates/run_driver");
+    ["stdin", "stdout"].map(|name| fs::read(format!("{folder}/{name}")).unwrap())
 }
 
 /// The table file of a request.
@@ -57,8 +64,7 @@ fn inverse(bytes: &[u8]) -> bool {
 
 #[test]
 fn corpus_there_and_back() {
-    let [asked, told] = ["stdin", "stdout"]
-        .map(|name| fs::read(format!("{}/../crates/run_driver/{name}", env!("CARGO_MANIFEST_DIR"))).unwrap());
+    let [asked, told] = corpus();
     let (asked, told) = (bodies(&asked), bodies(&told));
     assert_eq!(asked.len(), told.len());
     let mut loaded = 0;
@@ -78,6 +84,38 @@ fn requests_there_and_back() {
         let stream = fs::read(name).unwrap();
         let readable = bodies(&stream).into_iter().filter_map(file_of).filter(|bytes| inverse(bytes)).count();
         assert!(readable > 100);
+    }
+}
+
+/// How many steps are refused with 1 to 6, each with a reason: rules that are read as the proved code has them.
+fn reasons(asked: &[&[u8]], told: &[&[u8]]) -> usize {
+    assert_eq!(asked.len(), told.len());
+    let mut refused = 0;
+    for (request, reply) in asked.iter().zip(told) {
+        let number = u32::from_le_bytes(reply[..4].try_into().unwrap());
+        if !matches!(request.first(), Some(1 | 11)) || !matches!(number, 1..=6) {
+            continue;
+        }
+        let word = |at: usize| u64::from_le_bytes(request[at..at + 8].try_into().unwrap());
+        let (action, table) = ([word(1), word(9), word(17)], file::read(&request[25..]).unwrap());
+        let reason = Why::new(&table).refused(action, number);
+        assert!(!reason.is_empty(), "{action:?} is refused with {number} on\n{}", print::table(&table));
+        refused += 1;
+    }
+    refused
+}
+
+#[test]
+fn the_corpus_is_refused_with_reasons() {
+    let [asked, told] = corpus();
+    assert!(reasons(&bodies(&asked), &bodies(&told)) > 100);
+}
+
+#[test]
+fn requests_are_refused_with_reasons() {
+    if let (Ok(asked), Ok(told)) = (std::env::var("RING_REQUESTS"), std::env::var("RING_REPLIES")) {
+        let (asked, told) = (fs::read(asked).unwrap(), fs::read(told).unwrap());
+        assert!(reasons(&bodies(&asked), &bodies(&told)) > 100);
     }
 }
 

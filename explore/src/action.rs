@@ -38,7 +38,7 @@ pub const DELIVER: u64 = 7;
 pub const FORWARD: u64 = 8;
 
 /// Every kind that the proved step knows.
-pub const KINDS: [Kind; 8] = [
+pub const KINDS: [Kind; 15] = [
     Kind { number: LOOKUP, words: "lookup", form: Form::Lookup, local: true },
     Kind { number: JOIN, words: "join", form: Form::At, local: true },
     Kind { number: REQUEST_LEASE, words: "request lease", form: Form::Node, local: true },
@@ -47,6 +47,13 @@ pub const KINDS: [Kind; 8] = [
     Kind { number: TAKE, words: "take", form: Form::Place, local: true },
     Kind { number: DELIVER, words: "deliver", form: Form::Place, local: true },
     Kind { number: FORWARD, words: "forward", form: Form::Place, local: true },
+    Kind { number: 9, words: "node left", form: Form::Node, local: true },
+    Kind { number: 10, words: "suspect faulty", form: Form::Pair, local: true },
+    Kind { number: 11, words: "probe time out", form: Form::Pair, local: false },
+    Kind { number: 12, words: "declare dead", form: Form::Pair, local: true },
+    Kind { number: 13, words: "ls repair", form: Form::Node, local: true },
+    Kind { number: 14, words: "resign node", form: Form::At, local: false },
+    Kind { number: 15, words: "recover", form: Form::Node, local: false },
 ];
 
 /// The kinds that handle a message, each with whether it is for lookups: on another kind of message it is refused with 5, whatever else (T-05).

@@ -124,7 +124,7 @@ impl<'a> View<'a> {
         lookups.map(move |message| (records.place(state.nodes[message.to() as usize]), message.word()))
     }
 
-    /// The lookups that a Take would deliver.
+    /// The lookups that a Deliver would deliver.
     fn deliverable(&self) -> impl Iterator<Item = (&'a Place, u32)> + 'a {
         let ring = self.ring();
         self.lookups().filter(move |(place, key)| place.is_ready() && ring.covers(place, *key))

@@ -18,7 +18,7 @@ fn name(request: &[u8]) -> String {
         Some(Request::Place { .. }) => return "place".to_string(),
         Some(Request::Sum) => return "sum".to_string(),
         Some(Request::Waiting { .. }) => return "waiting".to_string(),
-        Some(Request::Step { action, file }) => (action, file),
+        Some(Request::Step { action, file } | Request::StepVia { action, file }) => (action, file),
     };
     let (mut table, mut pool) = (Table::BLANK, EMPTY_POOL);
     let loaded = load(file, &mut table, &mut pool).is_ok();

@@ -1,5 +1,6 @@
 //! What a done step changes. It is planned first and carried out only when nothing refuses it.
 
+use crate::hop::Via;
 use crate::index::Index;
 use crate::message::{Message, Pool};
 use crate::reading::Reading;
@@ -21,11 +22,15 @@ impl<R: Reading> Scene<'_, R> {
     }
 }
 
-/// One node's new content, the message taken and the messages added.
+/// One node's new content, the messages that go and those that are added.
 pub(crate) struct Change {
     pub slot: usize,
     pub node: Node,
     pub taken: Option<usize>,
+    /// The node whose waiting LSProbes from this one go.
+    pub lost: Option<usize>,
+    /// Where the hop came from, if the step routes to another node.
+    pub via: Option<Via>,
     added: [Message; Change::MOST],
     len: usize,
     fresh: usize,
@@ -42,6 +47,8 @@ impl Change {
             slot: 0,
             node: Node::BLANK,
             taken: None,
+            lost: None,
+            via: None,
             added: [Message::Blank; Change::MOST],
             len: 0,
             fresh: 0,
@@ -54,6 +61,16 @@ impl Change {
     pub fn at<R: Reading>(&mut self, scene: &Scene<R>, slot: usize) {
         self.slot = slot;
         self.node = scene.view.table.nodes[slot];
+    }
+
+    /// Sends a message on for `key` to a hop, and notes where that came from.
+    #[inline]
+    pub fn send_on<R: Reading>(&mut self, scene: &Scene<R>, key: u32, hop: usize, message: Message) {
+        let (r, waiting) = (scene.view.r, self.fresh);
+        self.send(scene, message);
+        let silent = r.takes(Slip::ViaLostAtEqual) && self.fresh == waiting
+            || r.takes(Slip::ViaNotOfJoins) && matches!(message, Message::JoinRequest { .. });
+        self.via = if silent { None } else { Some(scene.view.via(self.slot, key, hop)) };
     }
 
     /// Adds the message unless an equal one waits.
@@ -83,6 +100,25 @@ impl Change {
         stay + more <= Table::MESSAGES - r.pick(Slip::SixAt255, 1, 0)
     }
 
+    /// Closes up the messages that stay when LSProbes go; the answer is how many do.
+    #[inline]
+    fn drop_lost<R: Reading>(&self, r: R, pool: &mut Pool, count: usize) -> usize {
+        let Some(j) = self.lost else {
+            return count;
+        };
+        let mut stayed = 0;
+        for place in 0..count {
+            if slips::goes(r, &pool[place], self.slot, j)
+                && !(r.takes(Slip::TimeOutTakesOne) && stayed < place)
+            {
+                continue;
+            }
+            pool[stayed] = pool[place];
+            stayed += 1;
+        }
+        stayed
+    }
+
     /// Changes the node, removes the message taken, then adds, and blanks the places past the count.
     #[inline]
     pub fn carry_out<R: Reading>(&self, r: R, table: &mut Table, pool: &mut Pool) {
@@ -97,6 +133,7 @@ impl Change {
             }
             count -= 1;
         }
+        count = self.drop_lost(r, pool, count);
         let stayed = count;
         for message in &self.added[..self.len] {
             if !r.is_right() && count == Table::MESSAGES {

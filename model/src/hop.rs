@@ -1,13 +1,46 @@
-//! The next hop for a key.
+//! The next hop for a key, and where it came from.
 
-use crate::marks::{bit, first_down, first_up, slots};
+use crate::marks::{bit, first_down, first_up, has, slots};
 use crate::reading::Reading;
 use crate::slip::Slip;
 use crate::slips;
 use crate::table::{Node, Status};
 use crate::view::View;
 
+/// Where a hop came from (T-01).
+#[derive(Clone, Copy, Debug, PartialEq, Eq)]
+#[repr(u8)]
+pub enum Via {
+    Leaf = b'l',
+    Routing = b'r',
+}
+
+impl Via {
+    pub const fn letter(self) -> u8 {
+        self as u8
+    }
+}
+
 impl<R: Reading> View<'_, R> {
+    /// Leaf exactly if the hop for `key` from `i` is in the content of `i`, whichever branch found it.
+    #[inline]
+    pub fn via(&self, i: usize, key: u32, hop: usize) -> Via {
+        let (r, node) = (self.r, &self.table.nodes[i]);
+        let leaves = r.pick(Slip::ViaOfSide, node.sides.left, node.sides.content(i));
+        let (told, held) = r.pick(Slip::ViaOfReceiver, (hop, i), (i, hop));
+        let leaves = r.pick(Slip::ViaOfReceiver, self.table.nodes[told].sides.content(told), leaves);
+        let leaf = match (r.takes(Slip::ViaOfBranch), r.takes(Slip::ViaBothIsRouting)) {
+            (true, _) => self.leaf_branch(i, key),
+            (_, true) => !has(node.routing, hop),
+            _ => has(leaves, held),
+        };
+        if leaf != r.takes(Slip::ViaExchanged) {
+            Via::Leaf
+        } else {
+            Via::Routing
+        }
+    }
+
     /// A node other than `i` and nearer to `key`, or none where no candidate of the branch taken is nearer.
     #[inline]
     pub fn next_hop(&self, i: usize, key: u32) -> Option<usize> {

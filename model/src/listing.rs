@@ -8,7 +8,10 @@ use crate::table::{Status, Table};
 use crate::view::View;
 use std::io::Write;
 
-const HEADER: &str = "key from to hops\n";
+const HEADER: &str = "key from to hops via\n";
+
+/// The room that is asked for: the longest listing has 25,621 bytes.
+const ROOM: usize = 65_536;
 
 /// The bytes that the listing program prints for a table file.
 pub fn listing(bytes: &[u8]) -> Vec<u8> {
@@ -27,31 +30,46 @@ pub fn listing_as<R: Reading>(r: R, bytes: &[u8]) -> Vec<u8> {
     }
 }
 
-/// Where a journey ends: the node that delivers, if one does, and the routings made.
+/// Where a journey ends: the node that delivers, if one does, and the routings made, each with its letter.
 struct Journey {
     end: Option<usize>,
     hops: u32,
+    via: String,
 }
 
 fn lines<R: Reading>(view: &View<R>, pool: &Pool) -> Vec<u8> {
     let r = view.r;
-    let mut out = Vec::with_capacity(16 * 1024);
-    out.extend_from_slice(HEADER.as_bytes());
+    let mut out = Vec::with_capacity(ROOM);
+    out.extend_from_slice(r.pick(Slip::ListHeaderOld, "key from to hops\n", HEADER).as_bytes());
     let waiting = &pool[..view.table.count];
     let mut lookups = lookups(view, waiting);
     slip_order(r, &mut lookups);
     for &(place, from, key) in &lookups {
-        let Journey { end, hops } = follow(view, from, key, &waiting[..place]);
+        let Journey { end, hops, via } = follow(view, from, key, &waiting[..place]);
         let name = |slot: usize| r.pick(Slip::ListNamesSlots, slot as u32, view.table.id(slot));
         let (from, to) = (name(from).to_string(), end.map_or("-".to_string(), |end| name(end).to_string()));
         let (from, to) = r.pick(Slip::ListNamesExchanged, (&to, &from), (&from, &to));
         let hops = if end.is_none() && r.takes(Slip::ListStuckAtZero) { 0 } else { hops };
-        writeln!(out, "{key} {from} {to} {hops}").expect("a vector takes all");
+        let via = column(r, &via, end.is_none());
+        writeln!(out, "{key} {from} {to} {hops} {via}").expect("a vector takes all");
     }
     if r.takes(Slip::ListWithoutHeader) && lookups.is_empty() {
         out.clear();
     }
     out
+}
+
+/// The last column: the letters, or `-` where there are none.
+fn column<R: Reading>(r: R, via: &str, stuck: bool) -> String {
+    let turned = || via.chars().rev().collect();
+    match via.len() {
+        0 => r.pick(Slip::ListWithoutDash, "", "-").to_string(),
+        _ if stuck && r.takes(Slip::ListStuckDash) => "-".to_string(),
+        hops if r.takes(Slip::ListLetterFewer) => via[..hops - 1].to_string(),
+        hops if r.takes(Slip::ListLastLetter) => via[hops - 1..].to_string(),
+        _ if r.takes(Slip::ListLettersTurned) => turned(),
+        _ => via.to_string(),
+    }
 }
 
 /// The waiting lookups in pool order: place, slot and key.
@@ -88,25 +106,27 @@ fn slip_order<R: Reading>(r: R, lookups: &mut Vec<(usize, usize, u32)>) {
 /// Follows a lookup as the only message.
 fn follow<R: Reading>(view: &View<R>, from: usize, key: u32, earlier: &[Message]) -> Journey {
     let r = view.r;
-    let (mut at, mut hops) = (from, r.pick(Slip::ListCountsNodes, 1, 0));
-    loop {
+    let (mut at, mut hops, mut via) = (from, r.pick(Slip::ListCountsNodes, 1, 0), String::new());
+    let end = loop {
         if view.table.nodes[at].status != Status::Ready && !r.takes(Slip::ListAnyStatus) {
-            let back = u32::from(r.takes(Slip::ListLastHopFree) && at != from);
-            return Journey { end: r.takes(Slip::ListNamesStuck).then_some(at), hops: hops - back };
+            hops -= u32::from(r.takes(Slip::ListLastHopFree) && at != from);
+            break r.takes(Slip::ListNamesStuck).then_some(at);
         }
         if view.covers(at, key) {
-            return Journey { end: Some(at), hops };
+            break Some(at);
         }
         let Some(hop) = view.next_hop(at, key) else {
             hops += u32::from(r.takes(Slip::ListCountsNoRoute));
-            return Journey { end: r.takes(Slip::ListNamesStuck).then_some(at), hops };
+            break r.takes(Slip::ListNamesStuck).then_some(at);
         };
         hops += 1;
+        via.push(view.via(at, key, hop).letter().into());
         at = hop;
         if slipped_end(r, earlier, at, key, hops) {
-            return Journey { end: None, hops };
+            break None;
         }
-    }
+    };
+    Journey { end, hops, via }
 }
 
 /// Merging with an earlier lookup, and a stop for searches that go in circles.

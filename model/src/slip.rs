@@ -425,6 +425,41 @@ slips! {
     /// Forward gives 5 where there is no legal route.
     ForwardNoRouteIsFive,
 
+    // Where the hop came from (T-01).
+
+    /// The letter is r for a node in both.
+    ViaBothIsRouting,
+    /// The letter is that of the branch.
+    ViaOfBranch,
+    /// The letter is l for a node of the left side only.
+    ViaOfSide,
+    /// The letter is l where the receiver's leaf set holds the sender.
+    ViaOfReceiver,
+    /// The letters are exchanged.
+    ViaExchanged,
+    /// There is no letter where the routed message meets its equal.
+    ViaLostAtEqual,
+    /// A routed JoinRequest has no letter.
+    ViaNotOfJoins,
+    /// A delivered Lookup has a letter.
+    ViaOfDelivered,
+    /// A JoinRequest that is answered has a letter.
+    ViaOfReply,
+    /// A NoLegalRoute has a letter.
+    ViaOfNoRoute,
+    /// The listing has one letter too few.
+    ListLetterFewer,
+    /// The listing has no `-` where hops is 0.
+    ListWithoutDash,
+    /// The listing has `-` in place of the letters of a lookup that sticks.
+    ListStuckDash,
+    /// The listing has the letter of the last routing only.
+    ListLastLetter,
+    /// The listing has the letters from last to first.
+    ListLettersTurned,
+    /// The listing has no header for the letters.
+    ListHeaderOld,
+
     // Take of kind 3.
 
     /// Kind 3 gives 5 before 4.
@@ -695,6 +730,183 @@ slips! {
     ReadyWhenLeftSame,
     /// Kind 8 makes a ready node ok where the conditions fail.
     BroadcastDemotes,
+
+    // Nodes that go away, and the repairs (T-03).
+
+    /// NodeLeft only from ready, as in 001.
+    LeftOnlyReady,
+    /// NodeLeft only while more than L + 1 are ready, as in 001.
+    LeftOnlyFromMany,
+    /// NodeLeft makes the node wait.
+    LeftWaits,
+    /// NodeLeft leaves lease and grant as they are.
+    LeftKeepsLeases,
+    /// NodeLeft leaves the leaf set as it is.
+    LeftKeepsLeaves,
+    /// NodeLeft leaves failed as it is.
+    LeftKeepsFailed,
+    /// NodeLeft leaves the node in its routing set, as in 001.
+    LeftRoutesItself,
+    /// SuspectFaulty gives 5 before 2.
+    SuspectFiveBeforeTwo,
+    /// SuspectFaulty also while waiting.
+    SuspectAtWait,
+    /// SuspectFaulty not while ok.
+    SuspectOnlyReady,
+    /// SuspectFaulty only of a dead node, as in 001.
+    SuspectOnlyDead,
+    /// SuspectFaulty also of a node that is not in the content.
+    SuspectOfAnyone,
+    /// SuspectFaulty also of a node that is probed.
+    SuspectOfProbed,
+    /// SuspectFaulty also of a node that has failed.
+    SuspectOfFailed,
+    /// SuspectFaulty does not add j to probing.
+    SuspectNotProbed,
+    /// SuspectFaulty adds j to failed.
+    SuspectIsFailed,
+    /// SuspectFaulty sends no probe.
+    SuspectInSilence,
+    /// SuspectFaulty sends an empty failed.
+    SuspectTellsNothing,
+    /// ProbeTimeOut gives 5 before 2.
+    TimeOutFiveBeforeTwo,
+    /// ProbeTimeOut not while waiting.
+    TimeOutNotAtWait,
+    /// ProbeTimeOut only of a node that is dead, or waits with an empty leaf set, as in 001.
+    TimeOutOnlyDead,
+    /// ProbeTimeOut also of a node that is not probed.
+    TimeOutOfAnyone,
+    /// ProbeTimeOut leaves j in probing.
+    TimeOutStaysProbed,
+    /// ProbeTimeOut leaves j in lease.
+    TimeOutKeepsLease,
+    /// ProbeTimeOut takes j out of grant.
+    TimeOutTakesGrant,
+    /// ProbeTimeOut does not add j to failed.
+    TimeOutNotFailed,
+    /// ProbeTimeOut looks for j in lease in place of grant.
+    TimeOutLooksAtLease,
+    /// ProbeTimeOut takes j out of the leaf set though it is granted.
+    TimeOutDespiteGrant,
+    /// ProbeTimeOut leaves the status as it is.
+    TimeOutStatusStays,
+    /// ProbeTimeOut makes the node wait whoever j is.
+    TimeOutAlwaysWaits,
+    /// ProbeTimeOut takes no LSProbe out of the pool.
+    TimeOutTakesNone,
+    /// ProbeTimeOut takes one LSProbe out of the pool.
+    TimeOutTakesOne,
+    /// ProbeTimeOut takes the LSProbeReplies from i to j too.
+    TimeOutTakesReplies,
+    /// ProbeTimeOut takes the LSProbes of all nodes to j.
+    TimeOutTakesOfAnyone,
+    /// ProbeTimeOut takes the LSProbes of i to all nodes.
+    TimeOutTakesToAnyone,
+    /// DeclareDead gives 5 before 2.
+    DeclareFiveBeforeTwo,
+    /// DeclareDead also while waiting.
+    DeclareAtWait,
+    /// DeclareDead not while ok.
+    DeclareOnlyReady,
+    /// DeclareDead also of a node that has not failed.
+    DeclareUnfailed,
+    /// DeclareDead also of a node that is not in the content.
+    DeclareStranger,
+    /// DeclareDead also of a granted neighbour.
+    DeclareDespiteGrant,
+    /// DeclareDead of no granted member.
+    DeclareNoneGranted,
+    /// DeclareDead looks at the left neighbour only.
+    DeclareLeftOnly,
+    /// DeclareDead takes j out of the left side only.
+    DeclareOneSide,
+    /// DeclareDead leaves the status as it is.
+    DeclareStatusStays,
+    /// DeclareDead takes j out of failed.
+    DeclareTakesFailed,
+    /// DeclareDead takes j out of lease.
+    DeclareTakesLease,
+    /// DeclareDead takes j out of grant.
+    DeclareTakesGrant,
+    /// LSRepair gives 4 before 2.
+    RepairFourBeforeTwo,
+    /// LSRepair gives 5 before 4.
+    RepairFiveBeforeFour,
+    /// LSRepair also while ok.
+    RepairAtOk,
+    /// LSRepair also with one side empty.
+    RepairOfOneSide,
+    /// LSRepair also of a complete leaf set.
+    RepairOfComplete,
+    /// LSRepair gives 4 for full sides only, as before T-02.
+    RepairBelowFull,
+    /// LSRepair also while probing.
+    RepairWhileProbing,
+    /// LSRepair always probes both ends.
+    RepairBothEnds,
+    /// LSRepair probes the neighbours.
+    RepairNearEnds,
+    /// LSRepair probes the end of the side that is full.
+    RepairEndsExchanged,
+    /// LSRepair sends an empty failed.
+    RepairTellsNothing,
+    /// ResignNode gives 3 before 2.
+    ResignThreeBeforeTwo,
+    /// ResignNode gives 4 before 3.
+    ResignFourBeforeThree,
+    /// ResignNode gives 5 before 4.
+    ResignFiveBeforeFour,
+    /// ResignNode also while ok.
+    ResignAtOk,
+    /// ResignNode also to a node that is ok.
+    ResignToOk,
+    /// ResignNode never gives 3.
+    ResignThreeNever,
+    /// ResignNode gives 3 for a JoinReply to anyone.
+    ResignThreeOfAnyone,
+    /// ResignNode gives 3 for a JoinRequest of i.
+    ResignThreeForRequest,
+    /// ResignNode also with both sides.
+    ResignOfBothSides,
+    /// ResignNode only with an empty leaf set.
+    ResignOnlyEmpty,
+    /// ResignNode also while probing.
+    ResignWhileProbing,
+    /// ResignNode makes the node dead.
+    ResignDies,
+    /// ResignNode leaves lease and grant as they are.
+    ResignKeepsLeases,
+    /// ResignNode leaves failed as it is.
+    ResignKeepsFailed,
+    /// ResignNode leaves the routing set as it is.
+    ResignKeepsRouting,
+    /// ResignNode empties the routing set.
+    ResignRoutesNothing,
+    /// ResignNode sends the node itself as routing set.
+    ResignCarriesItself,
+    /// Recover gives 4 before 2.
+    RecoverFourBeforeTwo,
+    /// Recover gives 5 before 4.
+    RecoverFiveBeforeFour,
+    /// Recover looks at its own status only.
+    RecoverOwnStatus,
+    /// Recover while others are ok, though none is ready.
+    RecoverAmongOk,
+    /// Recover also from dead.
+    RecoverAtDead,
+    /// Recover also with both sides.
+    RecoverOfBothSides,
+    /// Recover also while probing.
+    RecoverWhileProbing,
+    /// Recover probes the neighbour.
+    RecoverNearEnd,
+    /// Recover probes all of the leaf set.
+    RecoverProbesLeaves,
+    /// Recover makes the node ok.
+    RecoverIsOk,
+    /// Recover sends an empty failed.
+    RecoverTellsNothing,
 
     // The start.
 

@@ -84,6 +84,21 @@ pub(crate) fn held_equal<R: Reading>(r: R, waiting: &[Message], message: &Messag
     Some(waiting.iter().any(|other| seen(other) == seen(message)))
 }
 
+/// Whether a waiting message goes when the probe of j by i times out: an LSProbe from i to j.
+#[inline]
+pub(crate) fn goes<R: Reading>(r: R, message: &Message, i: usize, j: usize) -> bool {
+    let between = |node: u8, to: u8| (usize::from(node), usize::from(to)) == (i, j);
+    match *message {
+        Message::LsProbe { to, node, .. } => {
+            let from_anyone = r.takes(Slip::TimeOutTakesOfAnyone) && usize::from(to) == j;
+            let to_anyone = r.takes(Slip::TimeOutTakesToAnyone) && usize::from(node) == i;
+            (between(node, to) || from_anyone || to_anyone) && !r.takes(Slip::TimeOutTakesNone)
+        }
+        Message::LsProbeReply { to, node, .. } => r.takes(Slip::TimeOutTakesReplies) && between(node, to),
+        _ => false,
+    }
+}
+
 /// The misreadings of adding to a leaf set.
 #[inline]
 pub(crate) fn add<R: Reading>(view: &View<R>, owner: usize, sides: Sides, set: u64) -> Option<Sides> {

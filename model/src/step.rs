@@ -1,6 +1,7 @@
 //! A step: one of the actions on a valid table.
 
 use crate::change::{Change, Scene};
+use crate::hop::Via;
 use crate::index::Index;
 use crate::message::Message;
 use crate::reading::{Reading, Right};
@@ -21,6 +22,13 @@ pub enum Action {
     Take { place: usize },
     Deliver { place: usize },
     Forward { place: usize },
+    NodeLeft { node: usize },
+    SuspectFaulty { node: usize, partner: usize },
+    ProbeTimeOut { node: usize, partner: usize },
+    DeclareDead { node: usize, partner: usize },
+    LsRepair { node: usize },
+    ResignNode { node: usize, seed: usize },
+    Recover { node: usize },
 }
 
 impl Action {
@@ -45,6 +53,11 @@ impl Action {
 
 /// Makes the action on a valid table, or refuses and changes nothing.
 pub fn step(table: &mut Table, pool: &mut [Message], action: Action) -> Result<(), Refusal> {
+    step_via(table, pool, action).map(|_| ())
+}
+
+/// As `step`. A done step that routed a Lookup or a JoinRequest to another node says where that hop came from.
+pub fn step_via(table: &mut Table, pool: &mut [Message], action: Action) -> Result<Option<Via>, Refusal> {
     step_as(Right, table, pool, action)
 }
 
@@ -54,7 +67,7 @@ pub fn step_as<R: Reading>(
     table: &mut Table,
     pool: &mut [Message],
     action: Action,
-) -> Result<(), Refusal> {
+) -> Result<Option<Via>, Refusal> {
     let pool = lent_mut(pool)?;
     let mut index = Index::new();
     check(r, table, pool, &mut index)?;
@@ -66,7 +79,7 @@ pub fn step_as<R: Reading>(
     planned?;
     refuse_if(!change.fits(r, table.count), Refusal::PoolFull)?;
     change.carry_out(r, table, pool);
-    Ok(())
+    Ok(change.via)
 }
 
 impl<R: Reading> Scene<'_, R> {
@@ -96,6 +109,34 @@ impl<R: Reading> Scene<'_, R> {
             Action::Take { place } => self.take(change, self.place(place)?),
             Action::Deliver { place } => self.deliver(change, self.place(place)?),
             Action::Forward { place } => self.forward(change, self.place(place)?),
+            Action::NodeLeft { node } => {
+                change.at(self, self.slot(node)?);
+                self.node_left(change)
+            }
+            Action::SuspectFaulty { node, partner } => {
+                change.at(self, self.slot(node)?);
+                self.suspect_faulty(change, self.partner(partner, change.node.status.is_member())?)
+            }
+            Action::ProbeTimeOut { node, partner } => {
+                change.at(self, self.slot(node)?);
+                self.probe_time_out(change, self.partner(partner, change.node.status != Status::Dead)?)
+            }
+            Action::DeclareDead { node, partner } => {
+                change.at(self, self.slot(node)?);
+                self.declare_dead(change, self.partner(partner, change.node.status.is_member())?)
+            }
+            Action::LsRepair { node } => {
+                change.at(self, self.slot(node)?);
+                self.ls_repair(change)
+            }
+            Action::ResignNode { node, seed } => {
+                change.at(self, self.slot(node)?);
+                self.resign_node(change, self.partner(seed, change.node.status == Status::Wait)?)
+            }
+            Action::Recover { node } => {
+                change.at(self, self.slot(node)?);
+                self.recover(change)
+            }
         }
     }
 

@@ -40,6 +40,12 @@ impl Sides {
         self.left | self.right | bit(owner)
     }
 
+    /// Both sides without the members of a set.
+    #[inline]
+    pub const fn without(self, set: u64) -> Sides {
+        Sides { left: self.left & !set, right: self.right & !set }
+    }
+
     #[inline]
     pub const fn is_empty(self) -> bool {
         self.left | self.right == 0

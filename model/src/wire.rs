@@ -5,6 +5,7 @@
 //! rehearsal and the water records are held.
 
 use crate::file::{load_as, write_as, LARGEST};
+use crate::hop::Via;
 use crate::listing::listing_as;
 use crate::message::{Pool, EMPTY_POOL};
 use crate::reading::Reading;
@@ -22,7 +23,7 @@ use crate::water::{Held, Record, Store};
 pub const LONGEST: usize = 65_536;
 
 /// The highest number of an action.
-pub const ACTIONS: u64 = 8;
+pub const ACTIONS: u64 = 15;
 
 /// The number for a request that is none.
 pub const MALFORMED: u32 = u32::MAX;
@@ -41,6 +42,7 @@ pub enum Request<'a> {
     Place { record: Record, file: &'a [u8] },
     Sum,
     Waiting { slot: u64, file: &'a [u8] },
+    StepVia { action: Action, file: &'a [u8] },
 }
 
 impl<'a> Request<'a> {
@@ -85,6 +87,10 @@ impl<'a> Request<'a> {
                 let ([slot], file) = words(file)?;
                 Some(Request::Waiting { slot, file })
             }
+            11 => {
+                let (action, file) = action(file)?;
+                Some(Request::StepVia { action, file })
+            }
             _ => None,
         }
     }
@@ -109,6 +115,7 @@ impl<'a> Request<'a> {
             }
             Request::Sum => put_parts(out, 9, [], &[]),
             Request::Waiting { slot, file } => put_parts(out, 10, [*slot], file),
+            Request::StepVia { action, file } => put_parts(out, 11, action_words(*action), file),
         }
     }
 }
@@ -140,6 +147,13 @@ fn action(bytes: &[u8]) -> Option<(Action, &[u8])> {
         6 => Action::Take { place: node },
         7 => Action::Deliver { place: node },
         8 => Action::Forward { place: node },
+        9 => Action::NodeLeft { node },
+        10 => Action::SuspectFaulty { node, partner },
+        11 => Action::ProbeTimeOut { node, partner },
+        12 => Action::DeclareDead { node, partner },
+        13 => Action::LsRepair { node },
+        14 => Action::ResignNode { node, seed: partner },
+        15 => Action::Recover { node },
         _ => return None,
     };
     Some((action, rest))
@@ -155,6 +169,13 @@ fn action_words(action: Action) -> [u64; 3] {
         Action::Take { place } => [6, place as u64, 0],
         Action::Deliver { place } => [7, place as u64, 0],
         Action::Forward { place } => [8, place as u64, 0],
+        Action::NodeLeft { node } => [9, node as u64, 0],
+        Action::SuspectFaulty { node, partner } => [10, node as u64, partner as u64],
+        Action::ProbeTimeOut { node, partner } => [11, node as u64, partner as u64],
+        Action::DeclareDead { node, partner } => [12, node as u64, partner as u64],
+        Action::LsRepair { node } => [13, node as u64, 0],
+        Action::ResignNode { node, seed } => [14, node as u64, seed as u64],
+        Action::Recover { node } => [15, node as u64, 0],
     }
 }
 
@@ -242,6 +263,12 @@ impl<R: Reading> Server<R> {
                 refuse_if(early, Refusal::OutOfRange)?;
                 load_as(r, file, &mut table, &mut pool)?;
                 put_first(first_waiting_as(r, &table, &pool, *slot)?, out);
+            }
+            Request::StepVia { action, file } => {
+                load_as(r, file, &mut table, &mut pool)?;
+                let via = step_as(r, &mut table, &mut pool, *action)?;
+                out.push(via.map_or(0, Via::letter));
+                put_file(r, &table, &pool, out)?;
             }
         }
         Ok(())

@@ -12,10 +12,10 @@ use std::collections::BTreeSet;
 /// An action, the kind of the message that it is to handle or 0 for none, and a number answered.
 type Case = (&'static str, u32, u32);
 
-/// The numbers of 01, "Actions" and "Take, by kind", and of T-05. That there are no others is proved in
+/// The numbers of 01, "Actions" and "Take, by kind", of T-03 and of T-05. That there are no others is proved in
 /// `crates/table/proofs/Numbers.antt` (`step-numbers`, which has 0, 1 and 10 for all, and `take-kind-6`, that 0 is
 /// not answered there). 1 is left out where the place is in range, and 10, for a file that loads has a valid table.
-const NUMBERS: [(&str, u32, &[u32]); 18] = [
+const NUMBERS: [(&str, u32, &[u32]); 25] = [
     ("Lookup", 0, &[0, 1, 3, 6]),
     ("Join", 0, &[0, 1, 2, 3, 4, 6]),
     ("RequestLease", 0, &[0, 1, 2, 4, 6]),
@@ -34,6 +34,13 @@ const NUMBERS: [(&str, u32, &[u32]); 18] = [
     ("Deliver", 1, &[0, 2, 5]),
     ("Forward", 0, &[1]),
     ("Forward", 1, &[0, 2, 5]),
+    ("NodeLeft", 0, &[0, 1, 2]),
+    ("SuspectFaulty", 0, &[0, 1, 2, 5, 6]),
+    ("ProbeTimeOut", 0, &[0, 1, 2, 5]),
+    ("DeclareDead", 0, &[0, 1, 2, 5]),
+    ("LSRepair", 0, &[0, 1, 2, 4, 5, 6]),
+    ("ResignNode", 0, &[0, 1, 2, 3, 4, 5, 6]),
+    ("Recover", 0, &[0, 1, 2, 4, 5, 6]),
 ];
 
 /// The requests or replies of a stored file, without their length words.
@@ -71,6 +78,13 @@ fn case(request: &[u8], reply: &[u8]) -> Option<Case> {
         Action::Take { .. } => "Take",
         Action::Deliver { .. } => "Deliver",
         Action::Forward { .. } => "Forward",
+        Action::NodeLeft { .. } => "NodeLeft",
+        Action::SuspectFaulty { .. } => "SuspectFaulty",
+        Action::ProbeTimeOut { .. } => "ProbeTimeOut",
+        Action::DeclareDead { .. } => "DeclareDead",
+        Action::LsRepair { .. } => "LSRepair",
+        Action::ResignNode { .. } => "ResignNode",
+        Action::Recover { .. } => "Recover",
     };
     let number = reply.first_chunk().expect("a reply has a number");
     Some((name, action.place().map_or(0, |place| kind(&bench, place)), u32::from_le_bytes(*number)))

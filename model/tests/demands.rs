@@ -17,7 +17,8 @@ fn tables(seed: u64, count: usize) -> Vec<Bench> {
         let mut bytes = Vec::new();
         requests.put(&mut bytes);
         let file = match Request::parse(&bytes) {
-            Some(Request::Step { file, .. } | Request::Settled { file } | Request::List { file }) => file,
+            Some(Request::Step { file, .. } | Request::StepVia { file, .. }) => file,
+            Some(Request::Settled { file } | Request::List { file }) => file,
             _ => continue,
         };
         if let Ok(mut bench) = Bench::load(file) {

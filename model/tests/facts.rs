@@ -97,7 +97,7 @@ fn the_bound_of_routings_is_reached() {
     let nodes: Vec<_> = (0..n).map(|slot| node(slot as u32, READY, &[], &below(slot))).collect();
     let mut bench = Bench::of(8, 1, &nodes);
     bench.lookup(n - 1, 0);
-    assert_eq!(listing(&bench.file()), b"key from to hops\n0 15 0 15\n");
+    assert_eq!(listing(&bench.file()), b"key from to hops via\n0 15 0 15 lllllllllllllll\n");
 }
 
 #[test]
@@ -106,7 +106,7 @@ fn a_waiting_node_holds_a_key_up() {
     let mut bench = Bench::of(2, 2, &nodes);
     assert!(!bench.settled());
     bench.lookup(0, 2);
-    assert_eq!(listing(&bench.file()), b"key from to hops\n2 0 - 1\n");
+    assert_eq!(listing(&bench.file()), b"key from to hops via\n2 0 - 1 l\n");
     assert_eq!(bench.forward(0), 0);
     assert_eq!([bench.deliver(0), bench.forward(0)], [2, 2]);
 }

@@ -97,7 +97,8 @@ fn a_forward_without_a_legal_route_is_done() {
 fn exactly_one_of_the_pair_is_done_at_a_ready_node() {
     let mut seen = [0; 3];
     for request in Requests::new(21).take(6_000) {
-        let Some(Request::Step { file, .. }) = Request::parse(&request) else {
+        let Some(Request::Step { file, .. } | Request::StepVia { file, .. }) = Request::parse(&request)
+        else {
             continue;
         };
         let Ok(bench) = Bench::load(file) else {

@@ -40,16 +40,22 @@ fn requests_get_their_results() {
     let (number, after) = ask(Request::Step { action, file: &file });
     assert_eq!(number, 0);
     assert_eq!(ask(Request::Step { action, file: &after }), (3, vec![]));
-    assert_eq!(ask(Request::List { file: &after }), (0, b"key from to hops\n80 17 65 2\n".to_vec()));
+    assert_eq!(ask(Request::List { file: &after }), (0, b"key from to hops via\n80 17 65 2 ll\n".to_vec()));
     assert_eq!(ask(Request::Waiting { slot: 0, file: &after }), (0, vec![1, 0, 0, 0, 0]));
     assert_eq!(ask(Request::Waiting { slot: 1, file: &after }), (0, vec![0]));
     assert_eq!(ask(Request::Waiting { slot: 4, file: &after }), (1, vec![]));
     let action = Action::Forward { place: 0 };
     let (number, routed) = ask(Request::Step { action, file: &after });
     assert_eq!((number, routed.len()), (0, after.len()));
+    assert_eq!(ask(Request::StepVia { action, file: &after }), (0, [&b"l"[..], &routed].concat()));
     for action in [Action::Take { place: 0 }, Action::Deliver { place: 0 }] {
         assert_eq!(ask(Request::Step { action, file: &after }), (5, vec![]));
+        assert_eq!(ask(Request::StepVia { action, file: &after }), (5, vec![]));
     }
+    let action = Action::Lookup { at: 1, key: 80 };
+    let (number, other) = ask(Request::Step { action, file: &after });
+    assert_eq!(number, 0);
+    assert_eq!(ask(Request::StepVia { action, file: &after }), (0, [&[0], &other[..]].concat()));
 }
 
 #[test]
@@ -59,6 +65,7 @@ fn files_that_do_not_load_answer_their_number() {
     for (bytes, wanted) in [(&file[..31], 7), (&[0; 32][..], 8), (&file[..40], 9)] {
         assert_eq!(ask(Request::Load { file: bytes }), (wanted, vec![]));
         assert_eq!(ask(Request::Step { action, file: bytes }), (wanted, vec![]));
+        assert_eq!(ask(Request::StepVia { action, file: bytes }), (wanted, vec![]));
         assert_eq!(ask(Request::Settled { file: bytes }), (wanted, vec![]));
         assert_eq!(ask(Request::Waiting { slot: 99, file: bytes }), (wanted, vec![]));
         assert_eq!(ask(Request::List { file: bytes }), (0, format!("refused {wanted}\n").into_bytes()));
@@ -70,6 +77,8 @@ fn malformed_requests_have_their_own_number() {
     let malformed = (u32::MAX, vec![]);
     assert_eq!(reply(&[]), malformed);
     assert_eq!(reply(&[11]), malformed);
+    assert_eq!(reply(&[12]), malformed);
+    assert_eq!(reply(&[11; 24]), malformed, "too short for its arguments");
     assert_eq!(reply(&[255]), malformed);
     assert_eq!(reply(&[1; 24]), malformed, "too short for its arguments");
     assert_eq!(reply(&[6; 24]), malformed, "too short for its arguments");

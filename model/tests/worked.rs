@@ -53,14 +53,14 @@ fn the_worked_listing() {
     let mut bench = worked();
     bench.lookup(0, 80);
     bench.lookup(2, 200);
-    assert_eq!(listing(&bench.file()), b"key from to hops\n80 17 65 2\n200 65 17 2\n");
+    assert_eq!(listing(&bench.file()), b"key from to hops via\n80 17 65 2 ll\n200 65 17 2 ll\n");
 }
 
 #[test]
 fn listings_without_lookups_and_of_refused_files() {
     let bench = worked();
     let mut file = bench.file();
-    assert_eq!(listing(&file), b"key from to hops\n");
+    assert_eq!(listing(&file), b"key from to hops via\n");
     file[36] = 4;
     assert_eq!(listing(&file), b"refused 10\n");
     file.push(0);

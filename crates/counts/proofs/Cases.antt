@@ -1,29 +1,36 @@
 -- Three messages, two of them for node 2 and one for node 0, counted and looked for by the language's checker; what is answered of them on a ring
--- of three ready nodes, and with counts that disagree. Each answer's number by name. Assumes nothing.
+-- of three ready nodes, and with counts that disagree. Each answer's number by name. Where a routed lookup's next hop came from. Assumes nothing.
 use mathlib.Core.Path.{_≡_, refl}
 use mathlib.Core.Bool.{true, false}
 use mathlib.Core.List.{List, [], _∷_, _++_}
 use Prim.Native.Nat.{ℕ}
 use lib.ListN.{replicate}
-use Rattle.ring.specs.Distance.{fallOf}
+use Rattle.ring.specs.Distance.{fallOf, signedOf, absDistOf, risesTo, nearer, leftCoverOf, rightCoverOf, coversKey}
 use Rattle.marks.specs.declared.Found.the-variants.{At, Nothing}
-use Rattle.marks.specs.Marks.{has, gather, tally, firstTo, allTo, single, meet, addOf, removeOf, sizeOf, listed}
-use Rattle.rules.specs.declared.Action.the-variants.{Lookup}
+use Rattle.marks.specs.Marks.{has, gather, tally, firstTo, allTo, single, union, meet, without, addOf, removeOf, sizeOf, lowestOf, listed}
+use Rattle.rules.specs.declared.Action.the-variants.{Lookup, Deliver, Forward}
 use Rattle.rules.specs.declared.Answer.the-variants.{Refused}
 use Rattle.rules.specs.declared.Pool.{Pool}
 use Rattle.rules.specs.declared.Refusal.the-variants as no
+use Rattle.rules.specs.declared.Via.the-variants.{Leaf, Unrouted}
+use Rattle.rules.specs.Actions.{waits, planLookup}
 use Rattle.rules.specs.Closest.{closest}
 use Rattle.rules.specs.Fits.{numbersFit, idFits, sideFits, leafFits, othersFit, nodeFits, isBlank, slotFits}
 use Rattle.rules.specs.Fits.{wordFits, flagFits, carriedFits, ownerFits, routingFits, failedFits, fieldsFit, messageFits}
-use Rattle.rules.specs.Leaf.{seenFrom, leafWith}
+use Rattle.rules.specs.Hop.{leafCandidates, routeCandidates, byLeaf, leafHop, routeHop, nextHop, viaOf}
+use Rattle.rules.specs.Leaf.{contentOf, seenFrom, leafWith, overlaps, isEmpty, coversOf}
 use Rattle.rules.specs.Letters.{lookup}
-use Rattle.rules.specs.Mail.{alike, allDifferent}
+use Rattle.rules.specs.Mail.{alike, allDifferent, firstFrom, firstEqual, added, removedAt, sentTo}
 use Rattle.rules.specs.Nodes.{placed}
 use Rattle.rules.specs.Pick.{best}
+use Rattle.rules.specs.Plans.{mailed}
 use Rattle.rules.specs.Pool.{waiting, laid}
 use Rattle.table_type.specs.declared.Table.{Table}
 use Rattle.table_type.specs.Start.{slotIds, slotsTo, startNode, startNodes, startFits, idsRise, listFits, startOf}
-use Rattle.table.specs.Step.{isSound}
+use Rattle.rules.specs.Take.{planDeliver, planForward}
+use Rattle.table.specs.Settle.{carriedOut, settle}
+use Rattle.table.specs.Settled.{deadSet}
+use Rattle.table.specs.Step.{isSound, stepOf}
 use Rattle.table.specs.Valid.{nodesFit, messagesFit, poolFits, validOf}
 use Rattle.words.specs.Bytes.{bytesOf, numberOf, encode, decode, encodeAll, decodeAll}
 use Rattle.file.specs.Load.{headerFits, offsetsFit, statusesFit, fileTable, partPool, filePool, loadOf}
@@ -173,3 +180,29 @@ answers =
       polled-nodes-is-0 = refl;
       polled-invalid-is-10 = refl;
     }
+
+-- ---- where the next hop came from
+
+-- a lookup of 65's id, for 17
+abbrev far : Counted
+far = record { table = nodes; pool = laid (placed (lookup 65) 0 ∷ []); counts = (1 ∷ 0 ∷ 0 ∷ []) ++ zeros }
+
+abbrev uncounted : Counted
+uncounted = record { table = nodes; pool = laid (placed (lookup 65) 0 ∷ []); counts = (0 ∷ 0 ∷ 0 ∷ []) ++ zeros }
+
+pub record Said : Type 0 where
+  -- 17 has 65 on its left
+  pub leaf : stepWith far 256 (Forward 0) .via ≡ Leaf
+  -- nothing is routed
+  pub refused : stepWith far 256 (Deliver 0) .via ≡ Unrouted
+  pub looked-up : stepWith far 256 (Lookup 1 65) .via ≡ Unrouted
+  pub wrong : stepWith uncounted 256 (Forward 0) .via ≡ Unrouted
+
+pub said : Said
+unfolding fallOf signedOf absDistOf risesTo nearer leftCoverOf rightCoverOf coversKey has gather tally firstTo allTo single union meet without
+    addOf removeOf sizeOf lowestOf listed best closest contentOf seenFrom leafWith overlaps isEmpty coversOf leafCandidates routeCandidates byLeaf
+    leafHop routeHop nextHop viaOf alike allDifferent firstFrom firstEqual added removedAt sentTo numbersFit idFits sideFits leafFits othersFit
+    nodeFits isBlank slotFits wordFits flagFits carriedFits ownerFits routingFits failedFits fieldsFit messageFits mailed waits planLookup planDeliver
+    planForward slotIds slotsTo startNode startNodes startFits idsRise listFits startOf nodesFit messagesFit poolFits validOf carriedOut settle deadSet
+    isSound stepOf countFor agreeOf afterBy stepWith
+said = record { leaf = refl; refused = refl; looked-up = refl; wrong = refl }

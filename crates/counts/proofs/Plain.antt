@@ -57,18 +57,18 @@ module _ (x : Counted) (len : ℕ) where
 
 pub load-as-plain : LoadAsPlain
 unfolding loadWith afterBy
-load-as-plain x bs len = record { answer-is = refl; table-is = refl; pool-is = refl }
+load-as-plain x bs len = record { answer-is = refl; table-is = refl; pool-is = refl; via-is = refl }
 
 pub start-as-plain : StartAsPlain
 unfolding startWith afterBy
-start-as-plain x len m l ids a = record { answer-is = refl; table-is = refl; pool-is = refl }
+start-as-plain x len m l ids a = record { answer-is = refl; table-is = refl; pool-is = refl; via-is = refl }
 
 -- ---- the step
 
 module _ (x : Counted) (len : ℕ) (a : Action) where
   step-agrees : agreeOf (x .counts) (x .pool) ≡ true → Same x (Call.step len a)
   unfolding stepWith afterBy
-  step-agrees e = record { answer-is = rw e; table-is = rw e; pool-is = rw e }
+  step-agrees e = record { answer-is = rw e; table-is = rw e; pool-is = rw e; via-is = rw e }
 
   step-unsound : isSound (x .table) (x .pool) len ≡ false → Same x (Call.step len a)
   unfolding stepWith stepOf
@@ -76,7 +76,7 @@ module _ (x : Counted) (len : ℕ) (a : Action) where
     where
       go : (b : Bool) → agreeOf (x .counts) (x .pool) ≡ b → Same x (Call.step len a)
       go true q = step-agrees q
-      go false q = record { answer-is = rw (q, e); table-is = rw (q, e); pool-is = rw (q, e) }
+      go false q = record { answer-is = rw (q, e); table-is = rw (q, e); pool-is = rw (q, e); via-is = rw (q, e) }
 
   step-disagrees : agreeOf (x .counts) (x .pool) ≡ false → answerNumber (stepWith x len a .answer) ≡ 10
   step-disagrees e = sym (ap (λ (r : After). answerNumber (r .answer)) (step-disagreed x len e a))

@@ -81,11 +81,12 @@ RefusedKeeps = (x : Counted) (c : Call) (why : Refusal) → made x c .answer ≡
 abbrev pub StayTrue : Type 0
 StayTrue = (x : Counted) (cs : List Call) → TrueCounts x → TrueCounts (afterCalls x cs)
 
--- a call answers and leaves what the one without counts does
+-- a call answers and leaves what the one without counts does, and says the same of the hop
 pub record Same (x : Counted) (c : Call) : Type 0 where
   pub answer-is : made x c .answer ≡ plain x c .answer
   pub table-is : made x c .counted .table ≡ plain x c .table
   pub pool-is : made x c .counted .pool ≡ plain x c .pool
+  pub via-is : made x c .via ≡ plain x c .via
 
 -- a step on a table with true counts
 abbrev pub StepAsPlain : Type 0

@@ -15,6 +15,7 @@ use Rattle.rules.specs.declared.Message.{Message}
 use Rattle.rules.specs.declared.Pool.{Pool}
 use Rattle.rules.specs.declared.Refusal.{Refusal}
 use Rattle.rules.specs.declared.Refusal.the-variants as no
+use Rattle.rules.specs.declared.Via.the-variants.{Unrouted}
 use Rattle.rules.specs.Numbers.{refusalNumber}
 use Rattle.rules.specs.Pool.{blank, waiting}
 use Rattle.table_type.specs.declared.Stepped.{Stepped}
@@ -71,12 +72,17 @@ abbrev pub countsAfter : List ℕ → Answer → Pool → List ℕ
 countsAfter c Done p = countsOf p
 countsAfter c (Refused why) p = c
 
+-- and where the next hop came from is passed on (T-01)
 unfoldable pub afterBy : List ℕ → Stepped → After
 afterBy c r =
-    record { answer = r .answer; counted = record { table = r .table; pool = r .pool; counts = countsAfter c (r .answer) (r .pool) } }
+    record {
+      answer = r .answer;
+      counted = record { table = r .table; pool = r .pool; counts = countsAfter c (r .answer) (r .pool) };
+      via = r .via;
+    }
 
 abbrev pub refusedWith : Counted → Refusal → After
-refusedWith x why = record { answer = Refused why; counted = x }
+refusedWith x why = record { answer = Refused why; counted = x; via = Unrouted }
 
 -- "10, before anything else as for any invalid table, for one handed in with counts that disagree with its pool"
 unfoldable pub stepWith : Counted → ℕ → Action → After

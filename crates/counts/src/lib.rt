@@ -2,6 +2,7 @@
 use rules::Answer;
 use rules::Pool;
 use rules::Refusal;
+use rules::Via;
 use table_type::Table;
 
 // A table, its pool, and for each slot how many messages wait for its node.
@@ -11,10 +12,11 @@ pub struct Counted {
     pub counts: [u32; 64],
 }
 
-// What a step, a load or a start leaves.
+// What a step, a load or a start leaves, and where the next hop came from, as without counts.
 pub struct After {
     pub answer: Answer,
     pub counted: Counted,
+    pub via: Via,
 }
 
 // Whether a node has a message, or why that was not looked at.

@@ -94,7 +94,13 @@ pub extern "C" fn tarpudhriv_step(file: &[u8], action: u64, x: u64, y: u64, out:
 
 // The same step, and the letter of where the next hop came from in the highest byte of the result: `l`, `r`, or 0 where it routed nothing.
 #[no_mangle]
-pub extern "C" fn tarpudhriv_step_via(file: &[u8], action: u64, x: u64, y: u64, out: &mut [u8]) -> u64
+pub extern "C" fn tarpudhriv_step_via(
+    file: &[u8],
+    action: u64,
+    x: u64,
+    y: u64,
+    out: &mut [u8],
+) -> u64
     ensures r { λ r. ⌜ r ≡ viaWord (askedOf action x y) (now (file .entry)) (now (out .entry)) ⌝ }
     ensures left { λ _. ⌜ now (out .exit) ≡ stepLeft (askedOf action x y) (now (file .entry)) (now (out .entry)) ⌝ }
 {

@@ -112,7 +112,7 @@ module _ {t : Table} {p : Pool} (c : Clauses t p) (a : Action) where
       go : (r : Answer) → stepOf t p 256 a .answer ≡ r → Clauses (stepOf t p 256 a .table) (stepOf t p 256 a .pool)
       go Done e =
           let (x, d, same) = step-done t p 256 a e in
-          rw same (done-clauses x d (turn .0) (λ i seed q. turn .1 i seed q e))
+          rw same (done-clauses x d (turn .0 e) (λ i seed q. turn .1 i seed q e))
       go (Refused why) e = rw (step-refused t p 256 a why e .1) c
 
 step-valid : (t : Table) (p : Pool) (a : Action) → validOf t p ≡ true → validOf (stepOf t p 256 a .table) (stepOf t p 256 a .pool) ≡ true

@@ -44,7 +44,11 @@ abbrev pub isDone : Answer → Bool
 isDone Done = true
 isDone (Refused why) = false
 
--- a list of actions, run: whether every action is done, whether nobody leaves and no Join is done while some node is wait, and what is left
+-- an action that is so answered: no departure or repair is done, and no Join while some node is wait
+abbrev isInTurn : Table → Action → Answer → Bool
+isInTurn t a r = (not (isDone r) || nobodyLeaves a) && (not (isJoin a && isDone r) || nobodyWaits t)
+
+-- a list of actions, run: whether every action is done, whether every action is in turn, and what is left
 pub record Ran : Type 0 where
   pub done : Bool
   pub turns : Bool
@@ -57,7 +61,7 @@ ran (a ∷ acts) s =
     let r = ran acts u in
     record {
       done = isDone (u .answer) && r .done;
-      turns = (nobodyLeaves a && (not (isJoin a && isDone (u .answer)) || nobodyWaits (s .table))) && r .turns;
+      turns = isInTurn (s .table) a (u .answer) && r .turns;
       left = r .left;
     }
 
@@ -71,9 +75,10 @@ pub none-of : (t : Table) → NoneWaits t → nobodyWaits t ≡ true
 unfolding nobodyWaits
 none-of t none = all-of (t .n) (λ s. not (isWait (nodeAt t s .status))) (λ s h. false-not (none s h))
 
-turn-told : (t : Table) (p : Pool) (a : Action)
-    → (nobodyLeaves a && (not (isJoin a && isDone (stepOf t p 256 a .answer)) || nobodyWaits t)) ≡ true → InTurn t p a
-turn-told t p a e = let b = both (nobodyLeaves a) _ e in (b .0, λ i seed join done. none-told t (rw (done, join) at (b .1)))
+turn-told : (t : Table) (p : Pool) (a : Action) → isInTurn t a (stepOf t p 256 a .answer) ≡ true → InTurn t p a
+turn-told t p a e =
+    let b = both (not (isDone (stepOf t p 256 a .answer)) || nobodyLeaves a) _ e in
+    (λ done. rw done at (b .0), λ i seed join done. none-told t (rw (done, join) at (b .1)))
 
 pub turns-told : (acts : List Action) (s : Stepped) → ran acts s .turns ≡ true → Patient (s .table) (s .pool) acts
 turns-told [] s e = tt
@@ -102,10 +107,14 @@ done-told : (r : Answer) → isDone r ≡ true → r ≡ Done
 done-told Done e = refl
 done-told (Refused why) e = absurd (clash (sym e))
 
-turn-of : (t : Table) (p : Pool) (a : Action) → InTurn t p a
-    → (nobodyLeaves a && (not (isJoin a && isDone (stepOf t p 256 a .answer)) || nobodyWaits t)) ≡ true
-turn-of t p a turn = and-both (turn .0) (go (isJoin a && isDone (stepOf t p 256 a .answer)) refl)
+turn-of : (t : Table) (p : Pool) (a : Action) → InTurn t p a → isInTurn t a (stepOf t p 256 a .answer) ≡ true
+turn-of t p a turn =
+    and-both (stays (stepOf t p 256 a .answer) refl) (go (isJoin a && isDone (stepOf t p 256 a .answer)) refl)
   where
+    stays : (r : Answer) → stepOf t p 256 a .answer ≡ r → (not (isDone r) || nobodyLeaves a) ≡ true
+    stays Done e = turn .0 e
+    stays (Refused why) e = refl
+
     go : (b : Bool) → (isJoin a && isDone (stepOf t p 256 a .answer)) ≡ b → (not b || nobodyWaits t) ≡ true
     go true e =
         let c = both (isJoin a) (isDone (stepOf t p 256 a .answer)) e in

@@ -1,6 +1,6 @@
 -- Join in turn, and there is one holder. From every start, and from every valid table that satisfies the clauses, through every list of
--- actions of the real step: if nobody leaves and no Join is done while some node is wait, then after every action no two ready nodes cover one key. Only
--- statements: the proofs are named in Proved. Assumes nothing.
+-- actions of the real step: if no departure or repair is done, and no Join while some node is wait, then after every action no two ready nodes cover one
+-- key. Only statements: the proofs are named in Proved. Assumes nothing.
 use mathlib.Core.Path.{_≡_}
 use mathlib.Core.Bool.{Bool, true, false}
 use mathlib.Core.List.{List, [], _∷_}
@@ -46,11 +46,13 @@ nobodyLeaves (LSRepair i) = false
 nobodyLeaves (ResignNode i n) = false
 nobodyLeaves (Recover i) = false
 
--- nobody leaves; and if the action is a Join and is done, no node was wait
+-- if the action is done, it is no departure or repair; and if it is a Join, no node was wait. One that is refused changes nothing
 abbrev pub InTurn : Table → Pool → Action → Type 0
-InTurn t p a = (nobodyLeaves a ≡ true) × ((i seed : ℕ) → a ≡ Join i seed → stepOf t p 256 a .answer ≡ Done → NoneWaits t)
+InTurn t p a =
+    (stepOf t p 256 a .answer ≡ Done → nobodyLeaves a ≡ true)
+    × ((i seed : ℕ) → a ≡ Join i seed → stepOf t p 256 a .answer ≡ Done → NoneWaits t)
 
--- nobody of the list leaves, and no Join of it is done while some node is wait
+-- no departure or repair of the list is done, and no Join of it while some node is wait
 abbrev pub Patient : Table → Pool → List Action → Type 0
 Patient t p [] = Unit {0}
 Patient t p (a ∷ acts) = InTurn t p a × Patient (stepOf t p 256 a .table) (stepOf t p 256 a .pool) acts

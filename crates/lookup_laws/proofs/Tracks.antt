@@ -152,8 +152,8 @@ module _ (t : Table) (p : Pool) (q k d : ℕ) (v : Sound t p) (l : LookupAt p q 
           act = refl;
           ready = ready;
           leaves = e
-          ∙ ap (λ (z : Plan). doneBy (z .via) (withNode t (messageAt p q .dest) (z .node)) (laid (mailed z (others p q)))) s
-          ∙ ap₂ (λ (u : Table) (zs : List Message). doneBy (y .via) u (laid zs)) same mail;
+              ∙ ap (λ (z : Plan). doneBy (z .via) (withNode t (messageAt p q .dest) (z .node)) (laid (mailed z (others p q)))) s
+              ∙ ap₂ (λ (u : Table) (zs : List Message). doneBy (y .via) u (laid zs)) same mail;
         }
 
   -- delivered

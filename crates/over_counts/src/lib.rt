@@ -22,6 +22,7 @@ use rules::Action;
 use rules::Answer;
 use rules::Pool;
 use rules::Refusal;
+use rules::Via;
 use table_type::Stepped;
 
 // How many messages wait in a pool of any content: as many as it counts, and all 256 places where it counts more.
@@ -111,13 +112,18 @@ fn with_counts(counts: [u32; 64], r: Stepped) -> After
     let answer = r.answer;
     let table = r.table;
     let pool = r.pool;
+    let via = r.via;
     let counts = counts_after(counts, answer, pool);
     let counted = Counted {
         table,
         pool,
         counts,
     };
-    After { answer, counted }
+    After {
+        answer,
+        counted,
+        via,
+    }
 }
 
 // A refusal leaves everything as it is.
@@ -127,6 +133,7 @@ fn refused(x: Counted, why: Refusal) -> After
     After {
         answer: Answer::Refused(why),
         counted: x,
+        via: Via::Unrouted,
     }
 }
 

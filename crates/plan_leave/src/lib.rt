@@ -16,8 +16,8 @@ use rules::Refusal;
 use rules::Ring;
 use rules::Sides;
 use rules::Status;
-use rules::Way;
 use rules::Via;
+use rules::Way;
 
 // The node with all sets empty, but for the routing set.
 pub fn emptied(v: Node, st: Status, routing: u64) -> Node

@@ -1,4 +1,5 @@
--- The next hop for a key k at node i, and where it came from (T-01). Definitions only, each under 01's or 02's sentence; dead is the set of the dead nodes. Their laws are in crate rules. Assumes nothing.
+-- The next hop for a key k at node i, and where it came from (T-01). Definitions only, each under 01's or 02's sentence; dead is the set of the dead nodes.
+-- Their laws are in crate rules. Assumes nothing.
 use mathlib.Core.Bool.{Bool, cond, _&&_, _||_}
 use mathlib.Core.List.{List}
 use Prim.Native.Nat.{ℕ, _^_}

@@ -28,7 +28,7 @@ use Rattle.table_type.specs.declared.Table.{Table}
 use Rattle.table_type.specs.declared.Stepped.{Stepped}
 use Rattle.table_type.specs.Table.{nodeAt, withNode, ringOf}
 use Rattle.table.specs.Settle.{refusedOf, doneBy, carriedOut, settle}
-use Rattle.table.specs.Step.{Gone, all-stay, one-goes, probes-go, timesOut}
+use Rattle.table.specs.Step.{one-goes, timesOut}
 use Rattle.table.specs.Step.{Asked, isSlot, isKey, requests, takes, takenOf, deliveredOf, forwardedOf, asked, remaining, plannedOf, actOf, isSound, stepOf}
 use Rattle.table.specs.Valid.{validOf}
 use Rattle.table.proofs.Obeys.{obeys}

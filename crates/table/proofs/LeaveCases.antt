@@ -16,7 +16,7 @@ use Rattle.rules.specs.declared.Pool.{Pool}
 use Rattle.rules.specs.Letters.{noSides, lookup, joinReply, joinRequest, lsProbe, lsProbeReply}
 use Rattle.rules.specs.Nodes.{placed}
 use Rattle.rules.specs.Numbers.{answerNumber}
-use Rattle.rules.specs.Pool.{lay, laid}
+use Rattle.rules.specs.Pool.{laid}
 use Rattle.rules.specs.Pick.{best}
 use Rattle.rules.specs.Closest.{closest}
 use Rattle.rules.specs.Leaf.{contentOf, seenFrom, leafWith, overlaps, isFull, isComplete, isEmpty}

@@ -1,4 +1,4 @@
-//! Table files that break one rule of validity, and files at the edges of 7 to 10.
+//! Table files that break one rule of validity or have one wrong offset or last word, and files at the edges of 7 to 10.
 
 use super::damage::{long_at, overfull, put_long, put_word, word_at, Sound};
 use super::rng::Rng;
@@ -8,8 +8,9 @@ use crate::table::Table;
 
 /// Breaks one rule, where the table has what it is about.
 pub fn breach(rng: &mut Rng, file: &mut Vec<u8>, sound: &Sound) {
-    match rng.below(16) {
-        0 => edge(rng, file, sound),
+    match rng.below(20) {
+        0 | 16 => edge(rng, file, sound),
+        17..=19 => put_word(file, rng.pick(&[16, 20, 24, 28]), rng.pick(&[1, 31, 33, 96, 1 << 16])),
         1..=4 => ids(rng, file, sound),
         5 | 6 => node(rng, file, sound),
         _ if sound.count == 0 => node(rng, file, sound),
@@ -89,15 +90,20 @@ enum Rule {
     Side,
 }
 
-const RULES: [(Rule, &[u32]); 17] = [
+const RULES: [(Rule, &[u32]); 22] = [
     (Rule::Blank, &[1, 2, 3, 4, 5, 6, 7, 8]),
     (Rule::To, &[1, 2, 3, 4, 5, 6, 7, 8]),
     (Rule::Key, &[1, 6]),
     (Rule::Node, &[2, 3, 4, 5, 7, 8]),
+    (Rule::Node, &[2, 3, 4, 5, 7, 8]),
+    (Rule::Flag, &[8]),
     (Rule::Flag, &[8]),
     (Rule::NoFlag, &[1, 2, 3, 4, 5, 6, 7]),
     (Rule::Owner, &[4, 5]),
     (Rule::NoOwner, &[1, 2, 6, 7]),
+    (Rule::NoOwner, &[1, 2, 6, 7]),
+    (Rule::Side, &[3, 4, 5, 8]),
+    (Rule::NoNode, &[3, 8]),
     (Rule::NoNode, &[3, 8]),
     (Rule::Sixth, &[1, 2, 3, 4, 5, 6, 7, 8]),
     (Rule::NoSet, &[1, 2, 3, 4, 5, 6, 7, 8]),

@@ -29,16 +29,16 @@ pub fn broken(rng: &mut Rng) -> (Case, Action) {
     fill(rng, &mut case, few);
     let i = rng.below(case.table.n);
     let j = rng.member(below(case.table.n) & !bit(i));
-    let kind = rng.below(26);
+    let kind = rng.below(29);
     let mut broken = Broken { rng, case, i, j, named: j };
     let action = match kind {
-        0 => broken.lookup(),
-        1..=3 => broken.join(),
-        4 | 5 => broken.request_lease(),
-        6 | 7 => broken.lease_expired(),
-        8 | 9 => broken.grant_expired(),
-        10 => broken.take_past(),
-        11..=16 => broken.pair(),
+        0 | 1 => broken.lookup(),
+        2..=4 => broken.join(),
+        5 | 6 => broken.request_lease(),
+        7 | 8 => broken.lease_expired(),
+        9..=11 => broken.grant_expired(),
+        12 => broken.take_past(),
+        13..=17 => broken.pair(),
         _ => broken.take(),
     };
     (broken.case, action)
@@ -105,7 +105,7 @@ impl Broken<'_> {
         self.set_sides(Sides::EMPTY);
         for fault in self.faults(7) {
             match fault {
-                0 => self.set_status(i, &[Wait, Wait, Ok, Ready]),
+                0 => self.set_status(i, &[Wait, Wait, Wait, Ok, Ready]),
                 1 => self.set_status(seed, &[Ok, Wait, Dead]),
                 2 | 3 => {
                     let to = if self.rng.one_in(2) { seed } else { self.rng.below(self.case.table.n) };
@@ -126,6 +126,7 @@ impl Broken<'_> {
         let sides = self.some_sides();
         self.set_sides(sides);
         self.set_status(self.i, &[Status::Ok]);
+        self.case.table.nodes[self.i].lease &= !bit(self.i);
         let mut node = self.i;
         for fault in self.faults(5) {
             match fault {
@@ -158,7 +159,7 @@ impl Broken<'_> {
         self.fit_expiry();
         self.case.table.nodes[self.i].grant |= bit(self.j);
         self.case.table.nodes[self.j].lease &= !bit(self.i);
-        self.set_status(self.j, &Status::ALL);
+        self.set_status(self.j, &[Status::Dead, Status::Dead, Status::Wait, Status::Ok, Status::Ready]);
         for fault in self.faults(6) {
             match fault {
                 0 => self.set_status(self.i, &[Status::Dead, Status::Wait, Status::Wait]),
@@ -196,16 +197,38 @@ impl Broken<'_> {
         self.rng.pick(&three(place))
     }
 
-    /// One of the pair: for a Lookup at a ready node the right one, but for the faults.
+    /// One of the pair: for a Lookup at a ready node the right one, but for the faults. They are another status, a
+    /// JoinRequest, a NoLegalRoute, another kind, Take, and the other of the pair.
     fn pair(&mut self) -> Action {
+        const FAULTS: [&[usize]; 18] = [
+            &[],
+            &[0],
+            &[0],
+            &[1],
+            &[1],
+            &[2],
+            &[2],
+            &[3],
+            &[4],
+            &[5],
+            &[5],
+            &[0, 1],
+            &[0, 3],
+            &[0, 4],
+            &[0, 4],
+            &[0, 5],
+            &[0, 5],
+            &[2],
+        ];
         let (i, j) = (self.i, self.j);
         self.set_status(i, &[Status::Ready]);
-        let mut kind = 1;
-        let (mut take, mut other) = (false, false);
-        for fault in self.faults(7) {
+        let (mut kind, mut take, mut other) = (1, false, false);
+        for fault in self.rng.pick(&FAULTS) {
             match fault {
-                0 | 1 => self.set_status(i, &[Status::Dead, Status::Wait, Status::Ok, Status::Ok]),
-                2 | 3 => kind = self.rng.pick(&[2, 2, 2, 2, 2, 3, 4, 5, 6, 6, 6, 6, 7, 8]),
+                0 => self.set_status(i, &[Status::Dead, Status::Wait, Status::Ok, Status::Ok]),
+                1 => kind = 2,
+                2 => kind = 6,
+                3 => kind = self.rng.pick(&[3, 4, 5, 7, 8]),
                 4 => take = true,
                 _ => other = true,
             }
@@ -217,7 +240,11 @@ impl Broken<'_> {
         if take {
             return taken;
         }
-        let delivers = if kind == 1 { fitting(&self.case, place) == delivered } else { self.rng.one_in(2) };
+        let delivers = match kind {
+            1 => fitting(&self.case, place) == delivered,
+            2 => self.rng.one_in(3),
+            _ => !self.rng.one_in(3),
+        };
         if delivers != other {
             delivered
         } else {

@@ -8,7 +8,7 @@ use crate::marks::bit;
 /// The file with one rule broken, or with one to three faults; some of them happen to leave a right file.
 pub fn damaged(rng: &mut Rng, mut file: Vec<u8>) -> Vec<u8> {
     let sound = Sound::of(&file);
-    if rng.one_in(2) {
+    if !rng.one_in(3) {
         breach(rng, &mut file, &sound);
         return file;
     }

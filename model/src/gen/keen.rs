@@ -2,6 +2,7 @@
 
 use super::case::Case;
 use super::messages::{carried, key_from};
+use super::prime::added;
 use super::rng::Rng;
 use super::tables;
 use super::taking::taking;
@@ -12,24 +13,27 @@ use crate::step::Action;
 use crate::table::{Sides, Status};
 use crate::view::View;
 
-/// A valid table, and the action for a message of it.
+/// A valid table, and the action for a message of it. In some cases what it adds waits already.
 pub fn keen(rng: &mut Rng) -> (Case, Action) {
     let mut case = tables::small(rng);
     let i = rng.below(case.table.n);
     let j = rng.member(below(case.table.n) & !bit(i));
-    let message = match rng.below(27) {
-        0..=5 => crossed(rng, &mut case, i, j),
-        6..=8 => mixed(rng, &mut case, i, j),
-        9..=11 => last_reply(rng, &mut case, i, j),
-        12..=16 => failed_sender(rng, &mut case, i, j),
-        17 | 18 => asked(rng, &mut case, i),
-        19..=23 => neighbours_move(rng, &mut case, i),
-        24 | 25 => short_sides(rng, &mut case, i),
+    let message = match rng.below(32) {
+        0..=8 => crossed(rng, &mut case, i, j),
+        9..=11 => mixed(rng, &mut case, i, j),
+        12..=14 => last_reply(rng, &mut case, i, j),
+        15..=20 => failed_sender(rng, &mut case, i, j),
+        21 | 22 => asked(rng, &mut case, i),
+        23..=28 => neighbours_move(rng, &mut case, i),
+        29 | 30 => short_sides(rng, &mut case, i),
         _ => welcome(rng, &mut case, i, j),
     };
     case.push(message);
     let place = case.place_of(&message).expect("it waits");
     let action = taking(rng, &case, place);
+    if rng.one_in(8) {
+        added(&case, action).into_iter().for_each(|echo| case.push(echo));
+    }
     (case, action)
 }
 
@@ -52,21 +56,32 @@ fn whole(case: &Case, i: usize) -> Sides {
 }
 
 /// A lookup or join request at a node whose sides have passed each other without meeting, so that the routing set
-/// counts, or that knows none on its right. Mostly it knows one node that has not failed, as near as it is to the key
-/// or farther.
+/// counts. Mostly it knows one node that has not failed, as near as it is to the key or farther. In some cases the sides
+/// share one so that the routing set does not count, or the right side is empty.
 fn crossed(rng: &mut Rng, case: &mut Case, i: usize, j: usize) -> Message {
     let others = below(case.table.n) & !bit(i);
     let half = 1 + rng.below(case.table.l as usize) as u32;
     let known = rng.members(others, 2 * half as usize);
     let right = keep_up(known, i, half.min(known.count_ones() / 2));
     let alone = Sides { left: keep_up(known, i, half), right: 0 };
-    let sides = if rng.one_in(5) { alone } else { Sides { left: known & !right, right } };
+    let left = known & !right;
+    let both = if case.table.l < 8 && left != 0 { bit(rng.member(left)) } else { 0 };
+    match rng.below(12) {
+        0 | 1 if both != 0 => {
+            case.table.l += 1;
+            return knows_all(rng, case, i, j, Sides { left, right: right | both });
+        }
+        2 => return knows_all(rng, case, i, j, alone),
+        _ => {}
+    }
+    let sides = if rng.one_in(5) { alone } else { Sides { left, right } };
     let near = View::new(Right, &case.table).neighbours(i, sides);
     let past = between(case, i, near.0).wrapping_add(1) & (u32::MAX >> (32 - case.table.m));
-    let (spared, key) = match rng.below(5) {
+    let below_i = first_down(others, i);
+    let (spared, key) = match rng.below(6) {
         0 | 1 => (near.1, between(case, near.1, i)),
-        2 => (first_down(others, i), past),
-        3 => (j, past),
+        2 | 3 => (below_i, past),
+        4 => (j, past),
         _ => (j, key_from(rng, &case.table, i)),
     };
     if !rng.one_in(4) {
@@ -75,14 +90,35 @@ fn crossed(rng: &mut Rng, case: &mut Case, i: usize, j: usize) -> Message {
     let (some, only) = (rng.any() & others, others & !bit(spared));
     let node = &mut case.table.nodes[i];
     node.sides = sides;
-    node.routing = rng.pick(&[0, others, bit(spared), some]);
+    node.routing = if spared == below_i { bit(spared) } else { rng.pick(&[0, others, bit(spared), some]) };
     node.failed = rng.pick(&[0, others, others & !some, only, only, only, only]);
     routed(rng, case, i, j, key)
+}
+
+/// A lookup or join request at a node with these sides, whose routing set is all others.
+fn knows_all(rng: &mut Rng, case: &mut Case, i: usize, j: usize, sides: Sides) -> Message {
+    let others = below(case.table.n) & !bit(i);
+    let node = &mut case.table.nodes[i];
+    (node.sides, node.routing, node.failed) = (sides, others, 0);
+    let key = routed_key(rng, case, i);
+    routed(rng, case, i, j, key)
+}
+
+/// A key that the node mostly does not cover.
+fn routed_key(rng: &mut Rng, case: &Case, i: usize) -> u32 {
+    let mut key = key_from(rng, &case.table, i);
+    for _ in 0..3 {
+        if View::new(Right, &case.table).covers(i, key) {
+            key = key_from(rng, &case.table, i);
+        }
+    }
+    key
 }
 
 /// A lookup or join request at a node whose sides are any nodes and whose routing set is all. Mostly it is routed.
 fn mixed(rng: &mut Rng, case: &mut Case, i: usize, j: usize) -> Message {
     let others = below(case.table.n) & !bit(i);
+    case.table.l = case.table.l.max(2);
     let most = case.table.l as usize;
     let left = rng.members(others, most);
     let right = rng.members(others & !left, most);
@@ -91,12 +127,7 @@ fn mixed(rng: &mut Rng, case: &mut Case, i: usize, j: usize) -> Message {
     node.sides = Sides { left, right };
     node.routing = others;
     node.failed = rng.pick(&[0, 0, some]);
-    let mut key = key_from(rng, &case.table, i);
-    for _ in 0..3 {
-        if View::new(Right, &case.table).covers(i, key) {
-            key = key_from(rng, &case.table, i);
-        }
-    }
+    let key = routed_key(rng, case, i);
     routed(rng, case, i, j, key)
 }
 
@@ -224,7 +255,7 @@ fn neighbours_move(rng: &mut Rng, case: &mut Case, i: usize) -> Message {
         _ => turned,
     };
     node.failed = if rng.one_in(3) { rng.few(others) } else { 0 };
-    let owner = if rng.one_in(3) { rng.member(others) } else { rng.pick(&[near.0, near.1]) };
+    let owner = if rng.one_in(2) { rng.member(others) } else { rng.pick(&[near.0, near.1]) };
     let some = rng.subset(listed);
     node.lease = rng.pick(&[listed, listed, listed & !bit(owner), some]);
     let told = if rng.one_in(3) { rng.members(others, 2 * l) } else { near.marks() };

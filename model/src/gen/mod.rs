@@ -1,10 +1,11 @@
-//! Seeded requests: tables, walks, refusals, damaged files, rehearsals, water records, polls and malformed requests.
+//! Seeded requests: tables, walks, refusals, departures, damaged files, rehearsals, water records, polls and malformed requests.
 
 mod breach;
 mod broken;
 mod case;
 mod damage;
 mod keen;
+mod leaving;
 mod messages;
 mod polls;
 mod prime;

@@ -22,9 +22,9 @@ impl Polls {
         Polls { rng, walk }
     }
 
-    /// Whether the next request is a poll: one of eighteen.
+    /// Whether the next request is a poll: one of sixteen.
     pub fn due(&mut self) -> bool {
-        self.rng.one_in(18)
+        self.rng.one_in(16)
     }
 
     pub fn put(&mut self, out: &mut Vec<u8>) {
@@ -68,8 +68,22 @@ fn slot(rng: &mut Rng, case: &Case) -> u64 {
     let any = rng.below(n) as u64;
     let listed = if rng.one_in(2) && !waiting.is_empty() { rng.pick(waiting).to() as u64 } else { any };
     let n = n as u64;
-    match rng.below(4) {
-        0 => rng.pick(&[0, n - 1, n, n, n + 1, 63, 64, 64 + any, 256 + any, WIDE, WIDE + any, u64::MAX]),
+    match rng.below(3) {
+        0 => rng.pick(&[
+            0,
+            0,
+            n - 1,
+            n,
+            n,
+            n + 1,
+            63,
+            64,
+            64 + any,
+            256 + any,
+            WIDE + any,
+            WIDE + any,
+            u64::MAX,
+        ]),
         _ => listed,
     }
 }

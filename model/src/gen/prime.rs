@@ -263,7 +263,7 @@ fn altered(rng: &mut Rng, table: &Table, mut message: Message) -> Message {
 }
 
 /// The messages that the step adds, if it is done.
-fn added(case: &Case, action: Action) -> Vec<Message> {
+pub fn added(case: &Case, action: Action) -> Vec<Message> {
     let mut after = case.clone();
     match step(&mut after.table, &mut after.pool, action) {
         Ok(()) => after.waiting().iter().filter(|m| case.place_of(m).is_none()).copied().collect(),
@@ -304,5 +304,18 @@ pub fn stray(rng: &mut Rng, table: &Table, action: Action) -> Action {
         Action::Take { .. } | Action::Deliver { .. } | Action::Forward { .. } => {
             action.at_place(wide(rng, table.count))
         }
+        Action::NodeLeft { node } => Action::NodeLeft { node: slot(node) },
+        Action::SuspectFaulty { node, partner } => {
+            Action::SuspectFaulty { node: slot(node), partner: slot(partner) }
+        }
+        Action::ProbeTimeOut { node, partner } => {
+            Action::ProbeTimeOut { node: slot(node), partner: slot(partner) }
+        }
+        Action::DeclareDead { node, partner } => {
+            Action::DeclareDead { node: slot(node), partner: slot(partner) }
+        }
+        Action::LsRepair { node } => Action::LsRepair { node: slot(node) },
+        Action::ResignNode { node, seed } => Action::ResignNode { node: slot(node), seed: slot(seed) },
+        Action::Recover { node } => Action::Recover { node: slot(node) },
     }
 }

@@ -37,12 +37,12 @@ impl Records {
         Records { rng, begun: 0, full: false, store: Store::default(), case, left: 5 }
     }
 
-    /// Whether the next request is one of records: one of ten, while the store is filled nine of ten.
+    /// Whether the next request is one of records: one of twelve, while the store is filled nine of ten.
     pub fn due(&mut self) -> bool {
         if self.full {
             !self.rng.one_in(10)
         } else {
-            self.rng.one_in(10)
+            self.rng.one_in(12)
         }
     }
 
@@ -68,7 +68,7 @@ impl Records {
     fn begin(&mut self, out: &mut Vec<u8>) {
         self.begun += 1;
         self.full = self.begun % FULL == 3;
-        self.left = if self.full { 120 } else { 4 + self.rng.below(16) };
+        self.left = if self.full { 150 } else { 4 + self.rng.below(16) };
         self.case = calm(&mut self.rng);
         while self.full && !(self.case.table.m >= 8 && is_settled(&self.case)) {
             self.case = calm(&mut self.rng);

@@ -36,12 +36,12 @@ impl Rehearsals {
         Rehearsals { rng, begun: 0, long: false, checker: Rehearsal::begin(&[]), case, good: 0, more: 2 }
     }
 
-    /// Whether the next request is one of a rehearsal: one of ten, in a long one nine of ten.
+    /// Whether the next request is one of a rehearsal: one of thirteen, in a long one nine of ten.
     pub fn due(&mut self) -> bool {
         if self.long {
             !self.rng.one_in(10)
         } else {
-            self.rng.one_in(10)
+            self.rng.one_in(13)
         }
     }
 
@@ -109,7 +109,7 @@ impl Rehearsals {
         let middle = 255 + self.rng.below(64);
         let all = self.begun % LONG == 4;
         self.good = if all { Rehearsal::STEPS as usize - fewer } else { middle };
-        self.more = if all { 30 } else { 1 };
+        self.more = if all { 30 } else { 4 };
         self.case.file()
     }
 
@@ -117,7 +117,7 @@ impl Rehearsals {
     fn right(&mut self) -> (Action, Case) {
         let mut after = self.case.clone();
         for _ in 0..100 {
-            let action = any(&mut self.rng, &after);
+            let action = any(&mut self.rng, &after, !self.long);
             if step(&mut after.table, &mut after.pool, action).is_ok() {
                 return (action, after);
             }
@@ -128,7 +128,7 @@ impl Rehearsals {
     /// An action that is refused.
     fn refused(&mut self) -> Action {
         for _ in 0..8 {
-            let action = any(&mut self.rng, &self.case);
+            let action = any(&mut self.rng, &self.case, !self.long);
             let mut after = self.case.clone();
             if step(&mut after.table, &mut after.pool, action).is_err() {
                 return action;

@@ -4,6 +4,7 @@ use super::broken::broken;
 use super::case::Case;
 use super::damage::damaged;
 use super::keen::keen;
+use super::leaving::Departures;
 use super::messages::{fill, key};
 use super::polls::Polls;
 use super::prime::primed;
@@ -14,10 +15,11 @@ use super::starts::start;
 use super::tables;
 use super::walk::Walk;
 use crate::message::Message;
+use crate::step::Action;
 use crate::wire::{Request, ACTIONS, LONGEST};
 
 /// One kind that is none, and all but the start of a rehearsal, those of records and polls: what is held goes on.
-const KINDS: [u8; 7] = [0, 1, 2, 3, 4, 11, 6];
+const KINDS: [u8; 8] = [0, 1, 2, 3, 4, 11, 12, 6];
 
 /// An endless source of requests, the same for the same seed.
 pub struct Requests {
@@ -26,6 +28,7 @@ pub struct Requests {
     rehearsals: Rehearsals,
     records: Records,
     polls: Polls,
+    departures: Departures,
 }
 
 impl Requests {
@@ -33,7 +36,7 @@ impl Requests {
         let mut rng = Rng::new(seed);
         let walks = (0..4).map(|_| Walk::new(&mut rng)).collect();
         let (rehearsals, records, polls) = (Rehearsals::new(seed), Records::new(seed), Polls::new(seed));
-        Requests { rng, walks, rehearsals, records, polls }
+        Requests { rng, walks, rehearsals, records, polls, departures: Departures::new(seed) }
     }
 
     /// Puts the bytes of the next request after `out`, without a length word.
@@ -47,38 +50,41 @@ impl Requests {
         if self.polls.due() {
             return self.polls.put(out);
         }
+        if self.departures.due() {
+            return self.departures.put(out);
+        }
         let rng = &mut self.rng;
         match rng.below(100) {
-            0..=17 => {
+            0..=16 => {
                 let (mut case, action) = primed(rng);
                 // A pool that is nearly full, or full, behind the message that is taken.
                 if rng.one_in(14) {
                     let count = rng.pick(&[254, 255, 256]);
                     fill(rng, &mut case, count);
                 }
-                Request::Step { action, file: &case.file() }.put(out);
+                put_step(rng, action, &case.file(), out);
             }
-            18..=40 => {
+            17..=40 => {
                 let (case, action) = broken(rng);
-                Request::Step { action, file: &case.file() }.put(out);
+                put_step(rng, action, &case.file(), out);
             }
-            41..=59 => {
+            41..=61 => {
                 let (case, action) = keen(rng);
-                Request::Step { action, file: &case.file() }.put(out);
+                put_step(rng, action, &case.file(), out);
             }
-            60..=63 => {
+            62 | 63 => {
                 let walk = rng.below(self.walks.len());
                 let (case, action) = self.walks[walk].advance(rng);
-                Request::Step { action, file: &case.file() }.put(out);
+                put_step(rng, action, &case.file(), out);
             }
-            64..=77 => self.put_damaged(out),
-            78..=85 => start(rng).put(out),
-            86..=91 => Request::Settled { file: &self.calm().file() }.put(out),
-            92..=96 => {
+            64..=78 => self.put_damaged(out),
+            79..=87 => start(rng).put(out),
+            88..=94 => Request::Settled { file: &self.calm().file() }.put(out),
+            95..=97 => {
                 let case = self.with_lookups();
                 Request::List { file: &case.file() }.put(out);
             }
-            97 => Request::Load { file: &self.any().file() }.put(out),
+            98 => Request::Load { file: &self.any().file() }.put(out),
             _ => self.put_malformed(out),
         }
     }
@@ -116,10 +122,11 @@ impl Requests {
 
     /// A table with lookups to follow.
     fn with_lookups(&mut self) -> Case {
-        let mut case = match self.rng.below(3) {
+        let mut case = match self.rng.below(5) {
             0 => self.any(),
             1 => tables::settled(&mut self.rng),
-            _ => tables::table(&mut self.rng),
+            2 => tables::table(&mut self.rng),
+            _ => tables::crossed(&mut self.rng),
         };
         let rng = &mut self.rng;
         let count = rng.pick(&[0, 1, 2, 5, 20, 20, 60, 256]);
@@ -161,10 +168,10 @@ impl Requests {
         let rng = &mut self.rng;
         match rng.below(8) {
             0 => {}
-            1 => out.push(rng.pick(&[11, 6, 255, 128, 0, 1, 2, 3, 4])),
+            1 => out.push(rng.pick(&[11, 12, 6, 255, 128, 0, 1, 2, 3, 4])),
             2 => {
                 let (case, action) = primed(rng);
-                Request::Step { action, file: &case.file() }.put(out);
+                put_step(rng, action, &case.file(), out);
                 let number = rng.pick(&[0, ACTIONS + 1, ACTIONS + 2, u64::MAX, (1 << 32) + 1, 1 << 8, 6]);
                 out[from + 1..from + 9].copy_from_slice(&number.to_le_bytes());
             }
@@ -173,7 +180,7 @@ impl Requests {
                 request.put(out);
                 let kept = rng.below(40);
                 out.truncate(from + kept);
-                out[from..].iter_mut().take(1).for_each(|kind| *kind = rng.pick(&[1, 2]));
+                out[from..].iter_mut().take(1).for_each(|kind| *kind = rng.pick(&[1, 2, 11]));
             }
             5 => {
                 start(rng).put(out);
@@ -181,7 +188,7 @@ impl Requests {
                 out.resize(out.len() + odd, 0);
             }
             6 if rng.one_in(10) => {
-                out.push(rng.pick(&KINDS[..6]));
+                out.push(rng.pick(&KINDS[..7]));
                 let length = rng.pick(&[LONGEST, LONGEST + 1, LONGEST - 3, LONGEST + 5000, LONGEST - 1]);
                 let fill = rng.pick(&[0, 1, 8]);
                 out.resize(from + length, fill);
@@ -191,10 +198,15 @@ impl Requests {
                 for _ in 0..length {
                     out.push(rng.any() as u8);
                 }
-                out[from..].iter_mut().take(1).for_each(|kind| *kind = KINDS[usize::from(*kind % 7)]);
+                out[from..].iter_mut().take(1).for_each(|kind| *kind = KINDS[usize::from(*kind % 8)]);
             }
         }
     }
+}
+
+/// A step, half the time one that says where its hop came from.
+pub fn put_step(rng: &mut Rng, action: Action, file: &[u8], out: &mut Vec<u8>) {
+    if rng.one_in(2) { Request::Step { action, file } } else { Request::StepVia { action, file } }.put(out);
 }
 
 impl Iterator for Requests {

@@ -13,7 +13,7 @@ pub fn start(rng: &mut Rng) -> Request<'static> {
     let mut ready = rng.pick(&[below(ring.n), some, 1]);
     let faults = rng.pick(&[0, 0, 0, 1, 1, 2]);
     for _ in 0..faults {
-        match rng.below(10) {
+        match rng.below(11) {
             0 if rng.one_in(3) => m |= 1 << 32,
             0 => m = rng.pick(&[0, 1, 33, 34, 64, 1 << 32, u64::MAX, 2, 32]),
             1 if rng.one_in(3) => l |= 1 << 32,
@@ -52,7 +52,7 @@ fn disorder(rng: &mut Rng, ids: &mut [u32]) {
         return;
     }
     let (a, b) = (rng.below(ids.len()), rng.below(ids.len()));
-    if rng.one_in(2) {
+    if rng.one_in(4) {
         ids[a] = ids[b];
     } else {
         ids.swap(a, b);

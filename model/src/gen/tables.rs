@@ -1,8 +1,8 @@
-//! Valid tables: tiny, usual and full rings, lopsided leaf sets, settled tables.
+//! Valid tables: tiny, usual and full rings, lopsided and crossed leaf sets, settled tables.
 
 use super::case::Case;
 use super::rng::Rng;
-use crate::marks::{below, bit, slots};
+use crate::marks::{below, bit, keep_up, slots};
 use crate::reading::Right;
 use crate::table::{Node, Sides, Status, Table};
 use crate::view::View;
@@ -95,6 +95,30 @@ pub fn table(rng: &mut Rng) -> Case {
             grant: rng.subset(listed) | rng.subset(near),
             ..*node
         };
+    }
+    Case::new(table)
+}
+
+/// A table of ready nodes that are four or more. The sides of half of them have passed each other without meeting, so
+/// that the routing set counts; the others know their neighbours. So a lookup is routed several times, either way.
+pub fn crossed(rng: &mut Rng) -> Case {
+    let mut table = ring(rng);
+    while table.n < 4 {
+        table = ring(rng);
+    }
+    let listed = below(table.n);
+    table.l = if rng.one_in(2) { 1 } else { table.l };
+    for slot in 0..table.n {
+        let others = listed & !bit(slot);
+        let known = rng.members(others, 2 * (table.l as usize).min(2));
+        let right = keep_up(known, slot, known.count_ones() / 2);
+        let near = View::new(Right, &table).add(slot, Sides::EMPTY, others);
+        let (few, most) = (rng.few(others), 1 + rng.below(3));
+        let node = &mut table.nodes[slot];
+        node.status = if rng.one_in(16) { rng.pick(&Status::ALL) } else { Status::Ready };
+        node.sides = if rng.one_in(2) { near } else { Sides { left: known & !right, right } };
+        node.routing = rng.members(listed, most) | rng.pick(&[0, 0, known]);
+        node.failed = rng.pick(&[0, 0, few]);
     }
     Case::new(table)
 }

@@ -1,6 +1,7 @@
 //! A walk of done steps from a start.
 
 use super::case::Case;
+use super::leaving::any_leaving;
 use super::messages::key;
 use super::prime::stray;
 use super::rng::Rng;
@@ -15,6 +16,8 @@ use crate::table::{Status, Table};
 pub struct Walk {
     case: Case,
     left: usize,
+    /// Whether nodes go away.
+    leaving: bool,
 }
 
 impl Walk {
@@ -30,7 +33,7 @@ impl Walk {
         let mut case = Case { table: Table::BLANK, pool: EMPTY_POOL };
         start(ring.m.into(), ring.l.into(), &ids, ready, &mut case.table, &mut case.pool)
             .expect("the start is right");
-        Walk { case, left: 20 + rng.below(300) }
+        Walk { case, left: 20 + rng.below(300), leaving: rng.one_in(2) }
     }
 
     pub fn case(&self) -> &Case {
@@ -44,20 +47,24 @@ impl Walk {
         }
         self.left -= 1;
         let before = self.case.clone();
-        let mut action = any(rng, &self.case);
+        let mut action = any(rng, &self.case, self.leaving);
         for _ in 0..6 {
             let done = step(&mut self.case.table, &mut self.case.pool, action).is_ok();
             if done || rng.one_in(6) {
                 break;
             }
-            action = any(rng, &self.case);
+            action = any(rng, &self.case, self.leaving);
         }
         (before, action)
     }
 }
 
-/// An action that may well be done.
-pub fn any(rng: &mut Rng, case: &Case) -> Action {
+/// An action that may well be done, in some walks a departure or repair.
+pub fn any(rng: &mut Rng, case: &Case, leaving: bool) -> Action {
+    if leaving && rng.one_in(3) {
+        let action = any_leaving(rng, case);
+        return stray(rng, &case.table, action);
+    }
     let (table, n) = (&case.table, case.table.n);
     let with = |rng: &mut Rng, wanted: Status| {
         let set = table.marks(|node| node.status == wanted);

@@ -63,7 +63,7 @@ impl<R: Reading> Scene<'_, R> {
 
     /// An LSProbe from i to each of `probes`, in rising slot order.
     #[inline]
-    fn send_probes(&self, change: &mut Change, probes: u64, sides: Sides, failed: u64) {
+    pub(crate) fn send_probes(&self, change: &mut Change, probes: u64, sides: Sides, failed: u64) {
         let node = change.slot as u8;
         let probe = |to: usize| Message::LsProbe { to: to as u8, node, sides, failed };
         if self.view.r.takes(Slip::ProbesFalling) {

@@ -1,6 +1,7 @@
 //! Messages that are routed: kinds 1, 2 and 6. Kind 1 has a pair of actions (T-05).
 
 use crate::change::{Change, Scene};
+use crate::hop::Via;
 use crate::marks::{bit, has};
 use crate::message::Message;
 use crate::reading::Reading;
@@ -39,6 +40,7 @@ impl<R: Reading> Scene<'_, R> {
         if !covered && r.takes(Slip::DeliverForwards) {
             return self.route(change, key);
         }
+        change.via = r.pick(Slip::ViaOfDelivered, Some(Via::Leaf), None);
         refuse_if(!covered && !r.takes(Slip::DeliverUncovered), Refusal::Partner)
     }
 
@@ -79,7 +81,7 @@ impl<R: Reading> Scene<'_, R> {
         let Some(hop) = self.view.next_hop(i, key) else {
             return self.no_route(change, i, key);
         };
-        change.send(self, Message::Lookup { to: hop as u8, key });
+        change.send_on(self, key, hop, Message::Lookup { to: hop as u8, key });
         Ok(())
     }
 
@@ -114,6 +116,7 @@ impl<R: Reading> Scene<'_, R> {
         if !self.view.r.takes(Slip::NoRouteDropped) {
             change.send(self, Message::NoLegalRoute { to: to as u8, key });
         }
+        change.via = self.view.r.pick(Slip::ViaOfNoRoute, Some(Via::Leaf), None);
         Ok(())
     }
 
@@ -135,6 +138,7 @@ impl<R: Reading> Scene<'_, R> {
             let routing = r.pick(Slip::ReplyOwnRouting, node.routing, routing);
             let sides = r.pick(Slip::ReplyWithSender, joined, node.sides);
             change.send(self, Message::JoinReply { to: j as u8, owner: i as u8, routing, sides });
+            change.via = r.pick(Slip::ViaOfReply, Some(Via::Leaf), None);
             return Ok(());
         }
         let key = view.table.id(j);
@@ -145,7 +149,7 @@ impl<R: Reading> Scene<'_, R> {
         let gained = r.pick(Slip::ForwardKeepsRouting, 0, node.routing);
         let routing = r.pick(Slip::ForwardOwnRouting, 0, told) | gained;
         let routing = routing | r.pick(Slip::ForwardGainsItself, bit(i), 0);
-        change.send(self, Message::JoinRequest { to: hop as u8, node: j as u8, routing });
+        change.send_on(self, key, hop, Message::JoinRequest { to: hop as u8, node: j as u8, routing });
         Ok(())
     }
 

@@ -1,10 +1,12 @@
-//! The bench once more, slowly, with sets of slots and straight from the sentences of 01, T-05, T-06, T-09 and T-13.
+//! The bench once more, slowly, with sets of slots and straight from the sentences of 01, T-01, T-03, T-05, T-06,
+//! T-09 and T-13.
 //! It shares no code with the model and takes the same requests.
 
 #![allow(dead_code)]
 
 pub mod file;
 pub mod leaf;
+pub mod leave;
 pub mod others;
 pub mod rehearsal;
 pub mod ring;
@@ -98,12 +100,12 @@ pub fn judge(memory: &mut Memory, request: &[u8]) -> Verdict {
         return malformed();
     }
     let arguments = match request[0] {
-        1 | 2 | 6 => 24,
+        1 | 2 | 6 | 11 => 24,
         8 => 40,
         10 => 8,
         _ => 0,
     };
-    if request[0] > 10 || request.len() < 1 + arguments {
+    if request[0] > 11 || request.len() < 1 + arguments {
         return malformed();
     }
     let words: Vec<u64> = request[1..1 + arguments]
@@ -112,7 +114,7 @@ pub fn judge(memory: &mut Memory, request: &[u8]) -> Verdict {
         .collect();
     let rest = &request[1 + arguments..];
     match request[0] {
-        1 | 6 if !(1..=8).contains(&words[0]) => malformed(),
+        1 | 6 | 11 if !(1..=15).contains(&words[0]) => malformed(),
         2 if !rest.len().is_multiple_of(4) => malformed(),
         2 => others::start(words[0], words[1], words[2], rest),
         4 => Verdict::done(others::listing(rest)),
@@ -132,6 +134,7 @@ pub fn judge(memory: &mut Memory, request: &[u8]) -> Verdict {
                 1 => step::judge(&table, words[0], words[1], words[2]),
                 3 => Verdict::done(vec![u8::from(others::settled(&table))]),
                 8 => memory.records.place(&table, &words),
+                11 => step::judge_via(&table, words[0], words[1], words[2]),
                 _ => others::waiting(&table, words[0]),
             }
         }

@@ -2,6 +2,7 @@
 
 use super::leaf::{covers, next_hop, Leaf};
 use super::ring::fall;
+use super::step::letter;
 use super::{file, Node, Set, Table, Verdict, DEAD, OK, READY, WAIT};
 use std::collections::BTreeSet;
 
@@ -62,9 +63,9 @@ pub fn listing(bytes: &[u8]) -> Vec<u8> {
         return format!("refused {number}\n").into_bytes();
     }
     let table = file::read(bytes);
-    let mut text = String::from("key from to hops\n");
+    let mut text = String::from("key from to hops via\n");
     for m in table.pool.iter().filter(|m| m.kind == 1) {
-        let (mut at, mut hops, k) = (m.to, 0, m.node_or_key);
+        let (mut at, mut via, k) = (m.to, String::new(), m.node_or_key);
         let end = loop {
             if table.nodes[at].status != READY {
                 break "-".to_string();
@@ -75,10 +76,14 @@ pub fn listing(bytes: &[u8]) -> Vec<u8> {
             let Some(h) = next_hop(&table, at, k) else {
                 break "-".to_string();
             };
+            via.push(letter(&table, at, h).into());
             at = h;
-            hops += 1;
         };
-        text += &format!("{k} {} {end} {hops}\n", table.nodes[m.to].id);
+        let hops = via.len();
+        if hops == 0 {
+            via.push('-');
+        }
+        text += &format!("{k} {} {end} {hops} {via}\n", table.nodes[m.to].id);
     }
     text.into_bytes()
 }

@@ -2,21 +2,21 @@
 //! whether or not one does. Where 5 is given whatever the status, 2 does not apply.
 
 use super::leaf::{covers, next_hop, Leaf};
-use super::{file, Message, Set, Table, Verdict, DEAD, OK, READY, WAIT};
+use super::{file, leave, Message, Set, Table, Verdict, DEAD, OK, READY, WAIT};
 use std::collections::BTreeSet;
 
 /// The table that a done step leaves, before its additions, and those additions.
-struct Effect {
-    table: Table,
-    additions: Vec<Message>,
+pub struct Effect {
+    pub table: Table,
+    pub additions: Vec<Message>,
 }
 
 pub fn judge(table: &Table, action: u64, first: u64, second: u64) -> Verdict {
     let n = table.nodes.len() as u64;
     let in_range = match action {
         1 => first < n && second < 1 << table.m,
-        2 | 4 | 5 => first < n && second < n,
-        3 => first < n,
+        2 | 4 | 5 | 10 | 11 | 12 | 14 => first < n && second < n,
+        3 | 9 | 13 | 15 => first < n,
         _ => first < table.pool.len() as u64,
     };
     if !in_range {
@@ -30,7 +30,14 @@ pub fn judge(table: &Table, action: u64, first: u64, second: u64) -> Verdict {
         4 => lease_expired(table, i, j),
         5 => grant_expired(table, i, j),
         6 => take(table, i),
-        _ => deliver_or_forward(table, i, action == 7),
+        7 | 8 => deliver_or_forward(table, i, action == 7),
+        9 => leave::node_left(table, i),
+        10 => leave::suspect_faulty(table, i, j),
+        11 => leave::probe_time_out(table, i, j),
+        12 => leave::declare_dead(table, i, j),
+        13 => leave::ls_repair(table, i),
+        14 => leave::resign_node(table, i, j),
+        _ => leave::recover(table, i),
     };
     let mut after = effect.table;
     for message in effect.additions {
@@ -48,8 +55,46 @@ pub fn judge(table: &Table, action: u64, first: u64, second: u64) -> Verdict {
     }
 }
 
+/// As `judge`; what a done step leaves comes after the letter of its routing, or 0.
+pub fn judge_via(table: &Table, action: u64, first: u64, second: u64) -> Verdict {
+    let mut verdict = judge(table, action, first, second);
+    if verdict.numbers.is_empty() {
+        verdict.result.insert(0, via(table, action, first as usize));
+    }
+    verdict
+}
+
+/// The next hop is to say whether it came from the leaf set or the routing set; a node in both counts as leaf set.
+/// Routing of lookups and of join requests pass this on.
+fn via(table: &Table, action: u64, place: usize) -> u8 {
+    if action != 6 && action != 8 {
+        return 0;
+    }
+    let m = &table.pool[place];
+    let key = match m.kind {
+        1 => m.node_or_key,
+        2 => table.nodes[m.node_or_key as usize].id,
+        _ => return 0,
+    };
+    match next_hop(table, m.to, key) {
+        _ if covers(table, m.to, key) => 0,
+        Some(h) => letter(table, m.to, h),
+        None => 0,
+    }
+}
+
+/// Where the hop from i to h came from.
+pub fn letter(table: &Table, i: usize, h: usize) -> u8 {
+    if Leaf::of(table, i).content().contains(&h) {
+        b'l'
+    } else {
+        assert!(table.nodes[i].routing.contains(&h), "it came from one of the two");
+        b'r'
+    }
+}
+
 /// The set of those numbers whose condition holds.
-fn numbers<const N: usize>(conditions: [(u32, bool); N]) -> BTreeSet<u32> {
+pub fn numbers<const N: usize>(conditions: [(u32, bool); N]) -> BTreeSet<u32> {
     conditions.iter().filter(|(_, holds)| *holds).map(|(number, _)| *number).collect()
 }
 
@@ -172,7 +217,7 @@ fn take_join_request(table: &Table, after: Table, m: &Message) -> (BTreeSet<u32>
     (found, Effect { table: after, additions: vec![addition] })
 }
 
-fn probe(kind: u32, to: usize, leaf: &Leaf, failed: &Set) -> Message {
+pub fn probe(kind: u32, to: usize, leaf: &Leaf, failed: &Set) -> Message {
     Message {
         kind,
         to,

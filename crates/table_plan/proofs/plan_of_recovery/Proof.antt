@@ -24,8 +24,12 @@ plan-recover-requires c κs =
 returns : tie.Need-returns
 returns c =
     c .plan-recover .ensures
-    ∙ rw (c .before .before .ring-of .ensures, c .before .before .before .ids .ensures, c .before .before .before .before .node-at .ensures,
-    c .before .before .before .before .before .some-up .ensures)
+    ∙ rw (
+      c .before .before .ring-of .ensures,
+      c .before .before .before .ids .ensures,
+      c .before .before .before .before .node-at .ensures,
+      c .before .before .before .before .before .some-up .ensures,
+    )
 
 pub plan-of-recovery-spec : {M : Type 1} → statement M
 plan-of-recovery-spec =

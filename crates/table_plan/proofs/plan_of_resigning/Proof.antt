@@ -1,5 +1,4 @@
 -- `plan_of_resigning` meets its contract. Assumes nothing.
-use borrow.Author.Needs.{needs}
 use mathlib.Core.Path.{_∙_}
 use Rattle.table_plan.proofs.plan_of_resigning.Statement.{statement}
 use Rattle.table_plan.proofs.plan_of_resigning.Tie as tie

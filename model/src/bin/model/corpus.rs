@@ -91,12 +91,12 @@ fn is_held(request: &[u8]) -> bool {
     request.first().is_some_and(|kind| (5..=9).contains(kind))
 }
 
-/// The label of an answer. Of what is settled, listed or waits the result is looked at too.
+/// The label of an answer. Of what is settled, listed or waits the result is looked at too, and where a hop came from.
 fn answer(name: &str, number: u32, result: &[u8]) -> Label {
     let short = match name {
         "settled" => result,
         "list" if result.len() < 32 => &result[..result.len().min(8)],
-        "waiting" => &result[..result.len().min(1)],
+        "waiting" | "step with via" => &result[..result.len().min(1)],
         _ => &[],
     };
     Label::Answer(name.to_string(), number, short.to_vec())

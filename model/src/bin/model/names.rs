@@ -17,6 +17,7 @@ pub fn name(request: &[u8]) -> String {
         Some(Request::Place { .. }) => "place".to_string(),
         Some(Request::Sum) => "sum".to_string(),
         Some(Request::Waiting { .. }) => "waiting".to_string(),
+        Some(Request::StepVia { .. }) => "step with via".to_string(),
         Some(Request::Step { action, file }) => format!("step {}", action_name(action, file)),
     }
 }

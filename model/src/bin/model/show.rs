@@ -62,6 +62,9 @@ pub fn request(bytes: &[u8]) -> String {
         Some(Request::Records) => "begin records\n".to_string(),
         Some(Request::Place { record, file: bytes }) => format!("place {record:?}\n{}", file(bytes)),
         Some(Request::Sum) => "sum\n".to_string(),
+        Some(Request::StepVia { action, file: bytes }) => {
+            format!("step with via {action:?}\n{}", file(bytes))
+        }
         Some(Request::Waiting { slot, file: bytes }) => format!("waiting for slot {slot}\n{}", file(bytes)),
     }
 }
@@ -77,6 +80,7 @@ fn reply(asked: &[u8], bytes: &[u8]) -> String {
         _ if result.is_empty() => String::new(),
         Some(Request::List { .. }) => String::from_utf8_lossy(result).into_owned(),
         Some(Request::Load { .. } | Request::Step { .. } | Request::Start { .. }) => file(result),
+        Some(Request::StepVia { .. }) => format!("via {}\n{}", result[0], file(&result[1..])),
         _ => format!("{result:?}"),
     };
     format!("{number} and {} bytes\n{result}", bytes.len() - 4)
