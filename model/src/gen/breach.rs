@@ -19,12 +19,12 @@ pub fn breach(rng: &mut Rng, file: &mut Vec<u8>, sound: &Sound) {
     }
 }
 
-/// The header alone, or more nodes than ids.
+/// The header alone, or less, or more nodes than ids.
 fn edge(rng: &mut Rng, file: &mut Vec<u8>, sound: &Sound) {
-    if sound.n > 4 && rng.one_in(2) {
-        put_word(file, 0, 2);
-    } else {
-        file.truncate(HEADER);
+    match rng.below(3) {
+        0 | 1 if sound.n > 4 => put_word(file, 0, 2),
+        0 => file.truncate(rng.pick(&[0, 1, HEADER - 1])),
+        _ => file.truncate(HEADER),
     }
 }
 

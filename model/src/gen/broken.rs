@@ -200,30 +200,10 @@ impl Broken<'_> {
     /// One of the pair: for a Lookup at a ready node the right one, but for the faults. They are another status, a
     /// JoinRequest, a NoLegalRoute, another kind, Take, and the other of the pair.
     fn pair(&mut self) -> Action {
-        const FAULTS: [&[usize]; 18] = [
-            &[],
-            &[0],
-            &[0],
-            &[1],
-            &[1],
-            &[2],
-            &[2],
-            &[3],
-            &[4],
-            &[5],
-            &[5],
-            &[0, 1],
-            &[0, 3],
-            &[0, 4],
-            &[0, 4],
-            &[0, 5],
-            &[0, 5],
-            &[2],
-        ];
         let (i, j) = (self.i, self.j);
         self.set_status(i, &[Status::Ready]);
         let (mut kind, mut take, mut other) = (1, false, false);
-        for fault in self.rng.pick(&FAULTS) {
+        for fault in self.rng.faults("- 0 0 1 1 2 2 3 4 5 5 01 03 04 04 05 05 2") {
             match fault {
                 0 => self.set_status(i, &[Status::Dead, Status::Wait, Status::Ok, Status::Ok]),
                 1 => kind = 2,

@@ -45,111 +45,6 @@ struct Leaving<'a> {
     partner: usize,
 }
 
-/// Which faults an action has: none, one or two of those that its function names.
-type Faults = &'static [usize];
-
-const NODE_LEFT: [Faults; 6] = [&[], &[], &[], &[], &[0], &[1]];
-const SUSPECT_FAULTY: [Faults; 16] =
-    [&[], &[], &[], &[0], &[0], &[1], &[2], &[2], &[3], &[3], &[4], &[4], &[5], &[0, 2], &[0, 3], &[6]];
-const PROBE_TIME_OUT: [Faults; 14] =
-    [&[], &[], &[], &[], &[3], &[3], &[0], &[1], &[1], &[0, 1], &[0, 1], &[0, 1], &[2], &[4]];
-const DECLARE_DEAD: [Faults; 18] = [
-    &[],
-    &[],
-    &[],
-    &[],
-    &[0],
-    &[0],
-    &[1],
-    &[2],
-    &[2],
-    &[3],
-    &[3],
-    &[4],
-    &[4],
-    &[4],
-    &[0, 2],
-    &[0, 3],
-    &[5],
-    &[6],
-];
-const LS_REPAIR: [Faults; 21] = [
-    &[],
-    &[],
-    &[],
-    &[],
-    &[0],
-    &[0],
-    &[1],
-    &[2],
-    &[3],
-    &[4],
-    &[4],
-    &[5],
-    &[5],
-    &[6],
-    &[6],
-    &[6],
-    &[0, 2],
-    &[1, 5],
-    &[2, 6],
-    &[4, 6],
-    &[7],
-];
-const RESIGN_NODE: [Faults; 27] = [
-    &[],
-    &[],
-    &[],
-    &[0],
-    &[6],
-    &[2],
-    &[2],
-    &[3],
-    &[4],
-    &[4],
-    &[5],
-    &[5],
-    &[6],
-    &[6],
-    &[7],
-    &[7],
-    &[8],
-    &[8],
-    &[1, 4],
-    &[0, 4],
-    &[4, 5],
-    &[4, 5],
-    &[5, 6],
-    &[5, 6],
-    &[5, 6],
-    &[9],
-    &[10],
-];
-const RECOVER: [Faults; 22] = [
-    &[],
-    &[],
-    &[],
-    &[],
-    &[0],
-    &[0],
-    &[1],
-    &[2],
-    &[2],
-    &[3],
-    &[3],
-    &[4],
-    &[4],
-    &[5],
-    &[6],
-    &[6],
-    &[6],
-    &[3, 4],
-    &[0, 4],
-    &[4, 6],
-    &[4, 6],
-    &[7],
-];
-
 /// A valid table and a departure or repair on it.
 fn leaving(rng: &mut Rng) -> (Case, Action) {
     let mut case = tables::small(rng);
@@ -219,7 +114,7 @@ impl Leaving<'_> {
     /// Faults: dead; a slot out of range.
     fn node_left(&mut self) -> Action {
         self.set_status(&[Wait, Ok, Ready]);
-        for fault in self.rng.pick(&NODE_LEFT) {
+        for fault in self.rng.faults("- - - - 0 1") {
             match fault {
                 0 => self.set_status(&[Dead]),
                 _ => self.node = self.out(),
@@ -235,7 +130,7 @@ impl Leaving<'_> {
         let (i, mark) = (self.i, bit(self.j));
         self.own().probing &= !mark;
         self.own().failed &= !mark;
-        for fault in self.rng.pick(&SUSPECT_FAULTY) {
+        for fault in self.rng.faults("- - - 0 0 1 2 2 3 3 4 4 5 02 03 6") {
             match fault {
                 0 => self.set_status(&[Wait]),
                 1 => self.set_status(&[Dead]),
@@ -268,7 +163,7 @@ impl Leaving<'_> {
             self.own().sides = self.own().sides.without(mark);
         }
         self.mail();
-        for fault in self.rng.pick(&PROBE_TIME_OUT) {
+        for fault in self.rng.faults("- - - - 3 3 0 1 1 01 01 01 2 4") {
             match fault {
                 0 => self.set_status(&[Dead]),
                 1 => self.own().probing &= !mark,
@@ -302,7 +197,7 @@ impl Leaving<'_> {
         let (i, sides) = (self.i, self.own().sides);
         let near = View::new(Right, &self.case.table).neighbours(i, sides);
         let far = (sides.left | sides.right) & !near.marks();
-        let faults = self.rng.pick(&DECLARE_DEAD);
+        let faults = self.rng.faults("- - - - 0 0 1 2 2 3 3 4 4 4 02 03 5 6");
         let role = self.rng.below(3);
         self.j = match (role, far) {
             (0, 1..) if faults.is_empty() => self.rng.member(far),
@@ -349,7 +244,7 @@ impl Leaving<'_> {
         self.own().probing = 0;
         let (others, i) = (self.others(), self.i);
         let any = self.rng.member(others);
-        for fault in self.rng.pick(&LS_REPAIR) {
+        for fault in self.rng.faults("- - - - 0 0 1 2 3 4 4 5 5 6 6 6 02 15 26 46 7") {
             match fault {
                 0 => self.set_status(&[Ok]),
                 1 => self.set_status(&[Dead, Ready]),
@@ -392,7 +287,7 @@ impl Leaving<'_> {
         self.set_status(&[Wait]);
         self.case.table.nodes[self.j].status = Ready;
         let any = self.rng.member(self.others());
-        for fault in self.rng.pick(&RESIGN_NODE) {
+        for fault in self.rng.faults("- - - 0 6 2 2 3 4 4 5 5 6 6 7 7 8 8 14 04 45 45 56 56 56 9 a") {
             match fault {
                 0 => self.set_status(&[Ok]),
                 1 => self.set_status(&[Dead, Ready]),
@@ -438,7 +333,7 @@ impl Leaving<'_> {
         self.own().probing = 0;
         self.set_status(&[Wait]);
         let any = self.rng.member(self.others());
-        for fault in self.rng.pick(&RECOVER) {
+        for fault in self.rng.faults("- - - - 0 0 1 2 2 3 3 4 4 5 6 6 6 34 04 46 46 7") {
             match fault {
                 0 => self.set_status(&[Dead]),
                 1 => self.set_status(&[Ok, Ready]),

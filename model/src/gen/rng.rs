@@ -32,6 +32,12 @@ impl Rng {
         choices[self.below(choices.len())]
     }
 
+    /// One of the words. Its digits are the faults that an action has; `-` is none.
+    pub fn faults(&mut self, words: &str) -> Vec<usize> {
+        let words: Vec<&str> = words.split(' ').collect();
+        self.pick(&words).chars().filter_map(|digit| digit.to_digit(16)).map(|digit| digit as usize).collect()
+    }
+
     /// A member of a set that is not empty.
     pub fn member(&mut self, set: u64) -> usize {
         let nth = self.below(set.count_ones() as usize);
