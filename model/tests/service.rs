@@ -128,3 +128,20 @@ fn with_one_leaf_on_a_side_the_neighbours_wait() {
     assert!(!switched_off(&mut bench, 3));
     assert_eq!(bench.status(2), WAIT);
 }
+
+/// Where each node repairs and renews before the next one begins, the first neighbour of d stays ok: the other one still
+/// has d as neighbour, and grants nothing. It asks again at the end.
+#[test]
+fn in_one_sweep_the_first_neighbour_asks_twice() {
+    let (mut bench, d) = (estate(2, 7), 3);
+    bench.done(Action::NodeLeft { node: d });
+    for i in [1, 2, 4, 5] {
+        assert!(repairs(&mut bench, i, d));
+        assert_eq!(renews(&mut bench, i), i != 2, "slot {i}");
+    }
+    assert!(!bench.settled());
+    bench.done(Action::RequestLease { node: 2 });
+    quiet(&mut bench);
+    assert!(bench.settled());
+    assert!(switched_on(&mut bench, d));
+}
