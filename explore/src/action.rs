@@ -36,6 +36,8 @@ pub const GRANT_EXPIRED: u64 = 5;
 pub const TAKE: u64 = 6;
 pub const DELIVER: u64 = 7;
 pub const FORWARD: u64 = 8;
+pub const PROBE_TIME_OUT: u64 = 11;
+pub const DECLARE_DEAD: u64 = 12;
 
 /// Every kind that the proved step knows.
 pub const KINDS: [Kind; 15] = [
@@ -49,8 +51,8 @@ pub const KINDS: [Kind; 15] = [
     Kind { number: FORWARD, words: "forward", form: Form::Place, local: true },
     Kind { number: 9, words: "node left", form: Form::Node, local: true },
     Kind { number: 10, words: "suspect faulty", form: Form::Pair, local: true },
-    Kind { number: 11, words: "probe time out", form: Form::Pair, local: false },
-    Kind { number: 12, words: "declare dead", form: Form::Pair, local: true },
+    Kind { number: PROBE_TIME_OUT, words: "probe time out", form: Form::Pair, local: false },
+    Kind { number: DECLARE_DEAD, words: "declare dead", form: Form::Pair, local: true },
     Kind { number: 13, words: "ls repair", form: Form::Node, local: true },
     Kind { number: 14, words: "resign node", form: Form::At, local: false },
     Kind { number: 15, words: "recover", form: Form::Node, local: false },

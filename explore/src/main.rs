@@ -3,7 +3,7 @@
 
 mod report;
 
-use explore::action::{GRANT_EXPIRED, TAKE};
+use explore::action::{kind, DECLARE_DEAD, GRANT_EXPIRED, PROBE_TIME_OUT, TAKE};
 use explore::engine::{nearest, room, Driver, Engine};
 use explore::file::{self, Frame, Node, STATUSES};
 use explore::moves::Mover;
@@ -181,8 +181,10 @@ fn statuses(nodes: &[Node]) -> String {
 
 /// Ends where what --core leaves out would be looked at.
 fn core_is_enough(search: &Search, plan: &Plan) -> Result<(), Trouble> {
-    if plan.actions.iter().any(|action| action[0] == GRANT_EXPIRED) {
-        return Err(failed("--core leaves grants out, and GrantExpired looks at them".to_string()));
+    let looks = [GRANT_EXPIRED, PROBE_TIME_OUT, DECLARE_DEAD];
+    if let Some(action) = plan.actions.iter().find(|action| looks.contains(&action[0])) {
+        let words = kind(action[0]).words;
+        return Err(failed(format!("--core leaves grants out, and `{words}` looks at them")));
     }
     match search.records.far() {
         Some(id) => Err(failed(format!(

@@ -218,6 +218,13 @@ fn model_action([number, x, y]: [u64; 3]) -> model::Action {
         3 => model::Action::RequestLease { node },
         4 => model::Action::LeaseExpired { node, partner: other },
         5 => model::Action::GrantExpired { node, partner: other },
+        9 => model::Action::NodeLeft { node },
+        10 => model::Action::SuspectFaulty { node, partner: other },
+        11 => model::Action::ProbeTimeOut { node, partner: other },
+        12 => model::Action::DeclareDead { node, partner: other },
+        13 => model::Action::LsRepair { node },
+        14 => model::Action::ResignNode { node, seed: other },
+        15 => model::Action::Recover { node },
         _ => unreachable!("a plan has no other action"),
     }
 }
