@@ -147,6 +147,11 @@ pub record ProbeReplyTaken : Type 0 where
   pub done : made (told 10 10) ≡ (node 10 Wait 2 16 48 8 3 16 4, probe (sides 2 16) 8 4 ∷ probe (sides 2 16) 8 5 ∷ [])
   -- what is still probed stays
   pub stays : made (told 38 10) ≡ (node 10 Wait 2 16 52 8 3 16 4, probe (sides 2 16) 8 4 ∷ [])
+  -- as of the probe: F is left out before adding, and a sender that was failed is not
+  pub before-adding : made (planTakeProbeReply (six 1) sixIds 0 (node 10 Ok 8 16 8 2 1 0 0) (lsProbeReply 3 (sides 2 4) 0))
+      ≡ (node 10 Ok 8 16 4 2 9 0 0, probe (sides 8 16) 2 2 ∷ [])
+  pub not-the-old-failed : made (planTakeProbeReply (six 1) sixIds 0 (node 10 Ok 16 0 16 16 1 0 0) (lsProbeReply 4 (sides 2 4) 0))
+      ≡ (node 10 Ok 16 0 2 0 17 0 0, probe (sides 16 0) 0 1 ∷ [])
   -- 200 makes the leaf set complete, and 120 is of the old failed: probing is empty, and the node is ok; failed stays
   pub becomes-ok : made (toldBy 2 0 40 5 Wait) ≡ (node 10 Ok 2 32 0 8 33 0 0, [])
   pub still-probing : made (toldBy 2 0 44 5 Wait) ≡ (node 10 Wait 2 32 4 8 33 0 0, [])
@@ -167,6 +172,8 @@ probe-reply-taken =
       four-first = refl;
       done = refl;
       stays = refl;
+      before-adding = refl;
+      not-the-old-failed = refl;
       becomes-ok = refl;
       still-probing = refl;
       stays-ready = refl;
