@@ -26,7 +26,7 @@ use Rattle.rules.specs.Plans.{isWait, withStatus}
 use Rattle.rules.specs.Pool.{waiting, messageAt}
 use Rattle.rules.specs.Take.{planTake}
 use Rattle.table_type.specs.declared.Table.{Table}
-use Rattle.table.specs.Settled.{deadSet}
+use Rattle.table.specs.Settled.{deadSet, someUp}
 use Rattle.table.specs.Step.{asked, plannedOf}
 use Rattle.table_type.specs.Table.{nodeAt, ringOf}
 use Rattle.table.proofs.Nodes.{node-rules}
@@ -36,13 +36,14 @@ use Rattle.table.proofs.By.{slot-in-range}
 use Rattle.table.proofs.Comes.{Comes, says-no, goes, go-comes, by-take}
 use Rattle.join_laws.specs.Clauses.{View, viewOf, Calm, Fair, Clauses}
 use Rattle.join_laws.proofs.Good.{Fitting, Good, sends-one}
-use Rattle.join_laws.specs.Claims.{NoneWaits, nobodyLeaves}
+use Rattle.join_laws.specs.Claims.{NoneWaits, keepsTurns}
 use Rattle.join_laws.proofs.Lasting.{ready-up, lookup-good, request-lease-good, lease-expired-good, grant-expired-good}
 use Rattle.join_laws.proofs.Lasting.{deliver-good, forward-lookup-good, take-lease-request-good}
 use Rattle.join_laws.proofs.Request.{take-join-request-good}
 use Rattle.join_laws.proofs.Reply.{take-join-reply-good}
 use Rattle.join_laws.proofs.Probe.{take-probe-good, take-probe-reply-good}
 use Rattle.join_laws.proofs.Broadcast.{take-broadcast-good}
+use Rattle.join_laws.proofs.Departs.{suspect-faulty-good, repair-good, recover-good}
 use Rattle.join_laws.proofs.Moves.{join-passes, join-calm}
 use Rattle.join_laws.proofs.Written.{putAt, put-written, up-alive, passes-fair}
 use Rattle.join_laws.proofs.Told.{told-join}
@@ -98,7 +99,7 @@ pub fitting : {t : Table} {p : Pool} → Sound t p → Fitting (viewOf t)
 fitting {t} s = record { listed = s .listed; one = s .numbers .l-low; rules = λ i h. node-rules (ringOf t) i (nodeAt t i) (s .node i h) }
 
 module _ {t : Table} {p : Pool} (s : Sound t p) (c : Clauses t p) where
-  pub planned-good : (a : Action) → asked t p a .range ≡ true → nobodyLeaves a ≡ true → ((i seed : ℕ) → a ≡ Join i seed → NoneWaits t)
+  pub planned-good : (a : Action) → asked t p a .range ≡ true → keepsTurns a ≡ true → ((i seed : ℕ) → a ≡ Join i seed → NoneWaits t)
       → (x : Plan)
       → plannedOf (asked t p a) ≡ Go x → Good (viewOf t) (asked t p a .slot) x
   planned-good (Lookup i k) e stay none =
@@ -120,9 +121,9 @@ module _ {t : Table} {p : Pool} (s : Sound t p) (c : Clauses t p) where
       let m = messageAt p place in
       forward-lookup-good (viewOf t) (m .dest) (c .nodes) (slot-in-range s (Forward place) e) (m .kind) (deadSet t) (m .word)
   planned-good (NodeLeft i) e stay none = absurd (clash (sym stay))
-  planned-good (SuspectFaulty i j) e stay none = absurd (clash (sym stay))
+  planned-good (SuspectFaulty i j) e stay none = suspect-faulty-good (viewOf t) i (c .nodes) (fitting s) (slot-in-range s (SuspectFaulty i j) e) j
   planned-good (ProbeTimeOut i j) e stay none = absurd (clash (sym stay))
   planned-good (DeclareDead i j) e stay none = absurd (clash (sym stay))
-  planned-good (LSRepair i) e stay none = absurd (clash (sym stay))
+  planned-good (LSRepair i) e stay none = repair-good (viewOf t) i (c .nodes) (fitting s) (slot-in-range s (LSRepair i) e)
   planned-good (ResignNode i n) e stay none = absurd (clash (sym stay))
-  planned-good (Recover i) e stay none = absurd (clash (sym stay))
+  planned-good (Recover i) e stay none = recover-good (viewOf t) i (c .nodes) (fitting s) (slot-in-range s (Recover i) e) (someUp t)

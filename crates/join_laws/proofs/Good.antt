@@ -4,13 +4,16 @@ use mathlib.Core.Path.{_≡_, refl, sym, subst}
 use mathlib.Core.Logic.{_⊎_, inl}
 use mathlib.Core.List.{List}
 use Prim.Native.Nat.{ℕ, _<_, _≤_}
+use native.Mathlib.Omega.{arith}
 use Rattle.marks.proofs.Bools.{opposed}
 use Rattle.rules.specs.declared.Ring.{Ring}
+use Rattle.rules.specs.declared.Sides.{Sides}
 use Rattle.rules.specs.declared.Status.{Status}
 use Rattle.rules.specs.declared.Node.{Node}
 use Rattle.rules.specs.declared.Message.{Message}
 use Rattle.rules.specs.declared.Plan.{Plan}
 use Rattle.rules.specs.InnerAsks.{Listed}
+use Rattle.rules.specs.Letters.{lsProbe}
 use Rattle.rules.specs.Nodes.{placed}
 use Rattle.rules.specs.declared.Via.{Via}
 use Rattle.rules.specs.Plans.{isDead, isWait, isUp, withLeases, quietPlan, sendBy}
@@ -47,6 +50,17 @@ fair-free m two three four five eight =
       probe = λ e. absurd (four e);
       answer = λ e. absurd (five e);
       broadcast = λ e. absurd (eight e);
+    }
+
+-- an LSProbe from a node that is not dead
+pub probe-fair : {t : View} {i : ℕ} (s : Sides) (failed : ℕ) → Alive t i → (h : ℕ) → Fair t (placed (lsProbe i s failed) h)
+probe-fair s failed a h =
+    record {
+      request = λ e. absurd (omega arith);
+      reply = λ e. absurd (omega arith);
+      probe = λ e. a;
+      answer = λ e. absurd (omega arith);
+      broadcast = λ e. absurd (omega arith);
     }
 
 -- a plan that sends nothing, and one that sends one message

@@ -9,6 +9,7 @@ pub mod Request
 pub mod Reply
 pub mod Probe
 pub mod Broadcast
+pub mod Departs
 pub mod Acts
 pub mod Steps
 pub mod Begun

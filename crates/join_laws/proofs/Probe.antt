@@ -30,7 +30,7 @@ use Rattle.rules.specs.Take.{stillProbing, statusAfterReply, replyPlanOf, planT
 use Rattle.table.proofs.Nodes.{both}
 use Rattle.table.proofs.Plans.{none-to, one-to}
 use Rattle.join_laws.specs.Clauses.{View, Up, Waits, Alive, Filled, Guards, GuardsAt, Beside, Calm, Fair}
-use Rattle.join_laws.proofs.Good.{Fitting, Good, quiet-put, put-calm, put-stays}
+use Rattle.join_laws.proofs.Good.{Fitting, Good, probe-fair, quiet-put, put-calm, put-stays}
 use Rattle.join_laws.proofs.Guarding.{guards-filled, guards-one, guards-that, one-left, one-right}
 use Rattle.join_laws.proofs.Moves.{Quiet, Here, ok-passes, ok-calm}
 use Rattle.join_laws.proofs.Written.{put, putAt, Written, put-written, Passes, passes-fair}
@@ -109,17 +109,6 @@ module _ (t : View) (i : ℕ) (c : Calm t) (f : Fitting t) (here : Alive t i) (f
         joiner = λ w full e u. ⊎-elim (more e u) inr (c .joiner i e w (waits-filled w) u);
       }
 
-  -- an LSProbe from i
-  probe-fair : {u : View} → Alive u i → (s : ℕ) → Fair u (placed (lsProbe i heard trusted) s)
-  probe-fair a s =
-      record {
-        request = λ e. absurd (omega arith);
-        reply = λ e. absurd (omega arith);
-        probe = λ e. a;
-        answer = λ e. absurd (omega arith);
-        broadcast = λ e. absurd (omega arith);
-      }
-
   -- ---- 4 LSProbe
 
   still-asked : (e : ℕ) → Up t e → has (t .at i .probing) e ≡ true
@@ -153,7 +142,7 @@ module _ (t : View) (i : ℕ) (c : Calm t) (f : Fitting t) (here : Alive t i) (f
         stays = put-stays t i told told-quiet;
         sends = record {
           one = λ s. one-to (Fair (put t i told)) (lsProbeReply i heard trusted) j s reply-fair;
-          rest = λ s l e. probe-fair (quiet-put t i told told-quiet .alive i here) s;
+          rest = λ s l e. probe-fair heard trusted (quiet-put t i told told-quiet .alive i here) s;
         };
         stands = inr (i, here);
       }
@@ -201,7 +190,7 @@ module _ (t : View) (i : ℕ) (c : Calm t) (f : Fitting t) (here : Alive t i) (f
           stays = put-stays t i answered answered-quiet;
           sends = record {
             one = λ s. none-to (Fair (put t i answered)) blank s;
-            rest = λ s l e. probe-fair (answered-passes .alive i here) s;
+            rest = λ s l e. probe-fair heard trusted (answered-passes .alive i here) s;
           };
           stands = inr (i, here);
         }
@@ -243,7 +232,7 @@ module _ (t : View) (i : ℕ) (c : Calm t) (f : Fitting t) (here : Alive t i) (f
             stays = λ q fair. passes-fair then-passes q (put-stays t i answered answered-quiet q fair);
             sends = record {
               one = λ s. none-to (Fair (put t i (learnt left status.Ok))) blank s;
-              rest = λ s l e. probe-fair (then-passes .alive i (answered-passes .alive i here)) s;
+              rest = λ s l e. probe-fair heard trusted (then-passes .alive i (answered-passes .alive i here)) s;
             };
             stands = inr (i, here);
           }

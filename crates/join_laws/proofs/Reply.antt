@@ -25,7 +25,7 @@ use Rattle.rules.proofs.Leaf.{has-content, left-from, right-from}
 use Rattle.table.proofs.Plans.{none-to}
 use Rattle.join_laws.proofs.Beyond.{beyond-up, beyond-down}
 use Rattle.join_laws.specs.Clauses.{View, Up, Alive, Joining, Blank, Guards, GuardsAt, Beside, Calm, Introduces, Fair}
-use Rattle.join_laws.proofs.Good.{Fitting, Good, quiet-put, put-calm, put-stays}
+use Rattle.join_laws.proofs.Good.{Fitting, Good, probe-fair, quiet-put, put-calm, put-stays}
 use Rattle.join_laws.proofs.Guarding.{near-up, near-down, guards-add, guards-past}
 use Rattle.join_laws.proofs.Moves.{Quiet, Here}
 use Rattle.join_laws.proofs.Written.{put, up-alive, up-no-wait, empty-none}
@@ -120,14 +120,7 @@ module _ (t : View) (i : ℕ) (m : Message) (c : Calm t) (f : Fitting t) (new : 
         stays = put-stays t i node quiet;
         sends = record {
           one = λ s. none-to (Fair (put t i node)) blank s;
-          rest = λ s l e.
-              record {
-                request = λ q. absurd (omega arith);
-                reply = λ q. absurd (omega arith);
-                probe = λ q. quiet-put t i node quiet .alive i a;
-                answer = λ q. absurd (omega arith);
-                broadcast = λ q. absurd (omega arith);
-              };
+          rest = λ s l e. probe-fair sides 0 (quiet-put t i node quiet .alive i a) s;
         };
         stands = inr (i, a);
       }

@@ -20,7 +20,7 @@ use Rattle.table.specs.Step.{stepOf}
 use Rattle.table_type.specs.Table.{nodeAt}
 use Rattle.table.proofs.Nodes.{both}
 use Rattle.join_laws.specs.Safe.{nobodyWaits}
-use Rattle.join_laws.specs.Claims.{NoneWaits, nobodyLeaves, InTurn, Patient, Throughout}
+use Rattle.join_laws.specs.Claims.{NoneWaits, keepsTurns, InTurn, Patient, Throughout}
 
 -- the action is a Join
 abbrev pub isJoin : Action → Bool
@@ -44,9 +44,9 @@ abbrev pub isDone : Answer → Bool
 isDone Done = true
 isDone (Refused why) = false
 
--- an action that is so answered: no departure or repair is done, and no Join while some node is wait
+-- an action that is so answered: it keeps turns where it is done, and is no Join while some node is wait
 abbrev isInTurn : Table → Action → Answer → Bool
-isInTurn t a r = (not (isDone r) || nobodyLeaves a) && (not (isJoin a && isDone r) || nobodyWaits t)
+isInTurn t a r = (not (isDone r) || keepsTurns a) && (not (isJoin a && isDone r) || nobodyWaits t)
 
 -- a list of actions, run: whether every action is done, whether every action is in turn, and what is left
 pub record Ran : Type 0 where
@@ -77,7 +77,7 @@ none-of t none = all-of (t .n) (λ s. not (isWait (nodeAt t s .status))) (λ s h
 
 turn-told : (t : Table) (p : Pool) (a : Action) → isInTurn t a (stepOf t p 256 a .answer) ≡ true → InTurn t p a
 turn-told t p a e =
-    let b = both (not (isDone (stepOf t p 256 a .answer)) || nobodyLeaves a) _ e in
+    let b = both (not (isDone (stepOf t p 256 a .answer)) || keepsTurns a) _ e in
     (λ done. rw done at (b .0), λ i seed join done. none-told t (rw (done, join) at (b .1)))
 
 pub turns-told : (acts : List Action) (s : Stepped) → ran acts s .turns ≡ true → Patient (s .table) (s .pool) acts
@@ -111,7 +111,7 @@ turn-of : (t : Table) (p : Pool) (a : Action) → InTurn t p a → isInTurn t a 
 turn-of t p a turn =
     and-both (stays (stepOf t p 256 a .answer) refl) (go (isJoin a && isDone (stepOf t p 256 a .answer)) refl)
   where
-    stays : (r : Answer) → stepOf t p 256 a .answer ≡ r → (not (isDone r) || nobodyLeaves a) ≡ true
+    stays : (r : Answer) → stepOf t p 256 a .answer ≡ r → (not (isDone r) || keepsTurns a) ≡ true
     stays Done e = turn .0 e
     stays (Refused why) e = refl
 

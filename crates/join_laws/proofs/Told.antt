@@ -8,7 +8,7 @@ use Prim.Native.Nat.{ℕ}
 use lib.Dec.{eqb}
 use borrow.Author.Tests.{not-false, eqb-false}
 use Rattle.marks.proofs.Bools.{or-fails-left}
-use Rattle.marks.specs.Marks.{has, removeOf, union}
+use Rattle.marks.specs.Marks.{has, removeOf, union, single}
 use Rattle.rules.specs.declared.Ring.{Ring}
 use Rattle.rules.specs.declared.Status.the-variants as status
 use Rattle.rules.specs.declared.Node.{Node}
@@ -20,10 +20,11 @@ use Rattle.rules.specs.declared.Planned.the-variants.{No, Go}
 use Rattle.rules.specs.Actions.{isNeighbour, leasePlan, planLookup, planJoin, planRequestLease, planLeaseExpired, planGrantExpired}
 use Rattle.rules.specs.Hop.{nextHop}
 use Rattle.rules.specs.Leaf.{contentOf, leafWith, isComplete, isEmpty, coversOf}
+use Rattle.rules.specs.Leave.{probingPlan, endsToProbe, lastEnd, lacksSide, lacksBoth, planSuspectFaulty, planLSRepair, planRecover}
 use Rattle.rules.specs.Letters.{lookup, joinRequest, joinReply}
 use Rattle.rules.specs.Nodes.{sidesOf, carriedOf}
 use Rattle.rules.specs.Pick.{idAt}
-use Rattle.rules.specs.Plans.{isDead, isReady, isOk, isUp, withStatus, withLeases, quietPlan, sendPlan}
+use Rattle.rules.specs.Plans.{isDead, isWait, isReady, isOk, isUp, withStatus, withLeases, quietPlan, sendPlan}
 use Rattle.rules.specs.Take.{forwardPlan, joinReplyPlan, waitsEmpty, probePlanOf, replyPlanOf, grantPlan, broadcastPlan}
 use Rattle.rules.specs.Take.{planDeliver, planForward, planTakeJoinRequest, planTakeJoinReply, planTakeProbe, planTakeProbeReply}
 use Rattle.rules.specs.Take.{planTakeLeaseRequest, planTakeBroadcast}
@@ -78,6 +79,31 @@ unfolding planGrantExpired
 told-grant-expired i v j u x e =
     let a = passed (not (isUp (v .status))) _ _ e in
     (not-false _ (a .0), go-same (passed (eqb i j || (not (has (v .grant) j) || has (u .lease) i)) _ _ (a .1) .1))
+
+-- ---- departures and repairs
+
+pub told-suspect-faulty : (i : ℕ) (v : Node) (j : ℕ) (x : Plan) → planSuspectFaulty i v j ≡ Go x
+    → (isUp (v .status) ≡ true) × (x ≡ probingPlan i v (single j))
+unfolding planSuspectFaulty
+told-suspect-faulty i v j x e =
+    let a = passed (not (isUp (v .status))) _ _ e in
+    (not-false _ (a .0), go-same (passed (eqb i j || (not (has (contentOf (sidesOf v) i) j) || (has (v .probing) j || has (v .failed) j))) _ _ (a .1) .1))
+
+pub told-repair : (g : Ring) (ids : List ℕ) (i : ℕ) (v : Node) (x : Plan) → planLSRepair g ids i v ≡ Go x
+    → (isWait (v .status) ≡ true) × (x ≡ probingPlan i v (endsToProbe g ids i (sidesOf v)))
+unfolding planLSRepair
+told-repair g ids i v x e =
+    let a = passed (not (isWait (v .status))) _ _ e in
+    let b = passed (lacksSide (sidesOf v) || isComplete g (sidesOf v)) _ _ (a .1) in
+    (not-false _ (a .0), go-same (passed (not (eqb (v .probing) 0)) _ _ (b .1) .1))
+
+pub told-recover : (someUp : Bool) (g : Ring) (ids : List ℕ) (i : ℕ) (v : Node) (x : Plan) → planRecover someUp g ids i v ≡ Go x
+    → (isWait (v .status) ≡ true) × (x ≡ probingPlan i v (single (lastEnd g ids i (sidesOf v))))
+unfolding planRecover
+told-recover someUp g ids i v x e =
+    let a = passed (not (isWait (v .status)) || someUp) _ _ e in
+    let b = passed (not (lacksSide (sidesOf v)) || lacksBoth (sidesOf v)) _ _ (a .1) in
+    (not-false _ (or-fails-left (not (isWait (v .status))) someUp (a .0)), go-same (passed (not (eqb (v .probing) 0)) _ _ (b .1) .1))
 
 -- ---- Deliver and Forward, and Take by kind
 

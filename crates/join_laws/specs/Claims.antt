@@ -1,6 +1,6 @@
 -- Join in turn, and there is one holder. From every start, and from every valid table that satisfies the clauses, through every list of
--- actions of the real step: if no departure or repair is done, and no Join while some node is wait, then after every action no two ready nodes cover one
--- key. Only statements: the proofs are named in Proved. Assumes nothing.
+-- actions of the real step: if no NodeLeft, ProbeTimeOut, DeclareDead or ResignNode is done, and no Join while some node is wait, then after every
+-- action no two ready nodes cover one key. Only statements: the proofs are named in Proved. Assumes nothing.
 use mathlib.Core.Path.{_≡_}
 use mathlib.Core.Bool.{Bool, true, false}
 use mathlib.Core.List.{List, [], _∷_}
@@ -28,31 +28,31 @@ use Rattle.join_laws.specs.Safe.{nobodyWaits, safeToJoin}
 abbrev pub NoneWaits : Table → Type 0
 NoneWaits t = (i : ℕ) → i < t .n → isWait (nodeAt t i .status) ≡ false
 
--- the action is none of the departures and repairs of T-03, of which nothing is said here
-abbrev pub nobodyLeaves : Action → Bool
-nobodyLeaves (Lookup i k) = true
-nobodyLeaves (Join i seed) = true
-nobodyLeaves (RequestLease i) = true
-nobodyLeaves (LeaseExpired i j) = true
-nobodyLeaves (GrantExpired i j) = true
-nobodyLeaves (Take place) = true
-nobodyLeaves (Deliver place) = true
-nobodyLeaves (Forward place) = true
-nobodyLeaves (NodeLeft i) = false
-nobodyLeaves (SuspectFaulty i j) = false
-nobodyLeaves (ProbeTimeOut i j) = false
-nobodyLeaves (DeclareDead i j) = false
-nobodyLeaves (LSRepair i) = false
-nobodyLeaves (ResignNode i n) = false
-nobodyLeaves (Recover i) = false
+-- the action is none of NodeLeft, ProbeTimeOut, DeclareDead and ResignNode, of which nothing is said here
+abbrev pub keepsTurns : Action → Bool
+keepsTurns (Lookup i k) = true
+keepsTurns (Join i seed) = true
+keepsTurns (RequestLease i) = true
+keepsTurns (LeaseExpired i j) = true
+keepsTurns (GrantExpired i j) = true
+keepsTurns (Take place) = true
+keepsTurns (Deliver place) = true
+keepsTurns (Forward place) = true
+keepsTurns (NodeLeft i) = false
+keepsTurns (SuspectFaulty i j) = true
+keepsTurns (ProbeTimeOut i j) = false
+keepsTurns (DeclareDead i j) = false
+keepsTurns (LSRepair i) = true
+keepsTurns (ResignNode i n) = false
+keepsTurns (Recover i) = true
 
--- if the action is done, it is no departure or repair; and if it is a Join, no node was wait. One that is refused changes nothing
+-- if the action is done, it is one that keeps turns; and if it is a Join, no node was wait. One that is refused changes nothing
 abbrev pub InTurn : Table → Pool → Action → Type 0
 InTurn t p a =
-    (stepOf t p 256 a .answer ≡ Done → nobodyLeaves a ≡ true)
+    (stepOf t p 256 a .answer ≡ Done → keepsTurns a ≡ true)
     × ((i seed : ℕ) → a ≡ Join i seed → stepOf t p 256 a .answer ≡ Done → NoneWaits t)
 
--- no departure or repair of the list is done, and no Join of it while some node is wait
+-- every action of the list that is done keeps turns, and no Join of it while some node is wait
 abbrev pub Patient : Table → Pool → List Action → Type 0
 Patient t p [] = Unit {0}
 Patient t p (a ∷ acts) = InTurn t p a × Patient (stepOf t p 256 a .table) (stepOf t p 256 a .pool) acts
