@@ -1,7 +1,9 @@
 -- What does not hold where nodes leave, computed by the checker from the definition of the step. Only one joins, from a start; the probe of a living node times
--- out; and two ready nodes cover one key: so join in turn needs that no departure or repair is done. Then dead ends: a node that waits and that no repair takes,
--- in an estate of three, with L = 2 and with L = 1. And a JoinReply that outlives the node that asked for it, and is taken after its next Join. Assumes nothing.
+-- out; and two ready nodes cover one key: so join in turn needs that no probe times out. A node leaves, and the others know a dead one: so what every step keeps
+-- needs that no node leaves. Then dead ends: a node that waits and that no repair takes, in an estate of three, with L = 2 and with L = 1. And a JoinReply that
+-- outlives the node that asked for it, and is taken after its next Join. Assumes nothing.
 use mathlib.Core.Path.{_≡_, refl, ap}
+use mathlib.Core.Logic.{inl}
 use mathlib.Core.Bool.{Bool, true, false, _&&_, _||_, not}
 use mathlib.Core.List.{List, [], _∷_}
 use Prim.Native.Nat.{ℕ, _^_, _<_}
@@ -27,7 +29,7 @@ use Rattle.rules.specs.Hop.{leafCandidates, routeCandidates, byLeaf, leafHop, r
 use Rattle.rules.specs.Mail.{alike, allDifferent, firstFrom, firstEqual, added, removedAt, sentTo}
 use Rattle.rules.specs.Fits.{numbersFit, idFits, sideFits, leafFits, othersFit, nodeFits, isBlank, slotFits}
 use Rattle.rules.specs.Fits.{wordFits, flagFits, carriedFits, ownerFits, routingFits, failedFits, fieldsFit, messageFits}
-use Rattle.rules.specs.Plans.{mailed}
+use Rattle.rules.specs.Plans.{isDead, mailed}
 use Rattle.rules.specs.Actions.{waits, joinWaits, planJoin, leasePlan, planRequestLease, isNeighbour, planGrantExpired}
 use Rattle.rules.specs.Take.{planTakeJoinRequest, planTakeJoinReply, probes2, probesOf, probePlanOf, planTakeProbe}
 use Rattle.rules.specs.Take.{statusAfterReply, replyPlanOf, planTakeProbeReply, planTakeLeaseRequest, broadcastPlan, planTakeBroadcast, planTake}
@@ -45,6 +47,7 @@ use Rattle.table.proofs.Nodes.{both}
 use Rattle.lookup_laws.specs.Claims.{Ready}
 use Rattle.lookup_laws.specs.Fates.{coversAt}
 use Rattle.join_laws.specs.Claims.{NoneWaits, Throughout, Held}
+use Rattle.join_laws.specs.Clauses.{Clauses}
 use Rattle.join_laws.specs.Safe.{nobodyWaits}
 use Rattle.join_laws.proofs.Tests.{isJoin, Ran, ran, none-told, at-last}
 
@@ -116,6 +119,25 @@ numbers s (a ∷ acts) = answerNumber (stepOf (s .table) (s .pool) 256 a .answer
 abbrev stuck : Ran → List Action → Bool × ℕ × Status × List ℕ
 stuck r acts = (r .done, r .left .pool .count, nodeAt (r .left .table) 1 .status, numbers (r .left) acts)
 
+-- ---- a node that is known leaves
+
+-- 31 leaves
+abbrev left : Ran
+left = ran (NodeLeft 2 ∷ []) (three 2)
+
+-- 17 is not dead and has 31 in its left side, and 31 is dead
+abbrev knowsDead : Table → Bool
+knowsDead t = (ltb 2 (t .n) && not (isDead (nodeAt t 1 .status))) && (has (nodeAt t 1 .left) 2 && isDead (nodeAt t 2 .status))
+
+-- so clause 3 does not hold
+dead-told : (t : Table) (p : Pool) → knowsDead t ≡ true → Clauses t p → ⊥
+dead-told t p e c =
+    let a = both (ltb 2 (t .n) && not (isDead (nodeAt t 1 .status))) _ e in
+    let b = both (ltb 2 (t .n)) (not (isDead (nodeAt t 1 .status))) (a .0) in
+    let d = both (has (nodeAt t 1 .left) 2) (isDead (nodeAt t 2 .status)) (a .1) in
+    let low : 2 < t .n = ltb-true 2 (t .n) (b .0) in
+    opposed (d .1) (c .nodes .known 1 2 (omega arith, not-true _ (b .1)) (low, inl (d .0)) .0 .1)
+
 -- ---- a stale JoinReply
 
 -- 5 is ready; 17 joins, leaves when it is answered, and joins again
@@ -130,6 +152,7 @@ taken r = (r .done, messageAt (r .left .pool) 0 .kind, nodeAt (r .left .table) 1
 
 pub record Leaving : Type 0 where
   pub two-cover : shows (ran oneJoins begun) ≡ true
+  pub known-dead : (left .done && knowsDead (left .left .table)) ≡ true
   -- L = 2: both sides of 17 are {5}, so its leaf set is complete; nothing waits
   pub few-nodes : stuck (ran leaves (three 2)) (LSRepair 1 ∷ ResignNode 1 0 ∷ Recover 1 ∷ []) ≡ (true, 0, Wait, 4 ∷ 4 ∷ 2 ∷ [])
   -- L = 1: the right side of 17 is empty, so it can resign; 5, the one ready node, still has it in its leaf set and refuses its request
@@ -148,7 +171,7 @@ unfolding fallOf signedOf absDistOf risesTo nearer leftCoverOf rightCoverOf cove
     planSuspectFaulty planProbeTimeOut planDeclareDead planLSRepair planResignNode planRecover slotIds slotsTo startNode startNodes
     startFits idsRise listFits startOf nodesFit messagesFit poolFits validOf carriedOut settle readySet okSet deadSet isSound stepOf
     nobodyWaits
-leaving = record { two-cover = refl; few-nodes = refl; one-a-side = refl; stale-reply = refl }
+leaving = record { two-cover = refl; known-dead = refl; few-nodes = refl; one-a-side = refl; stale-reply = refl }
 
 pub started : startOf 5 2 (5 ∷ 17 ∷ 18 ∷ []) 3 .answer ≡ Done
 unfolding startOf startFits listFits idsRise listed allTo has slotIds
@@ -174,6 +197,10 @@ nobody-patient (a ∷ acts) t p e =
       λ i seed join done. absurd (opposed (ap isJoin join) (not-true _ (b .0))),
       nobody-patient acts (stepOf t p 256 a .table) (stepOf t p 256 a .pool) (b .1),
     )
+
+-- where a node leaves the clauses are not kept
+pub left-broken : Clauses (left .left .table) (left .left .pool) → ⊥
+left-broken = dead-told (left .left .table) (left .left .pool) (both (left .done) (knowsDead (left .left .table)) (leaving .known-dead) .1)
 
 -- without the hypothesis on departures and repairs the promise is not kept
 abbrev pub AnyLeaves : Type 0

@@ -20,6 +20,7 @@ use Rattle.rules.specs.declared.Action.the-variants.{Lookup, Join, RequestLease
 use Rattle.rules.specs.declared.Action.the-variants.{NodeLeft, SuspectFaulty, ProbeTimeOut, DeclareDead, LSRepair, ResignNode, Recover}
 use Rattle.rules.specs.Actions.{waits, joinWaits, planJoin}
 use Rattle.rules.specs.Fits.{hasLeaf}
+use Rattle.rules.specs.Leave.{replyWaits}
 use Rattle.rules.specs.Letters.{lookup, joinRequest}
 use Rattle.rules.specs.Nodes.{placed}
 use Rattle.rules.specs.Plans.{isWait, withStatus}
@@ -43,7 +44,7 @@ use Rattle.join_laws.proofs.Request.{take-join-request-good}
 use Rattle.join_laws.proofs.Reply.{take-join-reply-good}
 use Rattle.join_laws.proofs.Probe.{take-probe-good, take-probe-reply-good}
 use Rattle.join_laws.proofs.Broadcast.{take-broadcast-good}
-use Rattle.join_laws.proofs.Departs.{suspect-faulty-good, repair-good, recover-good}
+use Rattle.join_laws.proofs.Departs.{suspect-faulty-good, declare-dead-good, repair-good, resign-good, recover-good}
 use Rattle.join_laws.proofs.Moves.{join-passes, join-calm}
 use Rattle.join_laws.proofs.Written.{putAt, put-written, up-alive, passes-fair}
 use Rattle.join_laws.proofs.Told.{told-join}
@@ -123,7 +124,9 @@ module _ {t : Table} {p : Pool} (s : Sound t p) (c : Clauses t p) where
   planned-good (NodeLeft i) e stay none = absurd (clash (sym stay))
   planned-good (SuspectFaulty i j) e stay none = suspect-faulty-good (viewOf t) i (c .nodes) (fitting s) (slot-in-range s (SuspectFaulty i j) e) j
   planned-good (ProbeTimeOut i j) e stay none = absurd (clash (sym stay))
-  planned-good (DeclareDead i j) e stay none = absurd (clash (sym stay))
+  planned-good (DeclareDead i j) e stay none = declare-dead-good (viewOf t) i (c .nodes) (fitting s) (slot-in-range s (DeclareDead i j) e) j
   planned-good (LSRepair i) e stay none = repair-good (viewOf t) i (c .nodes) (fitting s) (slot-in-range s (LSRepair i) e)
-  planned-good (ResignNode i n) e stay none = absurd (clash (sym stay))
+  planned-good (ResignNode i n) e stay none =
+      resign-good (viewOf t) i (c .nodes) (fitting s) (slot-in-range s (ResignNode i n) e) (replyWaits (waiting p) i) n
+      (ltb-true n (t .n) (and-left (ltb n (t .n)) _ e))
   planned-good (Recover i) e stay none = recover-good (viewOf t) i (c .nodes) (fitting s) (slot-in-range s (Recover i) e) (someUp t)

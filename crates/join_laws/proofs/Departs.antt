@@ -1,26 +1,37 @@
 -- The departures and repairs that keep the clauses, one law for each. SuspectFaulty, LSRepair and Recover only probe: leaf set, failed and status stay, and
--- probing grows. Assumes nothing.
+-- probing grows. DeclareDead is never done, since nobody is held for failed. ResignNode is done only at a node whose leaf set is empty: by 2 one that is wait and
+-- not empty guards against the ready node that it asks, and lacks no side. Assumes nothing.
 use mathlib.Core.Path.{_≡_, refl, _∙_}
 use mathlib.Core.Logic.{inl, inr, ⊎-elim}
-use mathlib.Core.Bool.{Bool}
+use mathlib.Core.Bool.{Bool, true}
 use Prim.Native.Nat.{ℕ, _<_}
 use native.Mathlib.Omega.{arith}
-use Rattle.marks.proofs.Bools.{opposed, or-left}
-use Rattle.marks.specs.Marks.{has, union}
-use Rattle.marks.proofs.Laws.{has-union}
+use borrow.Author.Tests.{eqb-true}
+use Rattle.marks.proofs.Bools.{opposed, or-left, or-cases, bool-true}
+use Rattle.marks.specs.Marks.{has, union, single}
+use Rattle.marks.proofs.Laws.{has-union, empty-has, size-none}
 use Rattle.rules.specs.declared.Node.{Node}
 use Rattle.rules.specs.declared.Plan.{Plan}
 use Rattle.rules.specs.declared.Planned.the-variants.{Go}
-use Rattle.rules.specs.Leave.{probingPlan, planSuspectFaulty, planLSRepair, planRecover}
-use Rattle.rules.specs.Nodes.{sidesOf}
-use Rattle.rules.specs.Plans.{withProbing}
+use Rattle.rules.specs.Leaf.{isEmpty}
+use Rattle.rules.specs.Leave.{emptied, probingPlan, isBare, lacksSide}
+use Rattle.rules.specs.Leave.{planSuspectFaulty, planDeclareDead, planLSRepair, planResignNode, planRecover}
+use Rattle.rules.specs.Letters.{noSides, joinRequest}
+use Rattle.rules.specs.Nodes.{sidesOf, placed}
+use Rattle.rules.specs.Plans.{withProbing, sendPlan}
 use Rattle.rules.specs.Pool.{blank}
 use Rattle.table.proofs.Plans.{none-to}
-use Rattle.join_laws.specs.Clauses.{View, Alive, Calm, Fair}
-use Rattle.join_laws.proofs.Good.{Fitting, Good, probe-fair, quiet-put, put-calm, put-stays}
+use Rattle.join_laws.specs.Clauses.{View, Up, Waits, Alive, GuardsAt, Calm, Fair}
+use Rattle.join_laws.proofs.Good.{Fitting, Good, sends-one, probe-fair, quiet-put, put-calm, put-stays}
+use Rattle.join_laws.proofs.Guarding.{guards-filled}
+use Rattle.join_laws.proofs.Lasting.{ready-up}
 use Rattle.join_laws.proofs.Moves.{Quiet, Here}
-use Rattle.join_laws.proofs.Written.{put, up-alive, wait-alive}
-use Rattle.join_laws.proofs.Told.{told-suspect-faulty, told-repair, told-recover}
+use Rattle.join_laws.proofs.Written.{put, up-alive, wait-alive, up-no-wait, empty-none}
+use Rattle.join_laws.proofs.Told.{told-suspect-faulty, told-declare-dead, told-repair, told-resign, told-recover}
+
+none-empty : isEmpty noSides ≡ true
+unfolding isEmpty
+none-empty = refl
 
 module _ (t : View) (i : ℕ) (c : Calm t) (f : Fitting t) (h : i < t .ring .n) where
   -- ---- SuspectFaulty, LSRepair and Recover: the nodes of a set are probed
@@ -69,3 +80,76 @@ module _ (t : View) (i : ℕ) (c : Calm t) (f : Fitting t) (h : i < t .ring .n) 
   recover-good someUp x e =
       let (wait, same) = told-recover someUp (t .ring) (t .ids) i (t .at i) x e in
       rw same (probing-good _ (h, wait-alive (t .at i .status) wait))
+
+  -- ---- DeclareDead: failed is empty
+
+  pub declare-dead-good : (j : ℕ) (x : Plan) → planDeclareDead (t .ring) (t .ids) i (t .at i) j ≡ Go x → Good t i x
+  declare-dead-good j x e =
+      absurd (opposed (told-declare-dead (t .ring) (t .ids) i (t .at i) j x e) (empty-has (t .at i .failed) j (c .trusting i h)))
+
+  -- ---- ResignNode: the node was empty before
+
+  module _ (w : Waits t i) (n : ℕ) (u : Up t n) where
+    -- what guards lacks no side
+    no-side-lacks : GuardsAt t i n → lacksSide (sidesOf (t .at i)) ≡ true → ⊥
+    no-side-lacks p e =
+        let (a, ha, ma, na) = p .up in
+        let (b, hb, mb, nb) = p .down in
+        let high = f .listed .n-high in
+        ⊎-elim (λ q. opposed ma (size-none (t .at i .left) a (eqb-true _ 0 q) (omega (arith, ha, high))))
+        (λ q. opposed mb (size-none (t .at i .right) b (eqb-true _ 0 q) (omega (arith, hb, high))))
+        (or-cases (isBare (t .at i .left)) (isBare (t .at i .right)) e)
+
+    apart : n ≡ i → ⊥
+    apart e = opposed (w .1) (up-no-wait (t .at i .status) (rw e at (u .1)))
+
+    was-empty : lacksSide (sidesOf (t .at i)) ≡ true → isEmpty (sidesOf (t .at i)) ≡ true
+    was-empty e = bool-true _ (λ full. no-side-lacks (c .members i n (inr (w, full)) u apart) e)
+
+    abbrev resigned : Node
+    resigned = emptied (t .at i) (t .at i .status) (single i)
+
+    module _ (bare : isEmpty (sidesOf (t .at i)) ≡ true) where
+      resigned-quiet : Quiet (t .ring) (t .ids) i (t .at i) resigned
+      resigned-quiet =
+          record {
+            dead = refl;
+            wait = refl;
+            up = refl;
+            guards = λ y p. absurd (opposed bare (guards-filled p));
+            filled = λ e. absurd (opposed bare e);
+          }
+
+      resigned-here : Here t i resigned
+      resigned-here =
+          record {
+            known = λ y a b. absurd (empty-none (sidesOf resigned) y none-empty (b .1));
+            members = λ b full. absurd (opposed none-empty full);
+            trusting = refl;
+            joiner = λ p full. absurd (opposed none-empty full);
+          }
+
+      asks-again : Fair (put t i resigned) (placed (joinRequest i 0) n)
+      asks-again =
+          record {
+            request = λ e. quiet-put t i resigned resigned-quiet .joining i (inl w);
+            reply = λ e. absurd (omega arith);
+            probe = λ e. absurd (omega arith);
+            answer = λ e. absurd (omega arith);
+            broadcast = λ e. absurd (omega arith);
+          }
+
+      resigned-good : Good t i (sendPlan resigned (joinRequest i 0) n)
+      resigned-good =
+          record {
+            calm = put-calm t i resigned resigned-quiet c resigned-here;
+            stays = put-stays t i resigned resigned-quiet;
+            sends = sends-one resigned (joinRequest i 0) n asks-again;
+            stands = inr (i, (h, wait-alive (t .at i .status) (w .1)));
+          }
+
+  pub resign-good : (waiting : Bool) (n : ℕ) → n < t .ring .n → (x : Plan) → planResignNode waiting i (t .at i) n (t .at n) ≡ Go x → Good t i x
+  resign-good waiting n l x e =
+      let (wait, ready, lacks, same) = told-resign waiting i (t .at i) n (t .at n) x e in
+      let u : Up t n = (l, ready-up (t .at n .status) ready) in
+      rw same (resigned-good (h, wait) n u (was-empty (h, wait) n u lacks))

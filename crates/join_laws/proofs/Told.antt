@@ -20,7 +20,8 @@ use Rattle.rules.specs.declared.Planned.the-variants.{No, Go}
 use Rattle.rules.specs.Actions.{isNeighbour, leasePlan, planLookup, planJoin, planRequestLease, planLeaseExpired, planGrantExpired}
 use Rattle.rules.specs.Hop.{nextHop}
 use Rattle.rules.specs.Leaf.{contentOf, leafWith, isComplete, isEmpty, coversOf}
-use Rattle.rules.specs.Leave.{probingPlan, endsToProbe, lastEnd, lacksSide, lacksBoth, planSuspectFaulty, planLSRepair, planRecover}
+use Rattle.rules.specs.Leave.{emptied, probingPlan, endsToProbe, lastEnd, lacksSide, lacksBoth}
+use Rattle.rules.specs.Leave.{planSuspectFaulty, planDeclareDead, planLSRepair, planResignNode, planRecover}
 use Rattle.rules.specs.Letters.{lookup, joinRequest, joinReply}
 use Rattle.rules.specs.Nodes.{sidesOf, carriedOf}
 use Rattle.rules.specs.Pick.{idAt}
@@ -89,6 +90,16 @@ told-suspect-faulty i v j x e =
     let a = passed (not (isUp (v .status))) _ _ e in
     (not-false _ (a .0), go-same (passed (eqb i j || (not (has (contentOf (sidesOf v) i) j) || (has (v .probing) j || has (v .failed) j))) _ _ (a .1) .1))
 
+-- the plan is not asked for
+pub told-declare-dead : (g : Ring) (ids : List ℕ) (i : ℕ) (v : Node) (j : ℕ) (x : Plan) → planDeclareDead g ids i v j ≡ Go x
+    → has (v .failed) j ≡ true
+unfolding planDeclareDead
+told-declare-dead g ids i v j x e =
+    let a = passed (not (isUp (v .status))) _ _ e in
+    let held = has (v .failed) j && has (contentOf (sidesOf v) i) j in
+    let b = passed (not held || (isNeighbour g ids i v j && has (v .grant) j)) _ _ (a .1) in
+    both (has (v .failed) j) _ (not-false _ (or-fails-left (not held) _ (b .0))) .0
+
 pub told-repair : (g : Ring) (ids : List ℕ) (i : ℕ) (v : Node) (x : Plan) → planLSRepair g ids i v ≡ Go x
     → (isWait (v .status) ≡ true) × (x ≡ probingPlan i v (endsToProbe g ids i (sidesOf v)))
 unfolding planLSRepair
@@ -96,6 +107,18 @@ told-repair g ids i v x e =
     let a = passed (not (isWait (v .status))) _ _ e in
     let b = passed (lacksSide (sidesOf v) || isComplete g (sidesOf v)) _ _ (a .1) in
     (not-false _ (a .0), go-same (passed (not (eqb (v .probing) 0)) _ _ (b .1) .1))
+
+pub told-resign : (waiting : Bool) (i : ℕ) (v : Node) (n : ℕ) (u : Node) (x : Plan) → planResignNode waiting i v n u ≡ Go x
+    → (isWait (v .status) ≡ true) × (isReady (u .status) ≡ true) × (lacksSide (sidesOf v) ≡ true)
+    × (x ≡ sendPlan (emptied v (v .status) (single i)) (joinRequest i 0) n)
+unfolding planResignNode
+told-resign waiting i v n u x e =
+    let a = passed (not (isWait (v .status) && isReady (u .status))) _ _ e in
+    let b = passed waiting _ _ (a .1) in
+    let c = passed (not (lacksSide (sidesOf v))) _ _ (b .1) in
+    let d = passed (not (eqb (v .probing) 0)) _ _ (c .1) in
+    let (wait, ready) = both (isWait (v .status)) (isReady (u .status)) (not-false _ (a .0)) in
+    (wait, ready, not-false _ (c .0), go-same (d .1))
 
 pub told-recover : (someUp : Bool) (g : Ring) (ids : List ℕ) (i : ℕ) (v : Node) (x : Plan) → planRecover someUp g ids i v ≡ Go x
     → (isWait (v .status) ≡ true) × (x ≡ probingPlan i v (single (lastEnd g ids i (sidesOf v))))

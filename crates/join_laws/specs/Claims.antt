@@ -1,6 +1,6 @@
 -- Join in turn, and there is one holder. From every start, and from every valid table that satisfies the clauses, through every list of
--- actions of the real step: if no NodeLeft, ProbeTimeOut, DeclareDead or ResignNode is done, and no Join while some node is wait, then after every
--- action no two ready nodes cover one key. Only statements: the proofs are named in Proved. Assumes nothing.
+-- actions of the real step: if no node leaves, no probe times out, and no Join is done while some node is wait, then after every action no two ready
+-- nodes cover one key. Only statements: the proofs are named in Proved. Assumes nothing.
 use mathlib.Core.Path.{_≡_}
 use mathlib.Core.Bool.{Bool, true, false}
 use mathlib.Core.List.{List, [], _∷_}
@@ -28,7 +28,7 @@ use Rattle.join_laws.specs.Safe.{nobodyWaits, safeToJoin}
 abbrev pub NoneWaits : Table → Type 0
 NoneWaits t = (i : ℕ) → i < t .n → isWait (nodeAt t i .status) ≡ false
 
--- the action is none of NodeLeft, ProbeTimeOut, DeclareDead and ResignNode, of which nothing is said here
+-- the action is neither NodeLeft nor ProbeTimeOut, of which nothing is said here
 abbrev pub keepsTurns : Action → Bool
 keepsTurns (Lookup i k) = true
 keepsTurns (Join i seed) = true
@@ -41,9 +41,9 @@ keepsTurns (Forward place) = true
 keepsTurns (NodeLeft i) = false
 keepsTurns (SuspectFaulty i j) = true
 keepsTurns (ProbeTimeOut i j) = false
-keepsTurns (DeclareDead i j) = false
+keepsTurns (DeclareDead i j) = true
 keepsTurns (LSRepair i) = true
-keepsTurns (ResignNode i n) = false
+keepsTurns (ResignNode i n) = true
 keepsTurns (Recover i) = true
 
 -- if the action is done, it is one that keeps turns; and if it is a Join, no node was wait. One that is refused changes nothing
