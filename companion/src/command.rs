@@ -118,7 +118,7 @@ pub const COMMANDS: &[Command] = &[
         usage: "TABLE",
         says: "whether it is safe to join: nobody is wait, and the clauses hold that joins in turn keep",
         help: "The test of crate join_laws (specs/Safe), as this command reads it. From a table that passes, while nobody joins as another\n\
-               is wait, and nobody leaves, suspects or repairs (T-03's actions), no two ready nodes come to cover one key: that is\n\
+               is wait, nobody leaves and no probe times out (T-03), no two ready nodes come to cover one key: that is\n\
                proved (docs/CLAIMS.md, Join in turn). The status is 1 where the table does not pass, and what keeps it from passing\n\
                is told.",
         options: &[],

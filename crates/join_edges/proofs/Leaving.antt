@@ -1,7 +1,7 @@
 -- What does not hold where nodes leave, computed by the checker from the definition of the step. Only one joins, from a start; the probe of a living node times
 -- out; and two ready nodes cover one key: so join in turn needs that no probe times out. A node leaves, and the others know a dead one: so what every step keeps
--- needs that no node leaves. Then dead ends: a node that waits and that no repair takes, in an estate of three, with L = 2 and with L = 1. And a JoinReply that
--- outlives the node that asked for it, and is taken after its next Join. Assumes nothing.
+-- needs that no node leaves. Others of T-03's actions are done in turn. Then dead ends: a node that waits and that no repair takes, in an estate of three, with
+-- L = 2 and with L = 1. And a JoinReply that outlives the node that asked for it, and is taken after its next Join. Assumes nothing.
 use mathlib.Core.Path.{_≡_, refl, ap}
 use mathlib.Core.Logic.{inl}
 use mathlib.Core.Bool.{Bool, true, false, _&&_, _||_, not}
@@ -140,7 +140,11 @@ dead-told t p e c =
 
 -- ---- a stale JoinReply
 
--- 5 is ready; 17 joins, leaves when it is answered, and joins again
+-- 5 is ready, 17 dead
+abbrev two : Stepped
+two = doneOf (startOf 5 1 (5 ∷ 17 ∷ []) 1 .table) (laid [])
+
+-- 17 joins, leaves when it is answered, and joins again
 abbrev joinsTwice : List Action
 joinsTwice = Join 1 0 ∷ Take 0 ∷ NodeLeft 1 ∷ Join 1 0 ∷ Take 0 ∷ []
 
@@ -148,17 +152,25 @@ joinsTwice = Join 1 0 ∷ Take 0 ∷ NodeLeft 1 ∷ Join 1 0 ∷ Take 0 ∷ []
 abbrev taken : Ran → Bool × ℕ × ℕ
 taken r = (r .done, messageAt (r .left .pool) 0 .kind, nodeAt (r .left .table) 1 .left)
 
+-- ---- done in turn
+
+abbrev allInTurn : Ran → Bool
+allInTurn r = r .done && r .turns
+
 -- ---- computed
 
 pub record Leaving : Type 0 where
   pub two-cover : shows (ran oneJoins begun) ≡ true
   pub known-dead : (left .done && knowsDead (left .left .table)) ≡ true
+  -- 17 suspects 31, and in an estate of two it joins by 5 and resigns: each is done, in turn
+  pub suspects : allInTurn (ran (SuspectFaulty 1 2 ∷ []) (three 2)) ≡ true
+  pub resigns-in-turn : allInTurn (ran (Join 1 0 ∷ ResignNode 1 0 ∷ []) two) ≡ true
   -- L = 2: both sides of 17 are {5}, so its leaf set is complete; nothing waits
   pub few-nodes : stuck (ran leaves (three 2)) (LSRepair 1 ∷ ResignNode 1 0 ∷ Recover 1 ∷ []) ≡ (true, 0, Wait, 4 ∷ 4 ∷ 2 ∷ [])
   -- L = 1: the right side of 17 is empty, so it can resign; 5, the one ready node, still has it in its leaf set and refuses its request
   pub one-a-side : stuck (ran resigns (three 1)) (LSRepair 1 ∷ Recover 1 ∷ Take 0 ∷ []) ≡ (true, 1, Wait, 4 ∷ 2 ∷ 5 ∷ [])
   -- the reply to the first Join is taken after the second, whose request still waits
-  pub stale-reply : taken (ran joinsTwice (doneOf (startOf 5 1 (5 ∷ 17 ∷ []) 1 .table) (laid []))) ≡ (true, 2, 1)
+  pub stale-reply : taken (ran joinsTwice two) ≡ (true, 2, 1)
 
 pub leaving : Leaving
 unfolding fallOf signedOf absDistOf risesTo nearer leftCoverOf rightCoverOf coversKey has gather tally firstTo allTo single union meet
@@ -171,7 +183,7 @@ unfolding fallOf signedOf absDistOf risesTo nearer leftCoverOf rightCoverOf cove
     planSuspectFaulty planProbeTimeOut planDeclareDead planLSRepair planResignNode planRecover slotIds slotsTo startNode startNodes
     startFits idsRise listFits startOf nodesFit messagesFit poolFits validOf carriedOut settle readySet okSet deadSet isSound stepOf
     nobodyWaits
-leaving = record { two-cover = refl; known-dead = refl; few-nodes = refl; one-a-side = refl; stale-reply = refl }
+leaving = record { two-cover = refl; known-dead = refl; suspects = refl; resigns-in-turn = refl; few-nodes = refl; one-a-side = refl; stale-reply = refl }
 
 pub started : startOf 5 2 (5 ∷ 17 ∷ 18 ∷ []) 3 .answer ≡ Done
 unfolding startOf startFits listFits idsRise listed allTo has slotIds
@@ -179,7 +191,7 @@ started = refl
 
 -- ---- what follows
 
--- no Join of the list is done while some node is wait; whoever may leave
+-- no Join of the list is done while some node is wait; whoever leaves, and whichever probe times out
 abbrev pub JoinsPatient : Table → Pool → List Action → Type 0
 JoinsPatient t p [] = Unit {0}
 JoinsPatient t p (a ∷ acts) =
@@ -202,7 +214,7 @@ nobody-patient (a ∷ acts) t p e =
 pub left-broken : Clauses (left .left .table) (left .left .pool) → ⊥
 left-broken = dead-told (left .left .table) (left .left .pool) (both (left .done) (knowsDead (left .left .table)) (leaving .known-dead) .1)
 
--- without the hypothesis on departures and repairs the promise is not kept
+-- without the hypothesis that bars them the promise is not kept
 abbrev pub AnyLeaves : Type 0
 AnyLeaves =
     (m l : ℕ) (ids : List ℕ) (a : ℕ) (acts : List Action) → startOf m l ids a .answer ≡ Done

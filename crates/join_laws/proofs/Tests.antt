@@ -44,7 +44,7 @@ abbrev pub isDone : Answer → Bool
 isDone Done = true
 isDone (Refused why) = false
 
--- an action that is so answered: it keeps turns where it is done, and is no Join while some node is wait
+-- an action that is so answered: no NodeLeft or ProbeTimeOut is done, and no Join while some node is wait
 abbrev isInTurn : Table → Action → Answer → Bool
 isInTurn t a r = (not (isDone r) || keepsTurns a) && (not (isJoin a && isDone r) || nobodyWaits t)
 

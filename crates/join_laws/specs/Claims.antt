@@ -46,13 +46,13 @@ keepsTurns (LSRepair i) = true
 keepsTurns (ResignNode i n) = true
 keepsTurns (Recover i) = true
 
--- if the action is done, it is one that keeps turns; and if it is a Join, no node was wait. One that is refused changes nothing
+-- if the action is done, it is neither NodeLeft nor ProbeTimeOut; and if it is a Join, no node was wait. One that is refused changes nothing
 abbrev pub InTurn : Table → Pool → Action → Type 0
 InTurn t p a =
     (stepOf t p 256 a .answer ≡ Done → keepsTurns a ≡ true)
     × ((i seed : ℕ) → a ≡ Join i seed → stepOf t p 256 a .answer ≡ Done → NoneWaits t)
 
--- every action of the list that is done keeps turns, and no Join of it while some node is wait
+-- no NodeLeft and no ProbeTimeOut of the list is done, and no Join of it while some node is wait
 abbrev pub Patient : Table → Pool → List Action → Type 0
 Patient t p [] = Unit {0}
 Patient t p (a ∷ acts) = InTurn t p a × Patient (stepOf t p 256 a .table) (stepOf t p 256 a .pool) acts
