@@ -108,7 +108,12 @@ fn repaired(s: Stepped, i: usize, d: usize) -> Stepped {
     let free = asked(late, b"grant expired", i, Action::GrantExpired(i, d));
     let without = asked(free, b"declare dead", i, Action::DeclareDead(i, d));
     let probing = quiet(asked(without, b"repair", i, Action::LSRepair(i)));
-    let asking = asked(expired(probing, i), b"request lease", i, Action::RequestLease(i));
+    let asking = asked(
+        expired(probing, i),
+        b"request lease",
+        i,
+        Action::RequestLease(i),
+    );
     quiet(asking)
 }
 
