@@ -90,8 +90,8 @@ pub chain-routings : routings chain (only 0 3) (Forward 0 ∷ Forward 0 ∷ Forw
 unfolding chain opened
 chain-routings = refl
 
--- a refused Deliver falls before them
-pub refused-between : routings chain (only 0 3) (Deliver 0 ∷ Forward 0 ∷ Forward 0 ∷ Forward 0 ∷ []) 0 ≡ chain .n - 1
+-- a refused Deliver falls before a routing
+pub refused-between : routings chain (only 0 3) (Deliver 0 ∷ Forward 0 ∷ []) 0 ≡ 1
 unfolding chain opened
 refused-between = refl
 
@@ -107,7 +107,7 @@ pub time-out-moves : (validOf probing-chain behind ≡ true) × (fateOf probing-
 unfolding chain probing-chain opened
 time-out-moves = (refl, refl)
 
-pub time-out-between : routings probing-chain behind (ProbeTimeOut 0 1 ∷ Forward 0 ∷ Forward 0 ∷ Forward 0 ∷ []) 1 ≡ chain .n - 1
+pub time-out-between : routings probing-chain behind (ProbeTimeOut 0 1 ∷ Forward 0 ∷ []) 1 ≡ 1
 unfolding chain probing-chain opened
 time-out-between = refl
 
