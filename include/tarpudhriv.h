@@ -5,6 +5,9 @@
  * the highest byte are 0 and `out` is untouched; where it is 0, the bytes of `out` past the count are untouched. The
  * reply and what `out` then holds are proved for every input of any length.
  *
+ * A Lookup in a table file carries the hops that it has made so far, in the sixth 32-bit word of its record, at offset 20: 0 where it was issued, one
+ * more at each TARPUDHRIV_FORWARD to another node. Every other message has 0 there.
+ *
  * A call asks for pointers that may be read (`out`: written) for their length, are not null, also where the length is 0, and an `out`
  * that overlaps no other argument. It keeps nothing, allocates nothing and calls nothing outside but the C library's memory functions, so
  * threads may call at once. It needs at most TARPUDHRIV_STACK bytes of stack, 256 KB: measured, and tried at every run of the tests.

@@ -3,6 +3,7 @@
 use crate::driver::Start;
 use crate::form::{Field, Form, RECORD};
 use crate::print;
+use crate::rules::Rules;
 use crate::table::{members, Message, Names, Node, Table};
 
 const HEADER: usize = 32;
@@ -132,7 +133,7 @@ fn of_set(table: &Table, set: u64, owner: Option<u32>, most: Option<u32>, names:
 
 fn of_message(table: &Table, message: &Message, place: usize, names: &Names) -> Option<String> {
     let what = of_fields(table, message, names).or_else(|| {
-        let equal = table.messages[..place].iter().position(|other| other == message)?;
+        let equal = table.messages[..place].iter().position(|other| other.equals(message))?;
         Some(format!("is equal to that at place {equal}"))
     })?;
     Some(format!("the message at place {place}, {}, {what}", print::message(message, names)))
@@ -142,8 +143,17 @@ fn of_fields(table: &Table, message: &Message, names: &Names) -> Option<String> 
     let form = Form::of(message);
     if form.name == RECORD.name {
         let kind = message.kind;
-        let lacks = "has a field that its kind lacks, or a flag that is not 0 or 1".to_string();
-        return Some(if (1..=8).contains(&kind) { lacks } else { format!("has kind {kind}; it is 1 to 8") });
+        let hops = (1..=8).contains(&kind) && Form::of(&Message { hops: 0, ..*message }).name != RECORD.name;
+        let lacks = if hops {
+            "has hops, which Lookups alone have"
+        } else {
+            "has a field that its kind lacks, or a flag that is not 0 or 1"
+        };
+        return Some(if (1..=8).contains(&kind) {
+            lacks.to_string()
+        } else {
+            format!("has kind {kind}; it is 1 to 8")
+        });
     }
     let count = table.nodes.len();
     let slot =
@@ -157,6 +167,17 @@ fn of_fields(table: &Table, message: &Message, names: &Names) -> Option<String> 
         Field::At => slot(message.at),
         Field::From | Field::FromOwner => slot(message.word),
         Field::Owner => slot(message.owner),
+        Field::Hops => {
+            let most = Rules(table).farther(message.at, message.word);
+            (message.hops as usize > most).then(|| {
+                format!(
+                    "has made {} hops; it has {most} at most, as many as nodes are farther from {} than {}",
+                    message.hops,
+                    message.word,
+                    names.of(message.at)
+                )
+            })
+        }
         Field::Set(nth) => {
             let side = Message::SETS[nth] == "left" || Message::SETS[nth] == "right";
             let (owner, most) = (side.then_some(message.owner), side.then_some(table.l));
@@ -214,5 +235,26 @@ mod tests {
         assert_eq!(of(twice), "the message at place 1, Lookup 80 at 17, is equal to that at place 0");
         let far = table(vec![node([0; 7])], vec![Message::lookup(256, 0)]);
         assert_eq!(of(far), "the message at place 0, Lookup 256 at 17, has key 256; keys are below 256");
+    }
+
+    #[test]
+    fn hops_are_told_by_their_rule() {
+        let nodes = || [17, 18, 65, 95].map(blank).to_vec();
+        let table = |messages| Table { m: 8, l: 1, nodes: nodes(), messages };
+        let of = |table: Table| of_table(&table).unwrap_or_default().1;
+        let made = |hops, message: Message| Message { hops, ..message };
+        for (slot, most) in [(0, 0), (1, 1), (2, 3), (3, 2)] {
+            let lookup = Message::lookup(80, slot);
+            assert_eq!(of(table(vec![made(most, lookup)])), "");
+            assert!(of(table(vec![made(most + 1, lookup)])).contains(&format!("; it has {most} at most, as")));
+        }
+        let far = "the message at place 0, Lookup 80 at 95 hops 3, has made 3 hops; it has 2 at most, as many as nodes are farther from 80 than 95";
+        assert_eq!(of(table(vec![made(3, Message::lookup(80, 3))])), far);
+        let twice = table(vec![Message::lookup(80, 2), made(1, Message::lookup(80, 2))]);
+        assert_eq!(of(twice), "the message at place 1, Lookup 80 at 65 hops 1, is equal to that at place 0");
+        let lost = made(1, Message { kind: Message::NO_LEGAL_ROUTE, ..Message::lookup(80, 2) });
+        let said =
+            "the message at place 0, message 6 at 65 word 80 hops 1, has hops, which Lookups alone have";
+        assert_eq!(of(table(vec![lost])), said);
     }
 }

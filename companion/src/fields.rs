@@ -5,7 +5,7 @@ use crate::table::{members, Message, Node};
 
 const HEADER: [&str; 8] =
     ["M", "L", "nodes", "messages", "offset of nodes", "offset of messages", "total", "0"];
-const WORDS: [&str; 6] = ["kind", "destination", "node or key", "flag", "owner", "0"];
+const WORDS: [&str; 6] = ["kind", "destination", "node or key", "flag", "owner", "hops"];
 
 /// The fields of a file whose layout can be read.
 pub fn fields(file: &[u8]) -> String {

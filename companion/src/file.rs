@@ -33,8 +33,8 @@ pub fn write(table: &Table) -> Vec<u8> {
         put_words(&mut bytes, &[*id, *status]);
         put_sets(&mut bytes, sets);
     }
-    for Message { kind, at, word, flag, owner, sixth, sets } in messages {
-        put_words(&mut bytes, &[*kind, *at, *word, *flag, *owner, *sixth]);
+    for Message { kind, at, word, flag, owner, hops, sets } in messages {
+        put_words(&mut bytes, &[*kind, *at, *word, *flag, *owner, *hops]);
         put_sets(&mut bytes, sets);
     }
     bytes
@@ -54,8 +54,8 @@ fn read_node(record: &[u8]) -> Node {
 
 fn read_message(record: &[u8]) -> Message {
     let mut from = Reader(record);
-    let [kind, at, word, flag, owner, sixth] = words(&mut from);
-    Message { kind, at, word, flag, owner, sixth, sets: sets(&mut from) }
+    let [kind, at, word, flag, owner, hops] = words(&mut from);
+    Message { kind, at, word, flag, owner, hops, sets: sets(&mut from) }
 }
 
 fn words<const N: usize>(from: &mut Reader) -> [u32; N] {

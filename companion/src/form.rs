@@ -18,10 +18,10 @@ pub enum Field {
     /// Plain numbers.
     Word,
     Flag,
-    Sixth,
+    Hops,
 }
 
-use Field::{At, Flag, From, FromOwner, Granted, Key, Owner, Set, Sixth, Word};
+use Field::{At, Flag, From, FromOwner, Granted, Hops, Key, Owner, Set, Word};
 
 pub struct Form {
     pub name: &'static str,
@@ -30,7 +30,7 @@ pub struct Form {
 
 /// Kinds 1 to 8.
 const KINDS: [Form; 8] = [
-    Form { name: "Lookup", fields: &[Key, At] },
+    Form { name: "Lookup", fields: &[Key, At, Hops] },
     Form { name: "JoinRequest", fields: &[From, At, Set(0)] },
     Form { name: "JoinReply", fields: &[Owner, At, Set(0), Set(1), Set(2)] },
     Form { name: "LSProbe", fields: &[FromOwner, At, Set(1), Set(2), Set(3)] },
@@ -42,7 +42,7 @@ const KINDS: [Form; 8] = [
 
 /// A record of any kind, by its numbers.
 pub const RECORD: Form =
-    Form { name: "message", fields: &[At, Word, Flag, Owner, Sixth, Set(0), Set(1), Set(2), Set(3)] };
+    Form { name: "message", fields: &[At, Word, Flag, Owner, Hops, Set(0), Set(1), Set(2), Set(3)] };
 
 /// The name of a kind.
 pub fn name(kind: u32) -> Option<&'static str> {
@@ -62,7 +62,7 @@ impl Field {
             Set(place) => Message::SETS[place],
             Word => "word",
             Flag => "flag",
-            Sixth => "sixth",
+            Hops => "hops",
         }
     }
 }
@@ -84,7 +84,7 @@ impl Form {
         match field {
             Key | From | FromOwner | At => true,
             Owner => self.name != RECORD.name,
-            Granted | Set(_) | Word | Flag | Sixth => false,
+            Granted | Set(_) | Word | Flag | Hops => false,
         }
     }
 
@@ -100,7 +100,7 @@ impl Form {
                 Granted => carried.flag = u32::from(message.flag == 1),
                 Set(place) => carried.sets[place] = message.sets[place],
                 Flag => carried.flag = message.flag,
-                Sixth => carried.sixth = message.sixth,
+                Hops => carried.hops = message.hops,
             }
         }
         carried

@@ -131,10 +131,10 @@ fn message(message: &Message, offer: &str, names: &Names) -> String {
     format!("[{},{},{sender},{words},{}]", message.kind, message.at, text(offer))
 }
 
-/// Key, path as slots, whether it is delivered, the path in words, how each routing was made.
+/// Key, path as slots, whether it is delivered, the path in words, how each routing was made, the hops so far.
 fn lookup(journey: &Journey, table: &Table, names: &Names) -> String {
     let path = list(journey.path.iter().map(u32::to_string));
     let words = text(&listing::path(journey, table, names));
     let via = text(&listing::via(journey));
-    format!("[{},{path},{},{words},{via}]", journey.key, journey.end == Fate::Delivered)
+    format!("[{},{path},{},{words},{via},{}]", journey.key, journey.end == Fate::Delivered, journey.so_far)
 }

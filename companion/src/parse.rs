@@ -237,7 +237,7 @@ fn fill(message: &mut Message, field: Field, line: &mut Line, names: &Names) -> 
         Field::Set(place) => message.sets[place] = set(line, names)?,
         Field::Word => message.word = line.take_u32("a number")?,
         Field::Flag => message.flag = line.take_u32("a number")?,
-        Field::Sixth => message.sixth = line.take_u32("a number")?,
+        Field::Hops => message.hops = line.take_u32("a number")?,
     }
     Ok(())
 }

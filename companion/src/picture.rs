@@ -3,7 +3,7 @@
 use crate::draw::{circular, number, pair, Drawing};
 use crate::layout::{lanes, spread, Point};
 use crate::survey::{Arc, End, Journey};
-use crate::table::{Names, Node, Table};
+use crate::table::{so_far, Names, Node, Table};
 use std::f64::consts::TAU;
 
 /// Of nodes, in slot order, and of lookups, in pool order; used again from the first where they do not suffice.
@@ -253,7 +253,11 @@ impl<'a> Picture<'a> {
                 End::NoLegalRoute => "no legal route",
                 End::NotReady => "not ready",
             };
-            format!("Lookup {}: {}, {end}", journey.key, path.join(" → "))
+            let so_far = match journey.so_far {
+                0 => String::new(),
+                hops => format!(" ({})", so_far(hops)),
+            };
+            format!("Lookup {}{so_far}: {}, {end}", journey.key, path.join(" → "))
         };
         let more = journeys.len().checked_sub(TOLD + 1).map(|more| format!("and {} more", more + 1));
         journeys.iter().take(TOLD).map(tell).chain(more).collect()

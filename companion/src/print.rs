@@ -58,6 +58,6 @@ fn value(field: Field, form: &Form, message: &Message, names: &Names) -> Option<
         Field::Set(place) => Some(message.sets[place]).filter(|set| *set != 0).map(|set| names.all(set)),
         Field::Word => unless_zero(message.word),
         Field::Flag => unless_zero(message.flag),
-        Field::Sixth => unless_zero(message.sixth),
+        Field::Hops => unless_zero(message.hops),
     }
 }

@@ -84,7 +84,7 @@ impl Why<'_> {
     }
 
     fn lookup(&self, slot: u32, key: u32) -> Reason {
-        let equal = self.found(|m| *m == Message::lookup(key, slot));
+        let equal = self.found(|m| m.equals(&Message::lookup(key, slot)));
         equal.first().map(|equal| (3, format!("{equal} waits (01, Lookup)")))
     }
 

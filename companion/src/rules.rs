@@ -70,6 +70,12 @@ impl Rules<'_> {
         self.fall(left, key) <= self.fall(left, self.right_cover(slot))
     }
 
+    /// How many listed nodes are farther from a key than a node: farther away, or as far and reached by rising from the key.
+    pub fn farther(&self, slot: u32, key: u32) -> usize {
+        let rank = |id: u32| (self.fall(key, id), false).min((self.fall(id, key), true));
+        self.0.nodes.iter().filter(|node| rank(node.id) > rank(self.id(slot))).count()
+    }
+
     /// The ready nodes.
     pub fn ready(&self) -> Vec<u32> {
         self.with_status(|status| status == Node::READY)
@@ -109,6 +115,7 @@ mod tests {
         assert_eq!([0, 1, 2, 3].map(covers), [(185, 17), (18, 41), (42, 80), (81, 184)]);
         assert!(rules.covers(2, 80) && !rules.covers(3, 80));
         assert_eq!(rules.next_ready(3), (0, 2));
+        assert_eq!([0, 1, 2, 3].map(|slot| rules.farther(slot, 80)), [0, 1, 3, 2]);
         assert!(rules.complete(0) && !rules.overlap(0));
     }
 

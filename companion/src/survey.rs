@@ -18,6 +18,8 @@ pub struct Arc {
 /// A waiting lookup followed as the only message.
 pub struct Journey {
     pub key: u32,
+    /// The hops that it carries.
+    pub so_far: u32,
     /// Slots: where it waits, then where each routing takes it.
     pub path: Vec<u32>,
     /// How each routing was made.
@@ -173,7 +175,9 @@ impl Asked<'_> {
                     path.push(to);
                     via.push(how);
                 }
-                Fate::Ended(end) => return Ok(Journey { key: lookup.word, path, via, end }),
+                Fate::Ended(end) => {
+                    return Ok(Journey { key: lookup.word, so_far: lookup.hops, path, via, end })
+                }
             }
         }
     }

@@ -26,7 +26,8 @@ pub struct Message {
     pub word: u32,
     pub flag: u32,
     pub owner: u32,
-    pub sixth: u32,
+    /// Routings that a lookup has made so far (T-07).
+    pub hops: u32,
     /// In the order of `Message::SETS`.
     pub sets: [u64; 4],
 }
@@ -86,6 +87,11 @@ impl Message {
     pub fn lookup(key: u32, at: u32) -> Message {
         Message { kind: Message::LOOKUP, at, word: key, ..Message::default() }
     }
+
+    /// Whether the two are equal messages: their hops are not looked at.
+    pub fn equals(&self, other: &Message) -> bool {
+        Message { hops: 0, ..*self } == Message { hops: 0, ..*other }
+    }
 }
 
 impl Table {
@@ -97,6 +103,11 @@ impl Table {
     pub fn with_only(&self, message: Message) -> Table {
         Table { messages: vec![message], ..self.clone() }
     }
+}
+
+/// The hops that a lookup carries, in words.
+pub fn so_far(hops: u32) -> String {
+    format!("{hops} {} so far", if hops == 1 { "hop" } else { "hops" })
 }
 
 /// The slots of a set, rising.

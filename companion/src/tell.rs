@@ -3,7 +3,7 @@
 use crate::action;
 use crate::driver::{ActionWords, Via};
 use crate::rules::Rules;
-use crate::table::{Message, Names, Node, Table};
+use crate::table::{so_far, Message, Names, Node, Table};
 
 /// What a step did, with the nodes whose status it changed.
 pub fn step(action: ActionWords, before: &Table, after: &Table, via: Option<Via>) -> String {
@@ -90,9 +90,13 @@ impl Told<'_> {
     fn routed(&self, message: &Message, what: &str, end: &str) -> String {
         let at = self.name(message.at);
         let added = self.added();
-        let to = added.iter().find(|new| new.kind == message.kind).map(|new| self.name(new.at));
+        let hops = |new: &Message| match new.kind {
+            Message::LOOKUP => format!(", {}", so_far(new.hops)),
+            _ => String::new(),
+        };
+        let to = added.iter().find(|new| new.kind == message.kind).map(|new| (self.name(new.at), hops(new)));
         match (self.via.map(Via::words), to) {
-            (Some(by), Some(to)) => format!("{at} sends {what} on to {to}, {by}"),
+            (Some(by), Some((to, hops))) => format!("{at} sends {what} on to {to}, {by}{hops}"),
             (Some(by), None) => format!("{at} sends {what} on, {by}, and it meets its equal"),
             (None, _) if added.iter().any(|new| new.kind == Message::NO_LEGAL_ROUTE) => {
                 format!("{at} knows no legal route for {what}")

@@ -125,9 +125,9 @@ fn odd_records_there_and_back() {
     let nodes = vec![node(7, 3), node(7, 4), node(u32::MAX, 0), node(3, u32::MAX)];
     let mut messages = Vec::new();
     for kind in (0..=9).chain([u32::MAX]) {
-        for (word, flag, owner, sixth) in [(0, 0, 0, 0), (2, 0, 2, 0), (3, 1, 0, 0), (1, 2, 9, 3)] {
+        for (word, flag, owner, hops) in [(0, 0, 0, 0), (2, 0, 2, 0), (3, 1, 0, 0), (1, 2, 9, 3)] {
             for sets in [[0; 4], [1, 0, 0, 0], [0, 4, 8, 0], [0, 4, 8, 1 << 63]] {
-                messages.push(Message { kind, at: word, word, flag, owner, sixth, sets });
+                messages.push(Message { kind, at: word, word, flag, owner, hops, sets });
             }
         }
     }
@@ -143,6 +143,8 @@ fn loose_text_is_read() {
         failed slot 1
         node 18 3
         message 1 word 80 at 17
+        message 1 hops 1 at 18 word 81
+        Lookup 82 hops 0 at 18
         BroadcastLSet at 18 left 18 granted owner 17";
     let strict = "\
 ring M=8 L=1
@@ -154,6 +156,8 @@ node 17 wait
 node 18 ready
 
 Lookup 80 at 17
+Lookup 81 at 18 hops 1
+Lookup 82 at 18
 BroadcastLSet owner 17 at 18 left 18 granted
 ";
     assert_eq!(print::table(&parsed(loose)), strict);

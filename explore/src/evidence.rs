@@ -82,7 +82,7 @@ impl Rehearsal {
             let (action, words) = match *done {
                 Done::Do(action) => (action, action::words(&rehearsal.frame, action)),
                 Done::Take(kind, message) => {
-                    let looks = |other: Message| (key.message)(other) == message;
+                    let looks = |other: Message| (key.message)(other).equals(&message);
                     let place = file::messages(before).position(looks);
                     let place = place
                         .ok_or_else(|| Trouble::Failed("a message of the way does not wait".to_string()))?;

@@ -93,6 +93,16 @@ impl Message {
     pub fn owner(&self) -> u32 {
         low(self.0[2])
     }
+
+    /// Whether the two are equal messages: their hops (T-07), beside the owner, are not looked at.
+    pub fn equals(&self, other: &Message) -> bool {
+        let bare = |message: &Message| {
+            let mut words = message.0;
+            words[2] = low(words[2]).into();
+            words
+        };
+        bare(self) == bare(other)
+    }
 }
 
 /// What stays the same in a search: M, L and the ids by slot.

@@ -110,7 +110,7 @@ impl<'a> Mover<'a> {
             after.messages.remove(place);
         }
         for add in &effect.adds {
-            if let Err(place) = after.messages.binary_search(add) {
+            if let Some(place) = records.room_for(*add, &after.messages) {
                 after.messages.insert(place, *add);
             }
         }

@@ -64,6 +64,14 @@ impl Records {
         Message(*self.messages.record(number))
     }
 
+    /// Where a message is to be put among numbers that rise; nowhere if an equal one is there.
+    pub fn room_for(&self, message: u32, messages: &[u32]) -> Option<usize> {
+        let new = self.message(message);
+        let place = messages.binary_search(&message).err()?;
+        let met = new.kind() == file::LOOKUP && messages.iter().any(|&old| self.message(old).equals(&new));
+        (!met).then_some(place)
+    }
+
     /// How many nodes' and messages' records there are.
     pub fn counts(&self) -> (usize, usize) {
         (self.nodes.len(), self.messages.len())

@@ -27,13 +27,13 @@ fn ring(n: usize, count: usize) -> (Table, Pool) {
         let (to, node) = ((place % n) as u8, ((place * 7 + place / 64) % n) as u8);
         let (sides, mark) = (table.nodes[usize::from(node)].sides, 1u64 << (place % n));
         *message = match place * 5 % 8 {
-            0 => Message::Lookup { to, key: place as u32 },
-            1 => Message::JoinRequest { to, node, routing: mark },
+            0 => Message::Lookup { to, key: place as u32, hops: 0 },
+            1 => Message::JoinRequest { to, node, routing: mark, hops: 0 },
             2 => Message::JoinReply { to, owner: node, routing: mark, sides },
             3 => Message::LsProbe { to, node, sides, failed: mark },
             4 => Message::LsProbeReply { to, node, sides, failed: mark },
-            5 => Message::NoLegalRoute { to, key: place as u32 },
-            6 => Message::Lookup { to, key: (1 << 20) + place as u32 },
+            5 => Message::NoLegalRoute { to, key: place as u32, hops: 0 },
+            6 => Message::Lookup { to, key: (1 << 20) + place as u32, hops: 0 },
             _ => Message::BroadcastLSet { to, owner: node, sides: Sides { left: 0, ..sides }, grant: true },
         };
         table.count += 1;

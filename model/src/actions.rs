@@ -13,12 +13,16 @@ impl<R: Reading> Scene<'_, R> {
     #[inline]
     pub fn lookup(&self, change: &mut Change, key: u32) -> Result<(), Refusal> {
         let r = self.view.r;
-        let message = Message::Lookup { to: change.slot as u8, key };
+        let hops = r.pick(Slip::HopsFromOne, 1, 0);
+        let message = Message::Lookup { to: change.slot as u8, key, hops };
         let ready = change.node.status == Status::Ready;
         let dead = change.node.status == Status::Dead;
         refuse_if(r.takes(Slip::LookupNeedsReady) && !ready, Refusal::Status)?;
         refuse_if(r.takes(Slip::LookupNotAtDead) && dead, Refusal::Status)?;
         let mut waits = self.index.find(self.pool, &message).is_some();
+        if r.takes(Slip::LookupSeesHops) {
+            waits = self.waiting().contains(&message);
+        }
         if r.takes(Slip::LookupWaitsAnywhere) {
             waits = self.waiting().iter().any(|m| matches!(m, Message::Lookup { key: k, .. } if *k == key));
         }
@@ -60,7 +64,7 @@ impl<R: Reading> Scene<'_, R> {
         }
         let itself = r.pick(Slip::JoinCarriesItself, bit(i), 0);
         let routing = r.pick(Slip::JoinCarriesRouting, node.routing, itself);
-        change.send(self, Message::JoinRequest { to: seed as u8, node: i as u8, routing });
+        change.send(self, Message::JoinRequest { to: seed as u8, node: i as u8, routing, hops: 0 });
         Ok(())
     }
 
@@ -68,7 +72,7 @@ impl<R: Reading> Scene<'_, R> {
     #[inline]
     fn is_request_of(&self, message: &Message, i: usize, seed: usize) -> bool {
         let r = self.view.r;
-        let Message::JoinRequest { to, node, routing } = *message else {
+        let Message::JoinRequest { to, node, routing, .. } = *message else {
             return false;
         };
         let (same, there) = (usize::from(node) == i, usize::from(to) == seed);

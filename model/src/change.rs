@@ -31,6 +31,8 @@ pub(crate) struct Change {
     pub lost: Option<usize>,
     /// Where the hop came from, if the step routes to another node.
     pub via: Option<Via>,
+    /// The number that a misreading gives the waiting message that is met, by its place.
+    met: Option<(usize, u32)>,
     added: [Message; Change::MOST],
     len: usize,
     fresh: usize,
@@ -49,6 +51,7 @@ impl Change {
             taken: None,
             lost: None,
             via: None,
+            met: None,
             added: [Message::Blank; Change::MOST],
             len: 0,
             fresh: 0,
@@ -73,12 +76,15 @@ impl Change {
         self.via = if silent { None } else { Some(scene.view.via(self.slot, key, hop)) };
     }
 
-    /// Adds the message unless an equal one waits.
+    /// Adds the message unless an equal one waits, which stays as it is.
     #[inline]
     pub fn send<R: Reading>(&mut self, scene: &Scene<R>, message: Message) {
         let r = scene.view.r;
         self.sent += 1;
-        let mut fresh = scene.index.find(scene.pool, &message).is_none() || r.takes(Slip::EqualKept);
+        let waits = scene.index.find(scene.pool, &message);
+        let mut fresh = waits.is_none() || r.takes(Slip::EqualKept);
+        self.met =
+            waits.and_then(|place| slips::met(r, &scene.pool[place], &message).map(|hops| (place, hops)));
         if let Some(equal) = slips::held_equal(r, scene.waiting(), &message) {
             fresh = !equal;
         }
@@ -124,6 +130,9 @@ impl Change {
     pub fn carry_out<R: Reading>(&self, r: R, table: &mut Table, pool: &mut Pool) {
         table.nodes[self.slot] = self.node;
         let mut count = table.count;
+        if let Some((place, hops)) = self.met {
+            pool[place] = pool[place].with_hops(hops);
+        }
         let taken = self.taken.filter(|_| !r.takes(Slip::TakenStays));
         if let Some(place) = taken {
             if r.takes(Slip::RemovalSwaps) {
@@ -140,7 +149,7 @@ impl Change {
                 break;
             }
             if r.takes(Slip::EqualMovesToEnd) {
-                if let Some(place) = pool[..count].iter().position(|other| other == message) {
+                if let Some(place) = pool[..count].iter().position(|other| other.equals(message)) {
                     pool.copy_within(place + 1..count, place);
                     count -= 1;
                 }

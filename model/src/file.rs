@@ -147,15 +147,15 @@ fn read_message<R: Reading>(r: R, record: &[u8]) -> Option<Message> {
     let mut sets = [(); 4].map(|()| read.long());
     exchange(r, &MESSAGE_WORDS, &mut words);
     exchange(r, &MESSAGE_SETS, &mut sets);
-    let [kind, to, node_or_key, flag, owner, sixth] = words;
+    let [kind, to, node_or_key, flag, owner, hops] = words;
     let [routing, left, right, failed] = sets;
-    if sixth != 0 && !r.takes(Slip::SixthWordFree) {
+    if hops != 0 && r.takes(Slip::SixthWordZero) {
         return None;
     }
     if kind == 0 && r.takes(Slip::BlankAccepted) {
         return Some(Message::Blank);
     }
-    let mut fields = Fields { kind, to, node_or_key, flag, owner, routing, left, right, failed };
+    let mut fields = Fields { kind, to, node_or_key, flag, owner, hops, routing, left, right, failed };
     slip_fields(r, &mut fields);
     Message::from_fields(&fields)
 }
@@ -175,6 +175,12 @@ fn slip_fields<R: Reading>(r: R, fields: &mut Fields) {
     }
     if r.takes(Slip::OwnerFreeElsewhere) && matches!(fields.kind, 1 | 2 | 6 | 7) {
         fields.owner = 0;
+    }
+    if r.takes(Slip::SixthWordFree) || r.takes(Slip::HopsFreeElsewhere) && fields.kind != 1 {
+        fields.hops = 0;
+    }
+    if r.takes(Slip::HopsInByte) {
+        fields.hops &= 0xff;
     }
     if r.takes(Slip::NodeFreeElsewhere) && matches!(fields.kind, 3 | 8) {
         fields.node_or_key = 0;
@@ -236,7 +242,8 @@ fn write_node<R: Reading>(r: R, node: &Node, to: &mut Writer) {
 }
 
 fn write_message<R: Reading>(r: R, fields: &Fields, to: &mut Writer) {
-    let mut words = [fields.kind, fields.to, fields.node_or_key, fields.flag, fields.owner, 0];
+    let hops = r.pick(Slip::HopsNotWritten, 0, fields.hops);
+    let mut words = [fields.kind, fields.to, fields.node_or_key, fields.flag, fields.owner, hops];
     let mut sets = [fields.routing, fields.left, fields.right, fields.failed];
     exchange(r, &MESSAGE_WORDS, &mut words);
     exchange(r, &MESSAGE_SETS, &mut sets);

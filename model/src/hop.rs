@@ -1,6 +1,6 @@
 //! The next hop for a key, and where it came from.
 
-use crate::marks::{bit, first_down, first_up, has, slots};
+use crate::marks::{below, bit, first_down, first_up, has, slots};
 use crate::reading::Reading;
 use crate::slip::Slip;
 use crate::slips;
@@ -122,6 +122,12 @@ impl<R: Reading> View<'_, R> {
         let from = self.table.listed().partition_point(|node| node.id < key);
         let (up, down) = (first_up(set, from & 63), first_down(set, from & 63));
         Some(if rank(&up) < rank(&down) { up } else { down })
+    }
+
+    /// The listed nodes farther from `key` than `i` (T-07).
+    pub fn farther(&self, i: usize, key: u32) -> u64 {
+        let listed = below(self.table.n);
+        listed & !(bit(i) | self.nearer_than(listed, i, key))
     }
 
     /// The members of `set` nearer to `key` than `i`.

@@ -53,7 +53,7 @@ impl Index {
                 return Err(entry);
             }
             let place = usize::from(noted & PLACE) - 1;
-            if noted & !PLACE == hash.upper && pool[place] == *message {
+            if noted & !PLACE == hash.upper && pool[place].equals(message) {
                 return Ok(place);
             }
             entry = (entry + 1) % SIZE;

@@ -162,7 +162,7 @@ impl<R: Reading> Scene<'_, R> {
             ..Node::BLANK
         };
         let routing = r.pick(Slip::ResignCarriesItself, bit(i), 0);
-        change.send(self, Message::JoinRequest { to: n as u8, node: i as u8, routing });
+        change.send(self, Message::JoinRequest { to: n as u8, node: i as u8, routing, hops: 0 });
         Ok(())
     }
 

@@ -50,6 +50,7 @@ fn lines<R: Reading>(view: &View<R>, pool: &Pool) -> Vec<u8> {
         let (from, to) = (name(from).to_string(), end.map_or("-".to_string(), |end| name(end).to_string()));
         let (from, to) = r.pick(Slip::ListNamesExchanged, (&to, &from), (&from, &to));
         let hops = if end.is_none() && r.takes(Slip::ListStuckAtZero) { 0 } else { hops };
+        let hops = hops + r.pick(Slip::ListAddsHops, waiting[place].fields().hops, 0);
         let via = column(r, &via, end.is_none());
         writeln!(out, "{key} {from} {to} {hops} {via}").expect("a vector takes all");
     }
@@ -75,7 +76,7 @@ fn column<R: Reading>(r: R, via: &str, stuck: bool) -> String {
 /// The waiting lookups in pool order: place, slot and key.
 fn lookups<R: Reading>(view: &View<R>, waiting: &[Message]) -> Vec<(usize, usize, u32)> {
     let lookup = |(place, message): (usize, &Message)| match *message {
-        Message::Lookup { to, key } => Some((place, usize::from(to), key)),
+        Message::Lookup { to, key, .. } => Some((place, usize::from(to), key)),
         Message::JoinRequest { to, node, .. } if view.r.takes(Slip::ListJoins) => {
             Some((place, usize::from(to), view.table.id(node.into())))
         }
@@ -131,6 +132,7 @@ fn follow<R: Reading>(view: &View<R>, from: usize, key: u32, earlier: &[Message]
 
 /// Merging with an earlier lookup, and a stop for searches that go in circles.
 fn slipped_end<R: Reading>(r: R, earlier: &[Message], at: usize, key: u32, hops: u32) -> bool {
-    let merges = r.takes(Slip::ListMerges) && earlier.contains(&Message::Lookup { to: at as u8, key });
+    let here = Message::Lookup { to: at as u8, key, hops: 0 };
+    let merges = r.takes(Slip::ListMerges) && earlier.iter().any(|other| other.equals(&here));
     merges || !r.is_right() && hops > 200
 }

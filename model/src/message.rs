@@ -2,7 +2,8 @@
 
 use crate::table::{Sides, Table};
 
-/// A waiting message with its destination slot. A probe's node is the owner of its leaf set.
+/// A waiting message with its destination slot. A probe's node is the owner of its leaf set. The kinds that a routing
+/// sends have a place for hops (T-07), which is 0 in a valid table but for a Lookup. `==` looks at the hops too.
 #[derive(Clone, Copy, Debug, Default, PartialEq, Eq)]
 pub enum Message {
     /// No message: the content of places past the count.
@@ -11,11 +12,13 @@ pub enum Message {
     Lookup {
         to: u8,
         key: u32,
+        hops: u32,
     },
     JoinRequest {
         to: u8,
         node: u8,
         routing: u64,
+        hops: u32,
     },
     JoinReply {
         to: u8,
@@ -38,6 +41,7 @@ pub enum Message {
     NoLegalRoute {
         to: u8,
         key: u32,
+        hops: u32,
     },
     LeaseRequest {
         to: u8,
@@ -57,7 +61,7 @@ pub type Pool = [Message; Table::MESSAGES];
 /// A list without a message.
 pub const EMPTY_POOL: Pool = [Message::Blank; Table::MESSAGES];
 
-/// The fields of a message as its record has them, without the sixth word.
+/// The fields of a message as its record has them.
 #[derive(Clone, Copy, Debug, Default, PartialEq, Eq)]
 pub struct Fields {
     pub kind: u32,
@@ -65,6 +69,7 @@ pub struct Fields {
     pub node_or_key: u32,
     pub flag: u32,
     pub owner: u32,
+    pub hops: u32,
     pub routing: u64,
     pub left: u64,
     pub right: u64,
@@ -77,14 +82,31 @@ impl Message {
         self.fields().to as usize
     }
 
-    /// Four words that differ where the messages differ.
+    /// Whether the two are equal messages, which have the same fields but for their hops.
+    #[inline]
+    pub fn equals(&self, other: &Message) -> bool {
+        self.words() == other.words()
+    }
+
+    /// The message with another number of hops, if it is of a kind that has a place for it.
+    pub fn with_hops(mut self, number: u32) -> Message {
+        if let Message::Lookup { hops, .. }
+        | Message::JoinRequest { hops, .. }
+        | Message::NoLegalRoute { hops, .. } = &mut self
+        {
+            *hops = number;
+        }
+        self
+    }
+
+    /// Four words that differ where the messages differ in more than their hops.
     #[inline]
     pub(crate) fn words(&self) -> [u64; 4] {
         let head = |kind: u64, to: u8, from: u8| kind | u64::from(to) << 8 | u64::from(from) << 16;
         match *self {
             Message::Blank => [0; 4],
-            Message::Lookup { to, key } => [head(1, to, 0), key.into(), 0, 0],
-            Message::JoinRequest { to, node, routing } => [head(2, to, node), 0, 0, routing],
+            Message::Lookup { to, key, .. } => [head(1, to, 0), key.into(), 0, 0],
+            Message::JoinRequest { to, node, routing, .. } => [head(2, to, node), 0, 0, routing],
             Message::JoinReply { to, owner, routing, sides } => {
                 [head(3, to, owner), sides.left, sides.right, routing]
             }
@@ -94,7 +116,7 @@ impl Message {
             Message::LsProbeReply { to, node, sides, failed } => {
                 [head(5, to, node), sides.left, sides.right, failed]
             }
-            Message::NoLegalRoute { to, key } => [head(6, to, 0), key.into(), 0, 0],
+            Message::NoLegalRoute { to, key, .. } => [head(6, to, 0), key.into(), 0, 0],
             Message::LeaseRequest { to, node } => [head(7, to, node), 0, 0, 0],
             Message::BroadcastLSet { to, owner, sides, grant } => {
                 [head(8, to, owner), sides.left, sides.right, grant.into()]
@@ -107,9 +129,9 @@ impl Message {
     pub fn fields(&self) -> Fields {
         match *self {
             Message::Blank => Fields::default(),
-            Message::Lookup { to, key } => Fields { node_or_key: key, ..Fields::of(1, to) },
-            Message::JoinRequest { to, node, routing } => {
-                Fields { node_or_key: node.into(), routing, ..Fields::of(2, to) }
+            Message::Lookup { to, key, hops } => Fields { node_or_key: key, hops, ..Fields::of(1, to) },
+            Message::JoinRequest { to, node, routing, hops } => {
+                Fields { node_or_key: node.into(), routing, hops, ..Fields::of(2, to) }
             }
             Message::JoinReply { to, owner, routing, sides } => {
                 Fields { owner: owner.into(), routing, ..Fields::of(3, to) }.with_sides(sides)
@@ -118,7 +140,7 @@ impl Message {
             Message::LsProbeReply { to, node, sides, failed } => {
                 Fields::of(5, to).with_probe(node, sides, failed)
             }
-            Message::NoLegalRoute { to, key } => Fields { node_or_key: key, ..Fields::of(6, to) },
+            Message::NoLegalRoute { to, key, hops } => Fields { node_or_key: key, hops, ..Fields::of(6, to) },
             Message::LeaseRequest { to, node } => Fields { node_or_key: node.into(), ..Fields::of(7, to) },
             Message::BroadcastLSet { to, owner, sides, grant } => {
                 Fields { owner: owner.into(), flag: grant.into(), ..Fields::of(8, to) }.with_sides(sides)
@@ -134,15 +156,15 @@ impl Message {
         let node = u8::try_from(fields.node_or_key);
         let owner = u8::try_from(fields.owner).ok()?;
         let key = fields.node_or_key;
-        let Fields { routing, failed, .. } = *fields;
+        let Fields { hops, routing, failed, .. } = *fields;
         let sides = Sides { left: fields.left, right: fields.right };
         let message = match fields.kind {
-            1 => Message::Lookup { to, key },
-            2 => Message::JoinRequest { to, node: node.ok()?, routing },
+            1 => Message::Lookup { to, key, hops },
+            2 => Message::JoinRequest { to, node: node.ok()?, routing, hops },
             3 => Message::JoinReply { to, owner, routing, sides },
             4 => Message::LsProbe { to, node: node.ok()?, sides, failed },
             5 => Message::LsProbeReply { to, node: node.ok()?, sides, failed },
-            6 => Message::NoLegalRoute { to, key },
+            6 => Message::NoLegalRoute { to, key, hops },
             7 => Message::LeaseRequest { to, node: node.ok()? },
             8 => Message::BroadcastLSet { to, owner, sides, grant: fields.flag == 1 },
             _ => return None,

@@ -177,6 +177,67 @@ slips! {
     /// Candidates that are not ready are left out.
     HopOnlyToReady,
 
+    // The hops that a message carries (T-07).
+
+    /// The hops are at most the number of nodes at a greater plain distance.
+    BoundPlainDistance,
+    /// The hops are at most the number of other nodes at no smaller plain distance.
+    BoundWithTies,
+    /// The hops are at most the number of nodes farther by falling from the key.
+    BoundByFall,
+    /// The hops are at most the number of ready nodes farther.
+    BoundOfReady,
+    /// The hops are at most the number of nodes farther that are not dead.
+    BoundOfLive,
+    /// The hops are at most the number of nodes nearer.
+    BoundOfNearer,
+    /// The hops are at most the number of nodes at least as far, the destination too.
+    BoundWithItself,
+    /// The hops are at most n - 1.
+    BoundOfOthers,
+    /// The hops are fewer than the nodes farther.
+    BoundStrict,
+    /// The hops are 0, or fewer than the nodes farther.
+    BoundStrictAboveZero,
+    /// The hops may be any number.
+    BoundNone,
+    /// The sixth word is 0, as before T-07.
+    SixthWordZero,
+    /// The sixth word is not looked at, and written as 0.
+    SixthWordFree,
+    /// The sixth word is read, and written as 0.
+    HopsNotWritten,
+    /// The sixth word is cut to 8 bits.
+    HopsInByte,
+    /// Another kind may have hops.
+    HopsFreeElsewhere,
+    /// A JoinRequest counts its hops.
+    JoinsCountHops,
+    /// A NoLegalRoute has the hops of its Lookup.
+    NoRouteCarriesHops,
+    /// A Lookup is issued with 1 hop.
+    HopsFromOne,
+    /// A forwarded Lookup keeps its hops.
+    HopsNotCounted,
+    /// A forwarded Lookup has 0 hops.
+    HopsBeginAnew,
+    /// Of two equal Lookups the waiting one gets the hops of the one that comes.
+    ComingHopsKept,
+    /// Of two equal Lookups the waiting one gets the larger number of hops.
+    LargerHopsKept,
+    /// Of two equal Lookups the waiting one gets the smaller number of hops.
+    SmallerHopsKept,
+    /// Of two equal Lookups the waiting one gets a hop more.
+    MeetingCounted,
+    /// A Lookup that differs in its hops only is added.
+    EqualSeesHops,
+    /// Lookup gives 3 only for a Lookup without hops.
+    LookupSeesHops,
+    /// Two Lookups that differ in their hops only are valid.
+    ValidSeesHops,
+    /// The listing adds the hops that a Lookup carries.
+    ListAddsHops,
+
     // The pool.
 
     /// Equal messages are kept twice.
@@ -1101,8 +1162,6 @@ slips! {
     StatusHighIsDead,
     /// Messages of kind 0 are valid.
     BlankAccepted,
-    /// The sixth word may be anything.
-    SixthWordFree,
     /// The owner of a probe's leaf set may differ from its node.
     OwnerNotNode,
     /// A flag above 1 counts as 1.

@@ -60,6 +60,9 @@ pub(crate) fn unsettles<R: Reading>(view: &View<R>, ready: u64) -> bool {
 
 /// Whether a waiting message is held equal to one that is added, by the misreadings of equality.
 pub(crate) fn held_equal<R: Reading>(r: R, waiting: &[Message], message: &Message) -> Option<bool> {
+    if r.takes(Slip::EqualSeesHops) {
+        return Some(waiting.contains(message));
+    }
     let blind: fn(&mut Fields) = if r.takes(Slip::EqualWithoutSets) {
         |fields| {
             (fields.routing, fields.failed, fields.flag) = (0, 0, 0);
@@ -77,11 +80,63 @@ pub(crate) fn held_equal<R: Reading>(r: R, waiting: &[Message], message: &Messag
         return None;
     };
     let seen = |message: &Message| {
-        let mut fields = message.fields();
+        let mut fields = message.with_hops(0).fields();
         blind(&mut fields);
         fields
     };
     Some(waiting.iter().any(|other| seen(other) == seen(message)))
+}
+
+/// Whether a Lookup's hops are held in range, by the misreadings of the bound.
+#[inline]
+pub(crate) fn hops_fit<R: Reading>(view: &View<R>, to: usize, key: u32, hops: u32) -> Option<bool> {
+    let (r, table, listed) = (view.r, view.table, below(view.table.n));
+    let of = |wanted: &dyn Fn(usize) -> bool| {
+        slots(listed).filter(|&slot| wanted(slot)).fold(0, |set, slot| set | bit(slot))
+    };
+    let distance = |slot: usize| view.ring.distance(key, table.id(slot));
+    let fall = |slot: usize| view.ring.fall(key, table.id(slot));
+    let counted = if r.takes(Slip::BoundPlainDistance) {
+        of(&|slot| distance(slot) > distance(to))
+    } else if r.takes(Slip::BoundWithTies) {
+        of(&|slot| distance(slot) >= distance(to) && slot != to)
+    } else if r.takes(Slip::BoundByFall) {
+        of(&|slot| fall(slot) > fall(to))
+    } else if r.takes(Slip::BoundOfReady) {
+        view.farther(to, key) & table.marks(|node| node.status == Status::Ready)
+    } else if r.takes(Slip::BoundOfLive) {
+        view.farther(to, key) & table.marks(|node| node.status != Status::Dead)
+    } else if r.takes(Slip::BoundOfNearer) {
+        view.nearer_than(listed, to, key)
+    } else if r.takes(Slip::BoundWithItself) {
+        view.farther(to, key) | bit(to)
+    } else if r.takes(Slip::BoundOfOthers) {
+        listed & !bit(to)
+    } else if r.takes(Slip::BoundStrict) {
+        return Some(hops < view.farther(to, key).count_ones());
+    } else if r.takes(Slip::BoundStrictAboveZero) {
+        return Some(hops == 0 || hops < view.farther(to, key).count_ones());
+    } else {
+        return r.takes(Slip::BoundNone).then_some(true);
+    };
+    Some(hops <= counted.count_ones())
+}
+
+/// The number that a waiting Lookup gets where an equal one comes, by the misreadings of their meeting.
+#[inline]
+pub(crate) fn met<R: Reading>(r: R, waiting: &Message, coming: &Message) -> Option<u32> {
+    let (&Message::Lookup { hops: old, .. }, &Message::Lookup { hops: new, .. }) = (waiting, coming) else {
+        return None;
+    };
+    if r.takes(Slip::ComingHopsKept) {
+        Some(new)
+    } else if r.takes(Slip::LargerHopsKept) {
+        Some(old.max(new))
+    } else if r.takes(Slip::SmallerHopsKept) {
+        Some(old.min(new))
+    } else {
+        r.takes(Slip::MeetingCounted).then_some(old.wrapping_add(1))
+    }
 }
 
 /// Whether a waiting message goes when the probe of j by i times out: an LSProbe from i to j.

@@ -6,7 +6,9 @@ use crate::message::{Message, Pool};
 use crate::reading::{Reading, Right};
 use crate::refusal::{refuse_if, Refusal};
 use crate::slip::Slip;
+use crate::slips;
 use crate::table::{Node, Sides, Table};
+use crate::view::View;
 
 /// Whether the table is valid with this list of messages.
 pub fn is_valid(table: &Table, pool: &[Message]) -> bool {
@@ -38,14 +40,16 @@ pub(crate) fn check<R: Reading>(r: R, table: &Table, pool: &Pool, index: &mut In
     for place in 0..table.count {
         refuse_if(!limits.message_obeys(&pool[place]), Refusal::Invalid)?;
         let alone = index.note(pool, place);
-        let apart = r.takes(Slip::EqualNeighboursOnly) && pool[place] != pool[place.saturating_sub(1)];
+        let apart = r.takes(Slip::EqualNeighboursOnly) && !pool[place].equals(&pool[place.saturating_sub(1)])
+            || r.takes(Slip::ValidSeesHops) && !pool[..place].contains(&pool[place]);
         refuse_if(!alone && !apart && !r.takes(Slip::EqualAccepted), Refusal::Invalid)?;
     }
     Ok(())
 }
 
-/// What the numbers of a table allow.
-struct Limits<R> {
+/// What the numbers and the ids of a table allow.
+struct Limits<'a, R> {
+    view: View<'a, R>,
     l: u32,
     n: usize,
     top: u64,
@@ -53,16 +57,16 @@ struct Limits<R> {
     r: R,
 }
 
-impl<R: Reading> Limits<R> {
+impl<'a, R: Reading> Limits<'a, R> {
     /// M, L, n and the count are in range.
     #[inline]
-    fn of(r: R, table: &Table) -> Result<Limits<R>, Refusal> {
+    fn of(r: R, table: &'a Table) -> Result<Limits<'a, R>, Refusal> {
         let Table { m, l, n, count, .. } = *table;
         let ranges = in_limits(Right, m, l, n) && count <= Table::MESSAGES;
         refuse_if(!ranges, Refusal::Invalid)?;
         let top = r.pick(Slip::IdAtN, 1 << m, (1 << m) - 1);
         let listed = r.pick(Slip::MarkPastN, !0, below(n));
-        Ok(Limits { l, n, top, listed, r })
+        Ok(Limits { view: View::new(r, table), l, n, top, listed, r })
     }
 
     #[inline]
@@ -105,9 +109,17 @@ impl<R: Reading> Limits<R> {
     fn message_obeys(&self, message: &Message) -> bool {
         match *message {
             Message::Blank => self.r.takes(Slip::BlankAccepted),
-            Message::Lookup { to, key } | Message::NoLegalRoute { to, key } => self.slot(to) && self.key(key),
-            Message::JoinRequest { to, node, routing } => {
-                self.slots(to, node) && self.carried(routing) && self.sent(to, node)
+            Message::Lookup { to, key, hops } => {
+                self.slot(to) && self.key(key) && self.hops_fit(to.into(), key, hops)
+            }
+            Message::NoLegalRoute { to, key, hops } => {
+                self.slot(to) && self.key(key) && self.no_hops(hops, Slip::NoRouteCarriesHops)
+            }
+            Message::JoinRequest { to, node, routing, hops } => {
+                self.slots(to, node)
+                    && self.carried(routing)
+                    && self.sent(to, node)
+                    && self.no_hops(hops, Slip::JoinsCountHops)
             }
             Message::JoinReply { to, owner, routing, sides } => {
                 self.slots(to, owner) && self.carried(routing) && self.leaves(owner, sides)
@@ -125,6 +137,19 @@ impl<R: Reading> Limits<R> {
                 self.slots(to, owner) && self.leaves(owner, sides)
             }
         }
+    }
+
+    /// A Lookup's hops are at most the number of listed nodes farther from its key than its destination.
+    #[inline]
+    fn hops_fit(&self, to: usize, key: u32, hops: u32) -> bool {
+        slips::hops_fit(&self.view, to, key, hops)
+            .unwrap_or_else(|| hops == 0 || hops <= self.view.farther(to, key).count_ones())
+    }
+
+    /// Hops of another kind, which a misreading may count.
+    #[inline]
+    fn no_hops(&self, hops: u32, counted: Slip) -> bool {
+        hops == 0 || self.r.takes(counted)
     }
 
     #[inline]

@@ -49,10 +49,16 @@ fn invalid() -> Vec<(&'static str, Bench)> {
     case("slot past n not blank", &|b| b.table.nodes[4].id = 1);
     case("blank message", &|b| b.pool[1] = Message::Blank);
     case("equal messages", &|b| b.pool[1] = b.pool[0]);
-    case("destination at n", &|b| b.pool[1] = Message::Lookup { to: 4, key: 0 });
-    case("key at 2^M", &|b| b.pool[1] = Message::Lookup { to: 0, key: 256 });
+    case("destination at n", &|b| b.pool[1] = Message::Lookup { to: 4, key: 0, hops: 0 });
+    case("key at 2^M", &|b| b.pool[1] = Message::Lookup { to: 0, key: 256, hops: 0 });
+    case("hops above the nodes farther", &|b| b.pool[1] = Message::Lookup { to: 0, key: 200, hops: 4 });
+    case("equal but for hops", &|b| b.pool[1] = Message::Lookup { to: 0, key: 80, hops: 1 });
+    case("hops of a JoinRequest", &|b| {
+        b.pool[1] = Message::JoinRequest { to: 0, node: 1, routing: 0, hops: 1 };
+    });
+    case("hops of a NoLegalRoute", &|b| b.pool[1] = Message::NoLegalRoute { to: 0, key: 80, hops: 1 });
     case("node at n", &|b| b.pool[1] = Message::LeaseRequest { to: 0, node: 4 });
-    case("carried mark at n", &|b| b.pool[1] = Message::JoinRequest { to: 0, node: 1, routing: 16 });
+    case("carried mark at n", &|b| b.pool[1] = Message::JoinRequest { to: 0, node: 1, routing: 16, hops: 0 });
     let owner =
         |owner, left| Message::BroadcastLSet { to: 0, owner, sides: Sides { left, right: 0 }, grant: true };
     case("owner at n", &|b| b.pool[1] = owner(4, 0));
@@ -116,7 +122,7 @@ fn done_steps_blank_the_places_past_the_count_and_refused_ones_do_not() {
     assert_eq!(bench.forward(0), 0);
     assert_eq!(
         bench.waiting(),
-        [Message::Lookup { to: 2, key: 200 }, Message::Lookup { to: bench.pool[1].to() as u8, key: 80 }]
+        [Message::Lookup { to: 2, key: 200, hops: 0 }, Message::Lookup { to: 3, key: 80, hops: 1 }]
     );
     assert!(bench.pool[2..].iter().all(|m| *m == Message::Blank));
 }
@@ -238,7 +244,7 @@ fn a_full_pool_refuses_probes_that_find_no_room() {
     let sides = Sides { left: marks(&[2]), right: 0 };
     bench.pool[0] = Message::JoinReply { to: 0, owner: 1, routing: 0, sides };
     for place in 1..256 {
-        bench.pool[place] = Message::Lookup { to: 0, key: place as u32 };
+        bench.pool[place] = Message::Lookup { to: 0, key: place as u32, hops: 0 };
     }
     bench.table.count = 256;
     let before = bench.clone();

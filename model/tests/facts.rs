@@ -137,7 +137,7 @@ fn two_lookups_of_a_key_merge() {
     bench.lookup(0, 2);
     bench.lookup(1, 2);
     assert_eq!(bench.forward(0), 0);
-    assert_eq!(bench.waiting(), [Message::Lookup { to: 1, key: 2 }]);
+    assert_eq!(bench.waiting(), [Message::Lookup { to: 1, key: 2, hops: 0 }]);
     assert_eq!(bench.deliver(0), 0);
     assert!(bench.waiting().is_empty());
 }
@@ -170,7 +170,7 @@ fn the_tie_is_judged_on_the_ring() {
 fn no_legal_route_never_leaves() {
     for status in [DEAD, WAIT, OK, READY] {
         let mut bench = Bench::of(2, 1, &[node(0, status, &[], &[])]);
-        bench.pool[0] = Message::NoLegalRoute { to: 0, key: 3 };
+        bench.pool[0] = Message::NoLegalRoute { to: 0, key: 3, hops: 0 };
         bench.table.count = 1;
         assert_eq!([bench.take(0), bench.deliver(0), bench.forward(0)], [5, 5, 5]);
     }

@@ -41,7 +41,7 @@ fn read_and_written_back_files_are_equal() {
 fn refused_files_change_nothing() {
     let before = {
         let mut bench = Bench::start(8, 1, &[17, 18], &[0]);
-        bench.pool[7] = Message::Lookup { to: 9, key: 9 };
+        bench.pool[7] = Message::Lookup { to: 9, key: 9, hops: 0 };
         bench
     };
     for file in files(4, 2_000) {
@@ -58,12 +58,12 @@ fn refused_files_change_nothing() {
 fn messages() -> [Message; 8] {
     let sides = Sides { left: 4, right: 8 };
     [
-        Message::Lookup { to: 0, key: 80 },
-        Message::JoinRequest { to: 1, node: 2, routing: 15 },
+        Message::Lookup { to: 0, key: 80, hops: 0 },
+        Message::JoinRequest { to: 1, node: 2, routing: 15, hops: 0 },
         Message::JoinReply { to: 1, owner: 1, routing: 15, sides },
         Message::LsProbe { to: 1, node: 1, sides, failed: 3 },
         Message::LsProbeReply { to: 1, node: 1, sides, failed: 3 },
-        Message::NoLegalRoute { to: 3, key: 255 },
+        Message::NoLegalRoute { to: 3, key: 255, hops: 0 },
         Message::LeaseRequest { to: 3, node: 3 },
         Message::BroadcastLSet { to: 3, owner: 1, sides, grant: true },
     ]
@@ -79,12 +79,12 @@ fn fields_and_messages_agree() {
 }
 
 /// Which of the ten fields of a record each kind has, after the kind itself and the destination:
-/// node or key, flag, owner, sixth, routing, left, right, failed.
+/// node or key, flag, owner, hops, routing, left, right, failed.
 const HELD: [[bool; 8]; 8] = {
     const O: bool = false;
     const X: bool = true;
     [
-        [X, O, O, O, O, O, O, O],
+        [X, O, O, X, O, O, O, O],
         [X, O, O, O, X, O, O, O],
         [O, O, X, O, X, X, X, O],
         [X, O, X, O, O, X, X, X],

@@ -80,7 +80,7 @@ fn a_suspect_is_probed() {
 fn a_full_pool_refuses_a_probe_unless_it_waits() {
     let mut bench = with(&seven(), 2, |_| {});
     for place in 0..256 {
-        bench.pool[place] = Message::Lookup { to: (place % 7) as u8, key: place as u32 };
+        bench.pool[place] = Message::Lookup { to: (place % 7) as u8, key: place as u32, hops: 0 };
     }
     bench.table.count = 256;
     let suspect = Action::SuspectFaulty { node: 2, partner: 3 };
@@ -137,7 +137,7 @@ fn the_waiting_probes_from_i_to_j_go() {
     let reply = |node: u8, to: u8| Message::LsProbeReply { to, node, sides: Sides::EMPTY, failed: 0 };
     let all = [
         probe(2, 3, 0),
-        Message::Lookup { to: 3, key: 9 },
+        Message::Lookup { to: 3, key: 9, hops: 0 },
         probe(2, 3, 4),
         probe(2, 4, 0),
         probe(1, 3, 0),
@@ -223,7 +223,7 @@ fn a_node_that_resigns_begins_anew() {
     for (left, right) in [(&[][..], &[][..]), (&[3], &[]), (&[], &[0, 1])] {
         let mut bench =
             with(&waits(left, right), 2, |node| (node.lease, node.grant, node.routing) = (1, 2, 4 + 8));
-        let asked = Message::JoinRequest { to: 5, node: 2, routing: 0 };
+        let asked = Message::JoinRequest { to: 5, node: 2, routing: 0, hops: 0 };
         let wanted = Node { routing: marks(&[2]), ..node(80, WAIT, &[], &[]) };
         let resigned = after(&bench, resign);
         assert_eq!((resigned.table.nodes[2], resigned.waiting()), (wanted, &[asked][..]));

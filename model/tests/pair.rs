@@ -15,12 +15,12 @@ fn worked() -> Bench {
 fn kinds() -> [Message; 8] {
     let (sides, to) = (Sides { left: marks(&[2]), right: marks(&[0]) }, 0);
     [
-        Message::Lookup { to, key: 10 },
-        Message::JoinRequest { to, node: 2, routing: 0 },
+        Message::Lookup { to, key: 10, hops: 0 },
+        Message::JoinRequest { to, node: 2, routing: 0, hops: 0 },
         Message::JoinReply { to, owner: 1, routing: 0, sides },
         Message::LsProbe { to, node: 1, sides, failed: 0 },
         Message::LsProbeReply { to, node: 1, sides, failed: 0 },
-        Message::NoLegalRoute { to, key: 10 },
+        Message::NoLegalRoute { to, key: 10, hops: 0 },
         Message::LeaseRequest { to, node: 1 },
         Message::BroadcastLSet { to, owner: 1, sides, grant: true },
     ]
@@ -44,9 +44,9 @@ fn a_lookup_is_delivered_where_it_is_covered_and_forwarded_where_not() {
     let mut bench = worked();
     bench.lookup(0, 80);
     assert_eq!(bench.forward(0), 0);
-    assert_eq!(bench.waiting(), [Message::Lookup { to: 3, key: 80 }]);
+    assert_eq!(bench.waiting(), [Message::Lookup { to: 3, key: 80, hops: 1 }]);
     assert_eq!(bench.forward(0), 0);
-    assert_eq!(bench.waiting(), [Message::Lookup { to: 2, key: 80 }]);
+    assert_eq!(bench.waiting(), [Message::Lookup { to: 2, key: 80, hops: 2 }]);
     assert_eq!(bench.deliver(0), 0);
     assert!(bench.waiting().is_empty());
 }
@@ -88,7 +88,7 @@ fn a_forward_without_a_legal_route_is_done() {
     assert_eq!(bench.hop(1, 0), Hop::NoRoute);
     bench.lookup(1, 0);
     assert_eq!(bench.forward(0), 0);
-    assert_eq!(bench.waiting(), [Message::NoLegalRoute { to: 1, key: 0 }]);
+    assert_eq!(bench.waiting(), [Message::NoLegalRoute { to: 1, key: 0, hops: 0 }]);
     assert_eq!(three(&bench).map(|(number, _)| number), [5, 5, 5]);
 }
 

@@ -39,7 +39,7 @@ fn a_hop_says_where_it_came_from() {
 #[test]
 fn routed_join_requests_say_it_too() {
     let mut bench = crossed(&[0, 2]);
-    (bench.pool[0], bench.table.count) = (Message::JoinRequest { to: 0, node: 2, routing: 0 }, 1);
+    (bench.pool[0], bench.table.count) = (Message::JoinRequest { to: 0, node: 2, routing: 0, hops: 0 }, 1);
     assert_eq!(via(&bench, Action::Take { place: 0 }), Some(Via::Routing));
     bench.table.nodes[0].routing = 0;
     assert_eq!(via(&bench, Action::Take { place: 0 }), Some(Via::Leaf));
@@ -67,7 +67,7 @@ fn it_is_said_also_where_the_message_meets_its_equal() {
     bench.lookup(2, 110);
     assert_eq!(via(&bench, Action::Forward { place: 0 }), Some(Via::Routing));
     assert_eq!(bench.forward(0), 0);
-    assert_eq!(bench.waiting(), [Message::Lookup { to: 2, key: 110 }]);
+    assert_eq!(bench.waiting(), [Message::Lookup { to: 2, key: 110, hops: 0 }]);
 }
 
 #[test]

@@ -30,7 +30,7 @@ fn the_first_of_each_node_is_told() {
     let mut bench = worked(&[(2, 0), (0, 80), (2, 200), (0, 3), (3, 3)]);
     assert_eq!(firsts(&bench), [Some(1), None, Some(0), Some(4)], "also for the dead one");
     assert_eq!(bench.forward(0), 0);
-    assert_eq!(bench.waiting().last(), Some(&Message::Lookup { to: 0, key: 0 }));
+    assert_eq!(bench.waiting().last(), Some(&Message::Lookup { to: 0, key: 0, hops: 1 }));
     assert_eq!(firsts(&bench), [Some(0), None, Some(1), Some(3)], "those behind it move up");
     assert_eq!(Bench::load(&bench.file()).map(|loaded| firsts(&loaded)), Ok(firsts(&bench)));
 }
@@ -45,7 +45,7 @@ fn every_kind_waits_for_its_destination() {
 #[test]
 fn the_places_past_the_count_are_not_looked_at() {
     let mut bench = worked(&[(2, 200)]);
-    bench.pool[1] = Message::Lookup { to: 3, key: 9 };
+    bench.pool[1] = Message::Lookup { to: 3, key: 9, hops: 0 };
     assert_eq!(firsts(&bench), [None, None, Some(0), None]);
 }
 

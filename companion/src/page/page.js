@@ -361,15 +361,15 @@ function tellListing(state) {
   const letters = Math.min(14, Math.max(5, ...state.lookups.map((lookup) => lookup[4].length + 2)));
   const fill = (look, words) => {
     const row = put("div", rows, undefined, look);
-    row.style.gridTemplateColumns = `${wide} ${wide} ${wide} 5ch ${letters}ch 1fr`;
+    row.style.gridTemplateColumns = `${wide} ${wide} ${wide} 5ch ${letters}ch 7ch 1fr`;
     words.forEach((word) => put("span", row, word));
     return row;
   };
-  fill("row head", ["key", "from", "to", "hops", "via", "path"]);
-  state.lookups.forEach(([key, path, delivered, words, via], nth) => {
+  fill("row head", ["key", "from", "to", "hops", "via", "so far", "path"]);
+  state.lookups.forEach(([key, path, delivered, words, via, soFar], nth) => {
     const to = delivered ? name(path[path.length - 1]) : "-";
     const look = ["row pick", nth === followed ? "chosen" : "", nth >= SHEET ? "cut" : ""].join(" ");
-    fill(look, [key, name(path[0]), to, path.length - 1, via, words]).addEventListener("click", () => follow(nth));
+    fill(look, [key, name(path[0]), to, path.length - 1, via, soFar, words]).addEventListener("click", () => follow(nth));
   });
   const more = state.lookups.length - SHEET;
   if (more > 0) put("p", box, `and ${more} more`, "sheet");

@@ -16,7 +16,7 @@ use Rattle.rules.specs.declared.Via.the-variants.{Leaf, Unrouted}
 use Rattle.rules.specs.Actions.{waits, planLookup}
 use Rattle.rules.specs.Closest.{closest}
 use Rattle.rules.specs.Fits.{numbersFit, idFits, sideFits, leafFits, othersFit, nodeFits, isBlank, slotFits}
-use Rattle.rules.specs.Fits.{wordFits, flagFits, carriedFits, ownerFits, routingFits, failedFits, fieldsFit, messageFits}
+use Rattle.rules.specs.Fits.{wordFits, flagFits, carriedFits, ownerFits, routingFits, failedFits, fieldsFit, messageFits, fartherThan, hopsFit}
 use Rattle.rules.specs.Hop.{leafCandidates, routeCandidates, byLeaf, leafHop, routeHop, nextHop, viaOf}
 use Rattle.rules.specs.Leaf.{contentOf, seenFrom, leafWith, overlaps, isEmpty, coversOf}
 use Rattle.rules.specs.Letters.{lookup}
@@ -142,12 +142,12 @@ pub record Answers : Type 0 where
   pub polled-invalid-is-10 : polledNumber (polled.NotAsked no.Invalid) ≡ 10
 
 pub answers : Answers
-unfolding fallOf has gather tally firstTo allTo single meet addOf removeOf sizeOf listed closest numbersFit idFits sideFits leafFits othersFit
-    nodeFits isBlank slotFits wordFits flagFits carriedFits ownerFits routingFits failedFits fieldsFit messageFits seenFrom leafWith alike
-    allDifferent best slotIds slotsTo startNode startNodes startFits idsRise listFits startOf isSound nodesFit messagesFit poolFits validOf
-    bytesOf numberOf encode decode encodeAll decodeAll headerFits offsetsFit statusesFit fileTable partPool filePool loadOf startStep
-    countFor numbersTo countsOf agreeOf isSoundCounted afterBy stepWith loadWith startWith wroteWith writtenWith restWith hasOf firstFor
-    firstOf polledOf
+unfolding fallOf has gather tally firstTo allTo single meet addOf removeOf sizeOf listed closest numbersFit idFits sideFits leafFits
+    othersFit nodeFits isBlank slotFits wordFits flagFits carriedFits ownerFits routingFits failedFits fieldsFit messageFits fartherThan
+    hopsFit nearer risesTo absDistOf signedOf seenFrom leafWith alike allDifferent best slotIds slotsTo startNode startNodes startFits
+    idsRise listFits startOf isSound nodesFit messagesFit poolFits validOf bytesOf numberOf encode decode encodeAll decodeAll headerFits
+    offsetsFit statusesFit fileTable partPool filePool loadOf startStep countFor numbersTo countsOf agreeOf isSoundCounted afterBy stepWith
+    loadWith startWith wroteWith writtenWith restWith hasOf firstFor firstOf polledOf
 answers =
     record {
       has-one = refl;
@@ -199,10 +199,10 @@ pub record Said : Type 0 where
   pub wrong : stepWith uncounted 256 (Forward 0) .via ≡ Unrouted
 
 pub said : Said
-unfolding fallOf signedOf absDistOf risesTo nearer leftCoverOf rightCoverOf coversKey has gather tally firstTo allTo single union meet without
-    addOf removeOf sizeOf lowestOf listed best closest contentOf seenFrom leafWith overlaps isEmpty coversOf leafCandidates routeCandidates byLeaf
-    leafHop routeHop nextHop viaOf alike allDifferent firstFrom firstEqual added removedAt sentTo numbersFit idFits sideFits leafFits othersFit
-    nodeFits isBlank slotFits wordFits flagFits carriedFits ownerFits routingFits failedFits fieldsFit messageFits mailed waits planLookup planDeliver
-    planForward slotIds slotsTo startNode startNodes startFits idsRise listFits startOf nodesFit messagesFit poolFits validOf carriedOut settle deadSet
-    isSound stepOf countFor agreeOf afterBy stepWith
+unfolding fallOf signedOf absDistOf risesTo nearer leftCoverOf rightCoverOf coversKey has gather tally firstTo allTo single union meet
+    without addOf removeOf sizeOf lowestOf listed best closest contentOf seenFrom leafWith overlaps isEmpty coversOf leafCandidates
+    routeCandidates byLeaf leafHop routeHop nextHop viaOf alike allDifferent firstFrom firstEqual added removedAt sentTo numbersFit idFits
+    sideFits leafFits othersFit nodeFits isBlank slotFits wordFits flagFits carriedFits ownerFits routingFits failedFits fieldsFit
+    messageFits fartherThan hopsFit mailed waits planLookup planDeliver planForward slotIds slotsTo startNode startNodes startFits idsRise
+    listFits startOf nodesFit messagesFit poolFits validOf carriedOut settle deadSet isSound stepOf countFor agreeOf afterBy stepWith
 said = record { leaf = refl; refused = refl; looked-up = refl; wrong = refl }

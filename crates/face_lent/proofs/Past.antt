@@ -23,7 +23,7 @@ use Rattle.rules.specs.declared.Planned.{Planned}
 use Rattle.rules.specs.declared.Planned.the-variants.{No, Go}
 use Rattle.rules.specs.declared.Refusal.{Refusal}
 use Rattle.rules.specs.declared.Refusal.the-variants as no
-use Rattle.rules.specs.Fits.{messageFits}
+use Rattle.rules.specs.Fits.{messageFits, hopsFit}
 use Rattle.rules.specs.Plans.{mailed}
 use Rattle.rules.specs.Pool.{blank, messageAt, lay}
 use Rattle.table_type.specs.declared.Stepped.{Stepped}
@@ -32,7 +32,7 @@ use Rattle.table.specs.Settle.{refusedOf, doneOf, carriedOut, settle}
 use Rattle.table_type.specs.Start.{startOf}
 use Rattle.table.specs.Step.{Gone, all-stay, one-goes, probes-go}
 use Rattle.table.specs.Step.{Asked, asked, remaining, plannedOf, actOf, isSound, stepOf}
-use Rattle.table_type.specs.Table.{ringOf}
+use Rattle.table_type.specs.Table.{idsOf, ringOf}
 use Rattle.table.specs.Valid.{messagesFit, poolFits, validOf}
 use Rattle.file.specs.declared.Wrote.{Wrote}
 use Rattle.file.specs.Format.{fileOf}
@@ -85,8 +85,8 @@ module _ (t : Table) (n : ℕ) (xs ys : List Message) (same : take n xs ≡ take
   valid-same : validOf t (poolOf n xs) ≡ validOf t (poolOf n ys)
   unfolding validOf poolFits messagesFit
   valid-same =
-      let each = all-same n (λ s. messageFits (ringOf t) (getD xs s blank)) (λ s. messageFits (ringOf t) (getD ys s blank))
-      (λ s h. ap (messageFits (ringOf t)) (place-same t n xs ys same s h)) in
+      let good : Message → Bool = λ m. messageFits (ringOf t) m && hopsFit (ringOf t) (idsOf t) m in
+      let each = all-same n (λ s. good (getD xs s blank)) (λ s. good (getD ys s blank)) (λ s h. ap good (place-same t n xs ys same s h)) in
       rw (each, same)
 
   sound-same : (len : ℕ) → isSound t (poolOf n xs) len ≡ isSound t (poolOf n ys) len

@@ -4,6 +4,7 @@ use mathlib.Core.Bool.{Bool, true, false}
 use mathlib.Core.List.{List, [], _∷_, _++_}
 use Prim.Native.Nat.{ℕ}
 use lib.ListN.{length, take, replicate}
+use Rattle.ring.specs.Distance.{fallOf, signedOf, absDistOf, risesTo, nearer}
 use Rattle.marks.specs.Marks.{has, tally, allTo, sizeOf, listed}
 use Rattle.rules.specs.declared.Status.{Status}
 use Rattle.rules.specs.declared.Status.the-variants.{Dead, Wait, Ok, Ready}
@@ -13,7 +14,7 @@ use Rattle.rules.specs.declared.Pool.{Pool}
 use Rattle.rules.specs.declared.Refusal.the-variants as no
 use Rattle.rules.specs.declared.Answer.the-variants.{Done, Refused}
 use Rattle.rules.specs.Fits.{numbersFit, idFits, sideFits, leafFits, othersFit, nodeFits, isBlank, slotFits}
-use Rattle.rules.specs.Fits.{wordFits, flagFits, carriedFits, ownerFits, routingFits, failedFits, fieldsFit, messageFits}
+use Rattle.rules.specs.Fits.{wordFits, flagFits, carriedFits, ownerFits, routingFits, failedFits, fieldsFit, messageFits, fartherThan, hopsFit}
 use Rattle.rules.specs.Mail.{alike, allDifferent}
 use Rattle.rules.specs.Nodes.{noNode}
 use Rattle.rules.specs.Numbers.{answerNumber}
@@ -30,9 +31,10 @@ use Rattle.file.specs.Write.{wroteOf, writtenOf}
 
 -- to unfold this is to unfold all that reading and writing compute with
 unfoldable opened : Unit {0}
-unfolding has tally allTo sizeOf listed numbersFit idFits sideFits leafFits othersFit nodeFits isBlank slotFits wordFits flagFits carriedFits
-    ownerFits routingFits failedFits fieldsFit messageFits alike allDifferent isSound nodesFit messagesFit poolFits validOf bytesOf
-    numberOf encode decode encodeAll decodeAll fileOf headerFits offsetsFit statusesFit fileTable partPool filePool loadOf wroteOf writtenOf
+unfolding has tally allTo sizeOf listed numbersFit idFits sideFits leafFits othersFit nodeFits isBlank slotFits wordFits flagFits
+    carriedFits ownerFits routingFits failedFits fieldsFit messageFits fartherThan hopsFit nearer risesTo absDistOf signedOf fallOf alike
+    allDifferent isSound nodesFit messagesFit poolFits validOf bytesOf numberOf encode decode encodeAll decodeAll fileOf headerFits
+    offsetsFit statusesFit fileTable partPool filePool loadOf wroteOf writtenOf
 opened = tt
 
 -- a node: id, status, left, right, probing, failed, routing set, lease, grant
@@ -131,6 +133,13 @@ second id rest = w32 id (w32 1 (w64 0 (w64 1 (w64 1 (w64 1 (w64 2 (w64 0 (w64 0 
 abbrev probe : ℕ → List ℕ → List ℕ
 probe z rest = w32 4 (w32 0 (w32 1 (w32 0 (w32 1 (w32 z (w64 0 (w64 0 (w64 1 (w64 3 rest)))))))))
 
+-- the Lookup of 80 for slot 1, from whose key 17 is farther than 18, by its hops
+abbrev looking : ℕ → List ℕ → List ℕ
+looking hops rest = w32 1 (w32 1 (w32 80 (w32 0 (w32 0 (w32 hops (w64 0 (w64 0 (w64 0 (w64 0 rest)))))))))
+
+abbrev lookupFile : ℕ → List ℕ
+lookupFile hops = header 8 1 2 1 32 160 216 0 (first 3 (second 18 (looking hops [])))
+
 abbrev body : List ℕ
 body = first 3 (second 18 (probe 0 []))
 
@@ -176,6 +185,9 @@ pub record Loads : Type 0 where
   pub status : number (header 8 1 2 1 32 160 216 0 (first 4 (second 18 (probe 0 [])))) 256 ≡ 10
   pub node-record : number (header 8 1 2 1 32 160 216 0 (first 3 (second 17 (probe 0 [])))) 256 ≡ 10
   pub message-record : number (header 8 1 2 1 32 160 216 0 (first 3 (second 18 (probe 1 [])))) 256 ≡ 10
+  -- T-07: the sixth word holds the hops: 0, the bound exactly met, and one more
+  pub hops : (number (lookupFile 0) 256 ≡ 0) × (loadOf (lookupFile 1) before (laid []) 256 ≡ doneOf table (laid (message 1 1 80 0 0 1 0 0 0 0 ∷ [])))
+      × (number (lookupFile 2) 256 ≡ 10)
   -- 8 before 9; 9 before the list, and before the records
   pub eight-first : number (header 33 1 2 1 33 160 216 0 body) 255 ≡ 8
   pub nine-first : (number (header 8 1 2 1 33 160 216 0 body) 255 ≡ 9)
@@ -202,6 +214,7 @@ loads =
       status = refl;
       node-record = refl;
       message-record = refl;
+      hops = (refl, refl, refl);
       eight-first = refl;
       nine-first = (refl, refl);
     }

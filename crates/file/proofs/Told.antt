@@ -37,6 +37,7 @@ module _ {t : Table} {p : Pool} (v : Sound t p) where
         blank = v .blank;
         counted = rw long (v .counted);
         message = λ q h. rw (same q h) (v .message q (omega arith));
+        hops = λ q h. rw (same q h) (v .hops q (omega arith));
         different = rw (take-append-seam (waiting p)) (v .different);
       }
     where

@@ -11,7 +11,7 @@ use Rattle.rules.specs.declared.Node.{Node}
 use Rattle.rules.specs.declared.Status.{Status}
 use Rattle.rules.specs.declared.Status.the-variants.{Wait, Ready}
 use Rattle.rules.specs.Fits.{numbersFit, idFits, sideFits, leafFits, othersFit, nodeFits, isBlank, slotFits}
-use Rattle.rules.specs.Fits.{wordFits, flagFits, carriedFits, ownerFits, routingFits, failedFits, fieldsFit, messageFits}
+use Rattle.rules.specs.Fits.{wordFits, flagFits, carriedFits, ownerFits, routingFits, failedFits, fieldsFit, messageFits, fartherThan, hopsFit}
 use Rattle.rules.specs.Closest.{closest}
 use Rattle.rules.specs.Hop.{leafCandidates, routeCandidates, byLeaf, leafHop, routeHop, nextHop, viaOf}
 use Rattle.rules.specs.Leaf.{contentOf, seenFrom, leafWith, overlaps, coversOf}
@@ -37,12 +37,12 @@ use Rattle.file_list.specs.Print.{headline, refusedWord, lineOf, linesOf
 
 -- to unfold this is to unfold all that the listing computes with
 opened : Unit {0}
-unfolding listingOf loadOf headerFits offsetsFit statusesFit fileTable filePool partPool decode decodeAll numberOf decimal decimalTo lineOf linesOf
-    followOf tripOf validOf numbersFit nodesFit slotFits idFits nodeFits leafFits sideFits othersFit isBlank listed sizeOf tally has allTo
-    poolFits messagesFit messageFits fieldsFit wordFits flagFits carriedFits ownerFits routingFits failedFits allDifferent alike stepOf isSound
-    settle carriedOut mailed sentTo planDeliver planForward coversOf seenFrom best coversKey leftCoverOf rightCoverOf fallOf nextHop viaOf byLeaf
-    overlaps meet gather leafHop routeHop leafCandidates routeCandidates contentOf union addOf without removeOf nearer absDistOf signedOf
-    risesTo deadSet firstEqual firstFrom added removedAt
+unfolding listingOf loadOf headerFits offsetsFit statusesFit fileTable filePool partPool decode decodeAll numberOf decimal decimalTo lineOf
+    linesOf followOf tripOf validOf numbersFit nodesFit slotFits idFits nodeFits leafFits sideFits othersFit isBlank listed sizeOf tally has
+    allTo poolFits messagesFit messageFits fartherThan hopsFit fieldsFit wordFits flagFits carriedFits ownerFits routingFits failedFits
+    allDifferent alike stepOf isSound settle carriedOut mailed sentTo planDeliver planForward coversOf seenFrom best coversKey leftCoverOf
+    rightCoverOf fallOf nextHop viaOf byLeaf overlaps meet gather leafHop routeHop leafCandidates routeCandidates contentOf union addOf
+    without removeOf nearer absDistOf signedOf risesTo deadSet firstEqual firstFrom added removedAt
 opened = tt
 
 unfoldable pub workedFile : List ℕ

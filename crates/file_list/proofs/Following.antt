@@ -22,8 +22,8 @@ use Rattle.rules.specs.declared.Refusal.the-variants as no
 use Rattle.rules.specs.declared.Via.{Via}
 use Rattle.rules.specs.declared.Via.the-variants.{Unrouted}
 use Rattle.rules.specs.InnerAsks.{Listed, Below}
-use Rattle.rules.specs.Fits.{messageFits}
-use Rattle.rules.specs.Letters.{lookup, noLegalRoute}
+use Rattle.rules.specs.Fits.{messageFits, fartherThan}
+use Rattle.rules.specs.Letters.{lookupAfter, noLegalRoute}
 use Rattle.rules.specs.Mail.{firstFrom, firstEqual, added, removedAt, allDifferent}
 use Rattle.rules.specs.Nodes.{placed}
 use Rattle.rules.specs.Numbers.{viaNumber}
@@ -38,6 +38,7 @@ use Rattle.table.specs.Settle.{refusedOf, doneBy, doneOf, carriedOut, settle}
 use Rattle.table.specs.Step.{isSound, stepOf}
 use Rattle.table.specs.Valid.{validOf}
 use Rattle.table.proofs.Letters.{lookup-fits}
+use Rattle.table.proofs.Hops.{Within, within-lookup, lookup-within, farther-grows}
 use Rattle.table.proofs.Obeys.{Obeys, obeys}
 use Rattle.table.proofs.Sound.{Sound, sound, sound-valid}
 use Rattle.lookup_laws.specs.Claims.{Nearer}
@@ -61,28 +62,33 @@ pub record Lone (t : Table) (m : Message) : Type 0 where
   pub is-lookup : m .kind ≡ 1
 
 -- a message that obeys its kind may take the place of all others
-sound-only : {t : Table} {p : Pool} → Sound t p → (m : Message) → messageFits (ringOf t) m ≡ true → Sound t (only m)
+sound-only : {t : Table} {p : Pool} → Sound t p → (m : Message) → messageFits (ringOf t) m ≡ true → Within (ringOf t) (idsOf t) m → Sound t (only m)
 unfolding allDifferent allTo
-sound-only {t} s m e =
+sound-only {t} s m e w =
     record {
       numbers = s .numbers;
       listed = s .listed;
       node = s .node;
       blank = s .blank;
       counted = omega arith;
-      message = first;
+      message = first (λ x. messageFits (ringOf t) x ≡ true) e;
+      hops = first (Within (ringOf t) (idsOf t)) w;
       different = refl;
     }
   where
-    first : (q : ℕ) → q < 1 → messageFits (ringOf t) (messageAt (only m) q) ≡ true
-    first zero h = e
-    first (suc q) h = absurd (omega arith)
+    first : (C : Message → Type 0) → C m → (q : ℕ) → q < 1 → C (messageAt (only m) q)
+    first C e zero h = e
+    first C e (suc q) h = absurd (omega arith)
+
+-- m forwarded to h: one hop more
+abbrev pub farther : Message → ℕ → Message
+farther m h = placed (lookupAfter (m .hops + 1) (m .word)) h
 
 -- each waiting Lookup of a valid table is one
 pub lone : (t : Table) (p : Pool) → validOf t p ≡ true → (q : ℕ) → q < p .count → messageAt p q .kind ≡ 1 → Lone t (messageAt p q)
 lone t p e q h k =
     let s = sound t p e in
-    record { valid = sound-valid (sound-only s (messageAt p q) (s .message q h)); is-lookup = k }
+    record { valid = sound-valid (sound-only s (messageAt p q) (s .message q h) (s .hops q h)); is-lookup = k }
 
 -- ---- the pair on it
 
@@ -107,7 +113,7 @@ pub data Does (t : Table) (m : Message) : Turn → Type 0 where
   stops : Halts t m → Does t m Stops
   delivers : delivered t m ≡ doneOf t (laid []) → Does t m Delivers
   strands : Passes t m Unrouted (placed (noLegalRoute (m .word)) (m .dest)) → Does t m Stops
-  routes : (h : ℕ) → hopAt t (m .dest) (m .word) ≡ To h → Passes t m (viaAt t (m .dest) h) (placed (lookup (m .word)) h) → Does t m (Goes h)
+  routes : (h : ℕ) → hopAt t (m .dest) (m .word) ≡ To h → Passes t m (viaAt t (m .dest) h) (farther m h) → Does t m (Goes h)
 
 stops-goes : {h : ℕ} → Stops ≡ Goes h → ⊥
 stops-goes q = let z : _≡_ {A = ℕ} 0 1 = cc in omega arith
@@ -124,7 +130,7 @@ module _ {t : Table} {m : Message} (l : Lone t m) where
   unfolding stepOf isSound removedAt
   deliver-is = rw (l .valid, l .is-lookup)
 
-  forward-is : forwarded t m ≡ settle t (only m) [] (m .dest) (forwardAt t (m .dest) (m .word))
+  forward-is : forwarded t m ≡ settle t (only m) [] (m .dest) (forwardAt t (m .dest) (m .word) (m .hops))
   unfolding stepOf isSound removedAt
   forward-is = rw (l .valid, l .is-lookup)
 
@@ -169,10 +175,18 @@ module _ {t : Table} {m : Message} (l : Lone t m) where
     near : (h < t .n) × Nearer t (m .word) h (m .dest)
     near = hop-nearer lone-sound (m .word) (m .dest) h lone-slot e
 
-    pub lone-routed : Lone t (placed (lookup (m .word)) h)
+    -- its hops are within the bound again
+    more : m .hops + 1 ≤ fartherThan (ringOf t) (idsOf t) (m .word) h
+    more =
+        let low = within-lookup (ringOf t) (idsOf t) m (lone-sound .hops 0 (omega arith)) (l .is-lookup) in
+        let grown = farther-grows (ringOf t) (idsOf t) (m .word) (m .dest) h lone-slot (near .1) in
+        omega arith
+
+    pub lone-routed : Lone t (farther m h)
     lone-routed =
-        let fits = lookup-fits (ringOf t) h (near .0) (m .word) lone-key in
-        record { valid = sound-valid (sound-only lone-sound _ fits); is-lookup = refl }
+        let fits = lookup-fits (ringOf t) h (near .0) (m .hops + 1) (m .word) lone-key in
+        let within = lookup-within (ringOf t) (idsOf t) (m .hops + 1) (m .word) h more in
+        record { valid = sound-valid (sound-only lone-sound (farther m h) fits within); is-lookup = refl }
 
     routed-falls : nearerListed t (m .word) h < nearerListed t (m .word) (m .dest)
     routed-falls = nearer-falls (t .m) (t .n) (idsOf t) (m .word) h (m .dest) (near .0) (near .1)
@@ -231,7 +245,7 @@ trip-is (suc n) {t} {m} l letters =
   where
     go : (x : Turn) → Does t m x
         → ((h : ℕ) → hopAt t (m .dest) (m .word) ≡ To h
-        → tripOf n t (only (placed (lookup (m .word)) h)) (lettered t (m .dest) h letters)
+        → tripOf n t (only (farther m h)) (lettered t (m .dest) h letters)
         ≡ followTo n t (m .word) h (lettered t (m .dest) h letters))
         → tripOf (suc n) t (only m) letters
         ≡ onward x (m .dest) letters (λ h. followTo n t (m .word) h (lettered t (m .dest) h letters))
@@ -255,9 +269,9 @@ pub data Travels (t : Table) : Message → Found → List ℕ → Type 0 where
   arrived : {m : Message} → delivered t m ≡ doneOf t (laid []) → Travels t m (At (m .dest)) []
   -- no legal route: NoLegalRoute waits
   stranded : {m : Message} → Passes t m Unrouted (placed (noLegalRoute (m .word)) (m .dest)) → Travels t m Nothing []
-  -- forwarded: the same Lookup waits at another slot
-  routed : {m : Message} {h : ℕ} {via : Via} {end : Found} {letters : List ℕ} → Passes t m via (placed (lookup (m .word)) h)
-      → Travels t (placed (lookup (m .word)) h) end letters → Travels t m end (viaNumber via ∷ letters)
+  -- forwarded: the same Lookup waits at another slot, with one hop more
+  routed : {m : Message} {h : ℕ} {via : Via} {end : Found} {letters : List ℕ} → Passes t m via (farther m h)
+      → Travels t (farther m h) end letters → Travels t m end (viaNumber via ∷ letters)
 
 -- whatever such a journey is, following tells it
 pub travels-trip : {t : Table} {m : Message} {end : Found} {more : List ℕ} → Travels t m end more → (n : ℕ) (letters : List ℕ) → length more < n
@@ -286,7 +300,7 @@ journey-in (suc n) {t} {m} l f =
     ends : (e : Found) → Below e (t .n) → Travels t m e [] → Journey t m
     ends e b w = record { end = e; letters = []; travels = w; few = omega arith; below = b }
 
-    go : (x : Turn) → Does t m x → ((h : ℕ) → hopAt t (m .dest) (m .word) ≡ To h → Journey t (placed (lookup (m .word)) h)) → Journey t m
+    go : (x : Turn) → Does t m x → ((h : ℕ) → hopAt t (m .dest) (m .word) ≡ To h → Journey t (farther m h)) → Journey t m
     go x (stops s) on = ends Nothing tt (stopped s)
     go x (delivers s) on = ends (At (m .dest)) (lone-slot l) (arrived s)
     go x (strands s) on = ends Nothing tt (stranded s)

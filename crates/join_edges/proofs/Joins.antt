@@ -21,7 +21,7 @@ use Rattle.rules.specs.Leaf.{contentOf, seenFrom, leafWith, leafWithOne, overla
 use Rattle.rules.specs.Hop.{leafCandidates, routeCandidates, byLeaf, leafHop, routeHop, nextHop}
 use Rattle.rules.specs.Mail.{alike, allDifferent, firstFrom, firstEqual, added, removedAt, sentTo}
 use Rattle.rules.specs.Fits.{numbersFit, idFits, sideFits, leafFits, othersFit, nodeFits, isBlank, slotFits}
-use Rattle.rules.specs.Fits.{wordFits, flagFits, carriedFits, ownerFits, routingFits, failedFits, fieldsFit, messageFits}
+use Rattle.rules.specs.Fits.{wordFits, flagFits, carriedFits, ownerFits, routingFits, failedFits, fieldsFit, messageFits, fartherThan, hopsFit}
 use Rattle.rules.specs.Plans.{mailed}
 use Rattle.rules.specs.Actions.{waits, joinWaits, planJoin, leasePlan, planRequestLease, isNeighbour}
 use Rattle.rules.specs.Take.{planDeliver, planForward, planTakeJoinRequest, planTakeJoinReply, probes2, probesOf, probePlanOf, planTakeProbe}
@@ -96,10 +96,10 @@ pub record Joined : Type 0 where
 pub joined : Joined
 unfolding fallOf signedOf absDistOf risesTo nearer leftCoverOf rightCoverOf coversKey has gather tally firstTo allTo single union meet
     without addOf removeOf sizeOf lowestOf listed best closest contentOf seenFrom leafWith leafWithOne overlaps isFull isComplete isEmpty
-    coversOf leafCandidates routeCandidates byLeaf leafHop routeHop nextHop alike allDifferent firstFrom firstEqual added removedAt
-    sentTo numbersFit idFits sideFits leafFits othersFit nodeFits isBlank slotFits wordFits flagFits carriedFits ownerFits routingFits
-    failedFits fieldsFit messageFits mailed waits joinWaits planJoin leasePlan planRequestLease isNeighbour planDeliver planForward
+    coversOf leafCandidates routeCandidates byLeaf leafHop routeHop nextHop alike allDifferent firstFrom firstEqual added removedAt sentTo
+    numbersFit idFits sideFits leafFits othersFit nodeFits isBlank slotFits wordFits flagFits carriedFits ownerFits routingFits failedFits
+    fieldsFit messageFits fartherThan hopsFit mailed waits joinWaits planJoin leasePlan planRequestLease isNeighbour planDeliver planForward
     planTakeJoinRequest planTakeJoinReply probes2 probesOf probePlanOf planTakeProbe statusAfterReply replyPlanOf planTakeProbeReply
-    planTakeLeaseRequest broadcastPlan planTakeBroadcast planTake slotIds slotsTo startNode startNodes startFits idsRise listFits
-    startOf nodesFit messagesFit poolFits validOf carriedOut settle readySet deadSet settledAt isSettled isSound stepOf
+    planTakeLeaseRequest broadcastPlan planTakeBroadcast planTake slotIds slotsTo startNode startNodes startFits idsRise listFits startOf
+    nodesFit messagesFit poolFits validOf carriedOut settle readySet deadSet settledAt isSettled isSound stepOf
 joined = record { one = refl; three = refl; three-and-one = refl; two-and-one = refl; one-and-one = refl }

@@ -28,7 +28,7 @@ use Rattle.rules.specs.Leaf.{contentOf, seenFrom, leafWith, leafWithOne, overla
 use Rattle.rules.specs.Hop.{leafCandidates, routeCandidates, byLeaf, leafHop, routeHop, nextHop}
 use Rattle.rules.specs.Mail.{alike, allDifferent, firstFrom, firstEqual, added, removedAt, sentTo}
 use Rattle.rules.specs.Fits.{numbersFit, idFits, sideFits, leafFits, othersFit, nodeFits, isBlank, slotFits}
-use Rattle.rules.specs.Fits.{wordFits, flagFits, carriedFits, ownerFits, routingFits, failedFits, fieldsFit, messageFits}
+use Rattle.rules.specs.Fits.{wordFits, flagFits, carriedFits, ownerFits, routingFits, failedFits, fieldsFit, messageFits, fartherThan, hopsFit}
 use Rattle.rules.specs.Plans.{isDead, mailed}
 use Rattle.rules.specs.Actions.{waits, joinWaits, planJoin, leasePlan, planRequestLease, isNeighbour, planGrantExpired}
 use Rattle.rules.specs.Take.{planTakeJoinRequest, planTakeJoinReply, probes2, probesOf, probePlanOf, planTakeProbe}
@@ -177,7 +177,7 @@ unfolding fallOf signedOf absDistOf risesTo nearer leftCoverOf rightCoverOf cove
     without addOf removeOf sizeOf lowestOf listed best closest contentOf seenFrom leafWith leafWithOne overlaps isFull isComplete isEmpty
     coversOf leafCandidates routeCandidates byLeaf leafHop routeHop nextHop alike allDifferent firstFrom firstEqual added removedAt
     sentTo numbersFit idFits sideFits leafFits othersFit nodeFits isBlank slotFits wordFits flagFits carriedFits ownerFits routingFits
-    failedFits fieldsFit messageFits mailed waits joinWaits planJoin leasePlan planRequestLease isNeighbour planGrantExpired
+    failedFits fieldsFit messageFits fartherThan hopsFit mailed waits joinWaits planJoin leasePlan planRequestLease isNeighbour planGrantExpired
     planTakeJoinRequest planTakeJoinReply probes2 probesOf probePlanOf planTakeProbe statusAfterReply replyPlanOf planTakeProbeReply
     planTakeLeaseRequest broadcastPlan planTakeBroadcast planTake withoutProbes replyWaits endsToProbe lastEnd planNodeLeft
     planSuspectFaulty planProbeTimeOut planDeclareDead planLSRepair planResignNode planRecover slotIds slotsTo startNode startNodes

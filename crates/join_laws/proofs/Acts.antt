@@ -120,7 +120,7 @@ module _ {t : Table} {p : Pool} (s : Sound t p) (c : Clauses t p) where
       deliver-good (viewOf t) (m .dest) (c .nodes) (slot-in-range s (Deliver place) e) (m .kind) (m .word)
   planned-good (Forward place) e stay none =
       let m = messageAt p place in
-      forward-lookup-good (viewOf t) (m .dest) (c .nodes) (slot-in-range s (Forward place) e) (m .kind) (deadSet t) (m .word)
+      forward-lookup-good (viewOf t) (m .dest) (c .nodes) (slot-in-range s (Forward place) e) (m .kind) (deadSet t) (m .word) (m .hops)
   planned-good (NodeLeft i) e stay none = absurd (clash (sym stay))
   planned-good (SuspectFaulty i j) e stay none = suspect-faulty-good (viewOf t) i (c .nodes) (fitting s) (slot-in-range s (SuspectFaulty i j) e) j
   planned-good (ProbeTimeOut i j) e stay none = absurd (clash (sym stay))

@@ -3,7 +3,7 @@
 use mathlib.Core.Path.{_≡_, refl, sym, _∙_}
 use mathlib.Core.Logic.{_⊎_, inl, inr, ⊎-elim}
 use mathlib.Core.Bool.{Bool, true, false, cond, _&&_}
-use Prim.Native.Nat.{ℕ, _<_}
+use Prim.Native.Nat.{ℕ, _+_, _<_}
 use native.Mathlib.Omega.{arith}
 use lib.Dec.{eqb}
 use borrow.Author.Tests.{eqb-true}
@@ -19,7 +19,7 @@ use Rattle.rules.specs.declared.Planned.the-variants.{Go}
 use Rattle.rules.specs.Actions.{isNeighbour, leasePlan, planLookup, planRequestLease, planLeaseExpired, planGrantExpired}
 use Rattle.rules.specs.Hop.{nextHop}
 use Rattle.rules.specs.Leaf.{contentOf}
-use Rattle.rules.specs.Letters.{lookup, joinRequest, noLegalRoute, leaseRequest, broadcastLSet}
+use Rattle.rules.specs.Letters.{lookup, lookupAfter, joinRequest, noLegalRoute, leaseRequest, broadcastLSet}
 use Rattle.rules.specs.Nodes.{sidesOf, placed}
 use Rattle.rules.specs.Plans.{isDead, isWait, isReady, isUp, withLeases, quietPlan}
 use Rattle.rules.specs.Take.{forwardPlan, grantPlan, planDeliver, planForward, planTakeLeaseRequest}
@@ -67,8 +67,8 @@ cond-up false a s e f = f
 module _ (t : View) (i : ℕ) (c : Calm t) (h : i < t .ring .n) where
   -- ---- letters of which nothing is asked
 
-  free-lookup : (k s : ℕ) → Fair (put t i (t .at i)) (placed (lookup k) s)
-  free-lookup k s = fair-free _ (λ e. omega arith) (λ e. omega arith) (λ e. omega arith) (λ e. omega arith) (λ e. omega arith)
+  free-lookup : (hops k s : ℕ) → Fair (put t i (t .at i)) (placed (lookupAfter hops k) s)
+  free-lookup hops k s = fair-free _ (λ e. omega arith) (λ e. omega arith) (λ e. omega arith) (λ e. omega arith) (λ e. omega arith)
 
   free-no-route : (k s : ℕ) → Fair (put t i (t .at i)) (placed (noLegalRoute k) s)
   free-no-route k s = fair-free _ (λ e. omega arith) (λ e. omega arith) (λ e. omega arith) (λ e. omega arith) (λ e. omega arith)
@@ -86,7 +86,7 @@ module _ (t : View) (i : ℕ) (c : Calm t) (h : i < t .ring .n) where
 
   pub lookup-good : (waiting : Bool) (k : ℕ) (x : Plan) → planLookup waiting i k (t .at i) ≡ Go x → Good t i x
   lookup-good waiting k x e =
-      rw (told-lookup waiting i k (t .at i) x e) (kept-good t i c h _ refl (sends-one (t .at i) (lookup k) i (free-lookup k i)))
+      rw (told-lookup waiting i k (t .at i) x e) (kept-good t i c h _ refl (sends-one (t .at i) (lookup k) i (free-lookup 0 k i)))
 
   lease-good : Good t i (leasePlan (t .ring) (t .ids) i (t .at i))
   unfolding leasePlan
@@ -127,10 +127,10 @@ module _ (t : View) (i : ℕ) (c : Calm t) (h : i < t .ring .n) where
   pub deliver-good : (kind k : ℕ) (x : Plan) → planDeliver kind (t .ring) (t .ids) i (t .at i) k ≡ Go x → Good t i x
   deliver-good kind k x e = rw (told-deliver kind (t .ring) (t .ids) i (t .at i) k x e) (kept-good t i c h _ refl (sends-none (t .at i)))
 
-  pub forward-lookup-good : (kind dead k : ℕ) (x : Plan) → planForward kind (t .ring) (t .ids) dead i (t .at i) k ≡ Go x → Good t i x
-  forward-lookup-good kind dead k x e =
-      rw (told-forward kind (t .ring) (t .ids) dead i (t .at i) k x e)
-      (forward-good (nextHop (t .ring) (t .ids) dead i (t .at i) k) (lookup k) k (free-lookup k))
+  pub forward-lookup-good : (kind dead k hops : ℕ) (x : Plan) → planForward kind (t .ring) (t .ids) dead i (t .at i) k hops ≡ Go x → Good t i x
+  forward-lookup-good kind dead k hops x e =
+      rw (told-forward kind (t .ring) (t .ids) dead i (t .at i) k hops x e)
+      (forward-good (nextHop (t .ring) (t .ids) dead i (t .at i) k) (lookupAfter (hops + 1) k) k (free-lookup (hops + 1) k))
 
   -- ---- Take of a JoinRequest, passed on: 5 of the letter is 5 of the one taken
 

@@ -4,7 +4,7 @@ use mathlib.Core.Path.{_≡_, refl}
 use mathlib.Core.Logic.{_⊎_, inl, inr}
 use mathlib.Core.Bool.{Bool, true, false, cond, _&&_, _||_, not}
 use mathlib.Core.List.{List}
-use Prim.Native.Nat.{ℕ}
+use Prim.Native.Nat.{ℕ, _+_}
 use lib.Dec.{eqb}
 use borrow.Author.Tests.{not-false, eqb-false}
 use Rattle.marks.proofs.Bools.{or-fails-left}
@@ -22,7 +22,7 @@ use Rattle.rules.specs.Hop.{nextHop}
 use Rattle.rules.specs.Leaf.{contentOf, leafWith, isComplete, isEmpty, coversOf}
 use Rattle.rules.specs.Leave.{emptied, probingPlan, endsToProbe, lastEnd, lacksSide, lacksBoth}
 use Rattle.rules.specs.Leave.{planSuspectFaulty, planDeclareDead, planLSRepair, planResignNode, planRecover}
-use Rattle.rules.specs.Letters.{lookup, joinRequest, joinReply}
+use Rattle.rules.specs.Letters.{lookup, lookupAfter, joinRequest, joinReply}
 use Rattle.rules.specs.Nodes.{sidesOf, carriedOf}
 use Rattle.rules.specs.Pick.{idAt}
 use Rattle.rules.specs.Plans.{isDead, isWait, isReady, isOk, isUp, withStatus, withLeases, quietPlan, sendPlan}
@@ -137,10 +137,10 @@ told-deliver kind g ids i v k x e =
     let b = passed (not (isReady (v .status))) _ _ (a .1) in
     go-same (passed (not (coversOf g ids i (sidesOf v) k)) _ _ (b .1) .1)
 
-pub told-forward : (kind : ℕ) (g : Ring) (ids : List ℕ) (dead i : ℕ) (v : Node) (k : ℕ) (x : Plan) → planForward kind g ids dead i v k ≡ Go x
-    → x ≡ forwardPlan (nextHop g ids dead i v k) v (lookup k) k i
+pub told-forward : (kind : ℕ) (g : Ring) (ids : List ℕ) (dead i : ℕ) (v : Node) (k hops : ℕ) (x : Plan)
+    → planForward kind g ids dead i v k hops ≡ Go x → x ≡ forwardPlan (nextHop g ids dead i v k) v (lookupAfter (hops + 1) k) k i
 unfolding planForward
-told-forward kind g ids dead i v k x e =
+told-forward kind g ids dead i v k hops x e =
     let a = passed (not (eqb kind 1)) _ _ e in
     let b = passed (not (isReady (v .status))) _ _ (a .1) in
     go-same (passed (coversOf g ids i (sidesOf v) k) _ _ (b .1) .1)

@@ -33,7 +33,7 @@ pub fn seen(w: Way, g: Ring, ids: &[u32; 64], i: usize, set: u64) -> usize
 }
 
 // The slot d steps up from i, or d steps down, wrapping at n.
-fn along(up: bool, i: usize, n: usize, d: usize) -> usize
+pub fn along(up: bool, i: usize, n: usize, d: usize) -> usize
     requires { ⌜ (i < n) × (d < n) × (n ≤ 64) ⌝ }
     ensures { λ r. ⌜ (r < n) × (stepsOf up n i r ≡ d) ⌝ }
 {

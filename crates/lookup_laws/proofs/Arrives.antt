@@ -20,7 +20,7 @@ use Rattle.rules.specs.declared.Message.{Message}
 use Rattle.rules.specs.declared.Pool.{Pool}
 use Rattle.rules.specs.declared.Action.the-variants.{Deliver, Forward}
 use Rattle.rules.specs.declared.Answer.the-variants.{Done}
-use Rattle.rules.specs.Letters.{lookup}
+use Rattle.rules.specs.Letters.{lookup, lookupAfter}
 use Rattle.rules.specs.Mail.{fieldsOf, alike, firstEqual, removedAt}
 use Rattle.rules.specs.Nodes.{placed}
 use Rattle.rules.specs.Pick.{idAt}
@@ -34,7 +34,7 @@ use Rattle.table.specs.Valid.{validOf}
 use Rattle.table.proofs.Sound.{Sound, sound}
 use Rattle.table.proofs.By.{step-done}
 use Rattle.table.proofs.Proved.{keeps-valid}
-use Rattle.lookup_laws.specs.Journey.{stepped, LookupAt, delivered, routed, fateOf, Delivers, here, on}
+use Rattle.lookup_laws.specs.Journey.{stepped, hopsAt, LookupAt, delivered, routed, fateOf, Delivers, here, on}
 use Rattle.lookup_laws.specs.Claims.{Nearer, Ready, Alone, SettledArrives}
 use Rattle.lookup_laws.proofs.Stands.{count-is}
 use Rattle.lookup_laws.specs.Fates.{others, coversAt, hopAt, Tracked}
@@ -151,6 +151,7 @@ module _ (t : Table) (s : isSettled t ≡ true) (k : ℕ) (hk : k < 2 ^ t .m) (y
     goes h c to falls rest =
         let place = length (others p q) in
         let next = stepped t p (Forward q) in
+        let sent = placed (lookupAfter (hopsAt p q + 1) k) h in
         let none : firstEqual (others p q) (placed (lookup k) h) ≡ Nothing = rw o (without-found k h ys w) in
         let fate : fateOf t p q (Forward q) ≡ routed h place = fate-forwarded t p q k d e l r c ∙ rw (to, none) in
         let told = subst (Tracked t p q k d (Forward q)) fate (tracked t p q k d (Forward q) e l) in
@@ -158,7 +159,7 @@ module _ (t : Table) (s : isSettled t ≡ true) (k : ℕ) (hk : k < 2 ^ t .m) (y
         let valid : validOf t (next .pool) ≡ true = rw same at (keeps-valid t p 256 (Forward q) (forward-done t p q k d e l r c)) in
         let left : others (next .pool) place ≡ ys =
         ap (λ (x : Stepped). others (x .pool) place) (told .took .leaves)
-        ∙ rw (waiting-laid (others p q ++ (placed (lookup k) h ∷ []))) (last-removed (others p q) (placed (lookup k) h) ∙ o) in
+        ∙ rw (waiting-laid (others p q ++ (sent ∷ []))) (last-removed (others p q) sent ∙ o) in
         one-more c h place fate same falls (rest (next .pool) place valid (told .now) left)
 
   settles : (fuel : ℕ) (p : Pool) (q d : ℕ) → validOf t p ≡ true → LookupAt p q k d → Ready t d → others p q ≡ ys
@@ -203,7 +204,7 @@ never-both t {p} {q} {k} {d} l a b =
     let x = step-done t p 256 (Deliver q) a in
     let y = step-done t p 256 (Forward q) b in
     opposed (delivers t k d (x .0) (sym (deliver-is t p q k d (x .1 .sound) l) ∙ x .1 .plan) .covers)
-    (forwards t k d (y .0) (sym (forward-is t p q k d (y .1 .sound) l) ∙ y .1 .plan) .uncovered)
+    (forwards t k d (hopsAt p q) (y .0) (sym (forward-is t p q k d (y .1 .sound) l) ∙ y .1 .plan) .uncovered)
 
 pub delivers-one : {k : ℕ} {t u u′ : Table} {p r r′ : Pool} {q m m′ e e′ : ℕ} → Delivers k t p q m e u r → Delivers k t p q m′ e′ u′ r′
     → (m ≡ m′) × (e ≡ e′) × (u ≡ u′) × (r ≡ r′)

@@ -9,4 +9,5 @@ pub mod Arrives
 pub mod Limits
 pub mod Unheld
 pub mod Pair
+pub mod Carried
 pub mod Proved

@@ -12,6 +12,7 @@ use Rattle.ring.specs.Distance.{fallOf, signedOf, absDistOf, risesTo, nearer, l
 use Rattle.marks.proofs.Bools.{opposed}
 use Rattle.marks.proofs.Laws.{all-same}
 use Rattle.marks.specs.Marks.{has, gather, tally, allTo, single, union, meet, without, addOf, removeOf, sizeOf, listed}
+use Rattle.marks.specs.declared.Found.the-variants.{At, Nothing}
 use Rattle.rules.specs.declared.Status.{Status}
 use Rattle.rules.specs.declared.Status.the-variants as status
 use Rattle.rules.specs.declared.Way.the-variants.{Up, Down}
@@ -24,7 +25,7 @@ use Rattle.rules.specs.declared.Answer.the-variants.{Refused}
 use Rattle.rules.specs.Actions.{isNeighbour, planLeaseExpired}
 use Rattle.rules.specs.Closest.{closest}
 use Rattle.rules.specs.Fits.{numbersFit, idFits, sideFits, leafFits, othersFit, nodeFits, isBlank, slotFits}
-use Rattle.rules.specs.Fits.{wordFits, flagFits, carriedFits, ownerFits, routingFits, failedFits, fieldsFit, messageFits}
+use Rattle.rules.specs.Fits.{wordFits, flagFits, carriedFits, ownerFits, routingFits, failedFits, fieldsFit, messageFits, fartherThan, hopsFit}
 use Rattle.rules.specs.Hop.{leafCandidates, routeCandidates, byLeaf, leafHop, routeHop, nextHop}
 use Rattle.rules.specs.Leaf.{contentOf, seenFrom, leafWith, overlaps, coversOf}
 use Rattle.rules.specs.Leave.{withoutProbes, planProbeTimeOut}
@@ -43,9 +44,10 @@ use Rattle.table_type.specs.Start.{slotIds, slotsTo, startNode, startNodes, sta
 use Rattle.table.specs.Step.{isSound, stepOf}
 use Rattle.table_type.specs.Table.{nodeAt, withNode}
 use Rattle.table.specs.Valid.{nodesFit, messagesFit, poolFits, validOf}
-use Rattle.lookup_laws.specs.Journey.{stepped, LookupAt, Fate, stays, routed, met, delivered, unroutable, fateOf, routings, Delivers}
+use Rattle.lookup_laws.specs.Journey.{stepped, hopsAt, LookupAt, Fate, stays, routed, met, delivered, unroutable, fateOf, routings, Delivers}
 use Rattle.lookup_laws.specs.Journey.{here, on}
-use Rattle.lookup_laws.specs.Pair.{forwardsAt}
+use Rattle.lookup_laws.specs.Pair.{forwardsAt, poolAfter}
+use Rattle.lookup_laws.specs.Carried.{placeAfter}
 use Rattle.lookup_laws.specs.Claims.{Ready, Alone, Arrives}
 use Rattle.lookup_laws.proofs.Holder.{nextOf}
 use Rattle.lookup_laws.specs.Joining.{leftAt, rightAt}
@@ -53,7 +55,7 @@ use Rattle.lookup_laws.specs.Joining.{leftAt, rightAt}
 -- to unfold this is to unfold all that the tests and steps on small tables compute with
 unfoldable pub opened : Unit {0}
 unfolding validOf numbersFit nodesFit slotFits idFits nodeFits leafFits sideFits othersFit isBlank listed sizeOf tally has allTo poolFits
-    messagesFit messageFits fieldsFit wordFits flagFits carriedFits ownerFits routingFits failedFits allDifferent alike fateOf
+    messagesFit messageFits fartherThan hopsFit fieldsFit wordFits flagFits carriedFits ownerFits routingFits failedFits allDifferent alike fateOf
     routings stepOf isSound settle carriedOut mailed sentTo planTake planDeliver planForward planLeaseExpired isNeighbour coversOf seenFrom
     best coversKey leftCoverOf rightCoverOf fallOf nextHop byLeaf overlaps meet gather leafHop routeHop leafCandidates
     routeCandidates contentOf union addOf without removeOf nearer absDistOf signedOf risesTo deadSet readySet settledAt isSettled
@@ -89,6 +91,11 @@ chain-valid = refl
 pub chain-routings : routings chain (only 0 3) (Forward 0 ∷ Forward 0 ∷ Forward 0 ∷ Deliver 0 ∷ []) 0 ≡ chain .n - 1
 unfolding chain opened
 chain-routings = refl
+
+-- after one of them it waits at 2, with one hop (T-07)
+pub chain-carries : (placeAfter chain (only 0 3) (Forward 0 ∷ []) 0 ≡ At 0) × (hopsAt (poolAfter chain (only 0 3) (Forward 0 ∷ [])) 0 ≡ 1)
+unfolding chain placeAfter poolAfter opened
+chain-carries = (refl, refl)
 
 -- a refused Deliver falls before a routing
 pub refused-between : routings chain (only 0 3) (Deliver 0 ∷ Forward 0 ∷ []) 0 ≡ 1
@@ -341,6 +348,11 @@ met-computes = (refl, (omega arith, refl), refl, refl)
 pub met-counts : routings pair both-look (Forward 0 ∷ []) 0 ≡ 1
 unfolding pair opened
 met-counts = refl
+
+-- and it waits nowhere then
+pub met-nowhere : placeAfter pair both-look (Forward 0 ∷ []) 0 ≡ Nothing
+unfolding pair placeAfter opened
+met-nowhere = refl
 
 -- a Forward of what waits for another slot is none at this one
 pub another-forwards : (forwardsAt both-look (Forward 1) 0 ≡ false) × (forwardsAt both-look (Forward 0) 0 ≡ true)

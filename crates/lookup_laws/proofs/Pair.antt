@@ -203,7 +203,7 @@ gateway-holds t p q k d (a ∷ acts) e l f =
 
     go : (x : Fate) → Tracked t p q k d a x → ((r : ℕ) → LookupAt (stepped t p a .pool) r k d → Held after k d (rest r))
         → Held after k d (endBy x rest)
-    go (stays r) w on = on r w
+    go (stays r) w on = on r (w .now)
     go (routed h r) w on = absurd (not-forwarded (w .took .act))
     go (met h r) w on = absurd (not-forwarded (w .took .act))
     go delivered w on = inl refl

@@ -1,13 +1,15 @@
--- Proved, by name: each statement of Demand (demand 3), then each of Pair (T-05), then each of Joining (one holder while others are joining). Assumes nothing.
+-- Proved, by name: each statement of Demand (demand 3), then each of Pair (T-05), each of Carried (T-07), and each of Joining (one holder while others are joining). Assumes nothing.
 use Rattle.table.proofs.Sound.{sound}
 use Rattle.lookup_laws.specs.Claims.{EveryLookup, FatesHold, GoesNearer, FewRoutings, SettledArrives, TieBelow, CoversNearest}
 use Rattle.lookup_laws.specs.Pair.{ReadyOne, OthersTwo, TakeFive, OtherKinds, Unjudged, GatewayHolds}
+use Rattle.lookup_laws.specs.Carried.{CountsRoutings, IssuedAtNone, SinceIssue, FewCarried}
 use Rattle.lookup_laws.specs.Joining.{OneHolder, HolderNearest, SettledFlanked, SomeUnheld, SettledHeld, SettledBeside}
 use Rattle.lookup_laws.proofs.Stands as stands
 use Rattle.lookup_laws.proofs.Tracks as tracks
 use Rattle.lookup_laws.proofs.Routings as routings
 use Rattle.lookup_laws.proofs.Arrives as arrives
 use Rattle.lookup_laws.proofs.Pair as pair
+use Rattle.lookup_laws.proofs.Carried as carried
 use Rattle.lookup_laws.proofs.Joined as joined
 use Rattle.lookup_laws.proofs.Holder as holder
 use Rattle.lookup_laws.proofs.Unheld as unheld
@@ -50,6 +52,18 @@ unjudged = pair.unjudged
 
 pub gateway-holds : GatewayHolds
 gateway-holds = pair.gateway-holds
+
+pub counts-routings : CountsRoutings
+counts-routings = carried.counts-routings
+
+pub issued-at-none : IssuedAtNone
+issued-at-none = carried.issued-at-none
+
+pub since-issue : SinceIssue
+since-issue = carried.since-issue
+
+pub few-carried : FewCarried
+few-carried = carried.few-carried
 
 pub one-holder : OneHolder
 one-holder = joined.one-holder

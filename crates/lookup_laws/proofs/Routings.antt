@@ -115,7 +115,7 @@ routed-few (a ∷ acts) t p q k d e l =
     go : (f : Fate) → Tracked t p q k d a f
         → ((r j : ℕ) → LookupAt (stepped t p a .pool) r k j → routings u (stepped t p a .pool) acts r ≤ nearerListed u k j)
         → counted f (routings u (stepped t p a .pool) acts) ≤ nearerListed t k d
-    go (stays r) w rest = omega (arith, rest r d w, same-listed (keeps-ring t p 256 a) k d)
+    go (stays r) w rest = omega (arith, rest r d (w .now), same-listed (keeps-ring t p 256 a) k d)
     go (routed h r) w rest = omega (arith, rest r h (w .now), same-listed (keeps-ring t p 256 a) k h, falls h (w .hop))
     go (met h r) w rest = omega (arith, falls h (w .hop))
     go delivered w rest = omega arith

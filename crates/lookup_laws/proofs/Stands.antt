@@ -1,5 +1,5 @@
 -- Where a message stands in a list, and where it stands after messages are removed, added and laid out as a pool. In a valid pool every
--- message of kind 1 is a Lookup, and a message equal to a Lookup is that Lookup. Assumes nothing.
+-- message of kind 1 is a Lookup, and a message equal to a Lookup is that Lookup but for its hops. Assumes nothing.
 use mathlib.Core.Path.{_≡_, refl, sym, _∙_, ap}
 use mathlib.Core.Logic.{_⊎_, inl, inr}
 use mathlib.Core.Bool.{Bool, true, false, cond, _&&_}
@@ -21,7 +21,7 @@ use Rattle.rules.specs.declared.Pool.{Pool}
 use Rattle.rules.specs.declared.Plan.{Plan}
 use Rattle.rules.specs.Fits.{isKind, hasFlag, hasRouting, hasFailed, wordFits, flagFits, carriedFits, fieldsFit, messageFits}
 use Rattle.rules.specs.Leave.{isProbeFrom, withoutProbes}
-use Rattle.rules.specs.Letters.{lookup}
+use Rattle.rules.specs.Letters.{lookupAfter}
 use Rattle.rules.specs.Mail.{fieldsOf, alike, firstFrom, firstEqual, removedAt}
 use Rattle.rules.specs.Nodes.{carriedOf, placed}
 use Rattle.rules.specs.Plans.{mailed}
@@ -34,7 +34,8 @@ use Rattle.table_type.specs.Table.{ringOf}
 use Rattle.table.proofs.Nodes.{both}
 use Rattle.table.proofs.Obeys.{obeys}
 use Rattle.table.proofs.Sound.{Sound}
-use Rattle.lookup_laws.specs.Journey.{LookupAt, probesBefore}
+use Rattle.table.proofs.Hops.{Within, no-hops}
+use Rattle.lookup_laws.specs.Journey.{hopsAt, LookupAt, probesBefore}
 
 -- message m stands at place r of a list
 pub record Stands (xs : List Message) (r : ℕ) (m : Message) : Type 0 where
@@ -102,8 +103,17 @@ stands-probes i j p {r} e l s =
     tally-same r _ _ (λ q h. ap (isProbeFrom i j) (waiting-at p q (omega arith))) in
     rw (← n) (stands-left i j e s)
 
-pub stands-laid : {ys : List Message} {r k d : ℕ} → Stands ys r (placed (lookup k) d) → LookupAt (laid ys) r k d
-stands-laid {ys} {r} s = record { waits = s .below; is = laid-at ys r (s .below) ∙ s .same }
+-- a Lookup, whatever its hops
+pub looks : {p : Pool} {q k d c : ℕ} → q < p .count → messageAt p q ≡ placed (lookupAfter c k) d → LookupAt p q k d
+looks {p} {q} {k} {d} {c} l e =
+    let own : c ≡ hopsAt p q = sym (ap (λ (m : Message). m .hops) e) in
+    record { waits = l; is = e ∙ ap (λ (n : ℕ). placed (lookupAfter n k) d) own }
+
+pub stands-is : {ys : List Message} {r : ℕ} {m : Message} → Stands ys r m → messageAt (laid ys) r ≡ m
+stands-is {ys} {r} s = laid-at ys r (s .below) ∙ s .same
+
+pub stands-laid : {ys : List Message} {r k d c : ℕ} → Stands ys r (placed (lookupAfter c k) d) → LookupAt (laid ys) r k d
+stands-laid s = looks (s .below) (stands-is s)
 
 module _ {t : Table} {p : Pool} (v : Sound t p) where
   -- every place below the count holds a message
@@ -121,7 +131,7 @@ module _ {t : Table} {p : Pool} (v : Sound t p) where
           absurd (omega (arith, last .kind-low))
       go (inr l) = omega (arith, length-take (p .count) (p .places))
 
-  pub stands-waiting : {q k d : ℕ} → LookupAt p q k d → Stands (waiting p) q (placed (lookup k) d)
+  pub stands-waiting : {q k d : ℕ} → LookupAt p q k d → Stands (waiting p) q (placed (lookupAfter (hopsAt p q) k) d)
   stands-waiting {q} s = record { below = omega (arith, count-is, s .waits); same = waiting-at p q (s .waits) ∙ s .is }
 
 -- ---- Lookups
@@ -137,21 +147,20 @@ no-leaf kind g owner s e one =
     (eqb-true owner 0 (a .0), eqb-true (s .left) 0 (b .0), eqb-true (s .right) 0 (b .1))
 
 -- a message of kind 1 that obeys its kind is a Lookup of its word
-pub lookup-is : (g : Ring) (m : Message) → messageFits g m ≡ true → m .kind ≡ 1 → m ≡ placed (lookup (m .word)) (m .dest)
+pub lookup-is : (g : Ring) (m : Message) → messageFits g m ≡ true → m .kind ≡ 1
+    → m ≡ placed (lookupAfter (m .hops) (m .word)) (m .dest)
 unfolding messageFits fieldsFit
 lookup-is g m e one =
     let o = obeys g m e in
     let kind = both (isKind (m .kind)) _ e in
     let dest = both (ltb (m .dest) (g .n)) _ (kind .1) in
-    let hops = both (eqb (m .hops) 0) _ (dest .1) in
-    let word = both (wordFits (m .kind) g (m .word)) _ (hops .1) in
+    let word = both (wordFits (m .kind) g (m .word)) _ (dest .1) in
     let flag = both (flagFits (m .kind) (m .flag)) _ (word .1) in
     let leaf = no-leaf (m .kind) g (m .owner) (carriedOf m) (both (carriedFits (m .kind) g (m .owner) (carriedOf m)) _ (flag .1) .0) one in
     rw (
       one,
       o .no-flag (ap hasFlag one),
       leaf .0,
-      o .no-hops,
       o .no-routing (ap hasRouting one),
       leaf .1,
       leaf .2,
@@ -163,12 +172,14 @@ pub lookup-at : {t : Table} {p : Pool} → Sound t p → (q : ℕ) → q < p .co
     → LookupAt p q (messageAt p q .word) (messageAt p q .dest)
 lookup-at {t} {p} v q h one = record { waits = h; is = lookup-is (ringOf t) (messageAt p q) (v .message q h) one }
 
--- one that obeys its kind and is equal to a message with no sixth word is that message
-pub alike-is : (g : Ring) (m x : Message) → messageFits g m ≡ true → x .hops ≡ 0 → alike m x ≡ true → m ≡ x
-alike-is g m x e z a =
+-- equal messages with the same hops are the same
+pub alike-is : (m x : Message) → m .hops ≡ x .hops → alike m x ≡ true → m ≡ x
+alike-is m x z a =
     let same : (i : ℕ) → getD (fieldsOf m) i 0 ≡ getD (fieldsOf x) i 0 = λ i. ap (λ (r : List ℕ). getD r i 0) (alike-same m x a) in
-    let o = obeys g m e in
-    rw (same 0, same 1, same 2, same 3, same 4, same 5, same 6, same 7, same 8, o .no-hops, z)
+    rw (same 0, same 1, same 2, same 3, same 4, same 5, same 6, same 7, same 8, z)
+
+alike-kind : (m x : Message) → alike m x ≡ true → m .kind ≡ x .kind
+alike-kind m x a = ap (λ (r : List ℕ). getD r 1 0) (alike-same m x a)
 
 found-from : (m : Message) (xs : List Message) (p r : ℕ) → firstFrom m xs p ≡ At r
     → (p ≤ r) × (r - p < length xs) × (alike (getD xs (r - p) blank) m ≡ true)
@@ -194,11 +205,36 @@ found-from m (x ∷ xs) p r e = go (alike x m) refl e (found-from m xs (p + 1) r
         (omega (arith, i .0), omega (arith, i .1), rw next (i .2))
 
 -- the first equal one stands where it was found
-pub first-stands : (g : Ring) (xs : List Message) (x : Message) (r : ℕ) → All (λ m. messageFits g m ≡ true) xs → x .hops ≡ 0
-    → firstEqual xs x ≡ At r → Stands xs r x
+pub first-alike : (xs : List Message) (x : Message) (r : ℕ) → firstEqual xs x ≡ At r → (r < length xs) × (alike (getD xs r blank) x ≡ true)
 unfolding firstEqual
-first-stands g xs x r f z e =
+first-alike xs x r e =
     let i = found-from x xs 0 r e in
-    let l : r < length xs = omega (arith, i .1) in
     let same : r - 0 ≡ r = omega arith in
-    record { below = l; same = alike-is g (getD xs r blank) x (all-at f r l) z (rw same at (i .2)) }
+    (omega (arith, i .1), rw same at (i .2))
+
+-- a Lookup equal to one with these hops: a Lookup with its own
+pub first-lookup : (xs : List Message) (c k h r : ℕ) → firstEqual xs (placed (lookupAfter c k) h) ≡ At r
+    → Stands xs r (placed (lookupAfter (getD xs r blank .hops) k) h)
+unfolding alike
+first-lookup xs c k h r e =
+    let f = first-alike xs (placed (lookupAfter c k) h) r e in
+    record { below = f .0; same = alike-is (getD xs r blank) (placed (lookupAfter (getD xs r blank .hops) k) h) refl (f .1) }
+
+-- a message of another kind
+pub first-other : (g : Ring) (ids : List ℕ) (xs : List Message) (x : Message) (r : ℕ) → All (Within g ids) xs → (x .kind ≡ 1 → ⊥) → x .hops ≡ 0
+    → firstEqual xs x ≡ At r → Stands xs r x
+first-other g ids xs x r f one z e =
+    let i = first-alike xs x r e in
+    let m = getD xs r blank in
+    let none = no-hops g ids m (all-at f r (i .0)) (λ k. one (sym (alike-kind m x (i .1)) ∙ k)) in
+    record { below = i .0; same = alike-is m x (none ∙ sym z) (i .1) }
+
+-- hops do not tell which is found
+first-from-any : (c b k h : ℕ) (xs : List Message) (p : ℕ) → firstFrom (placed (lookupAfter c k) h) xs p ≡ firstFrom (placed (lookupAfter b k) h) xs p
+unfolding firstFrom alike
+first-from-any c b k h [] p = refl
+first-from-any c b k h (x ∷ xs) p = ap (cond (alike x (placed (lookupAfter c k) h)) (At p)) (first-from-any c b k h xs (p + 1))
+
+pub first-any : (c b k h : ℕ) (xs : List Message) → firstEqual xs (placed (lookupAfter c k) h) ≡ firstEqual xs (placed (lookupAfter b k) h)
+unfolding firstEqual
+first-any c b k h xs = first-from-any c b k h xs 0

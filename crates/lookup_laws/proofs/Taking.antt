@@ -21,7 +21,7 @@ use Rattle.rules.specs.declared.Action.the-variants.{Deliver, Forward}
 use Rattle.rules.specs.declared.Refusal.{Refusal}
 use Rattle.rules.specs.declared.Answer.{Answer}
 use Rattle.rules.specs.declared.Answer.the-variants.{Done, Refused}
-use Rattle.rules.specs.Letters.{lookup}
+use Rattle.rules.specs.Letters.{lookupAfter}
 use Rattle.rules.specs.Plans.{isReady, mailed, quietPlan}
 use Rattle.rules.specs.Pool.{waiting}
 use Rattle.rules.specs.Take.{forwardPlan, planDeliver, planForward}
@@ -32,16 +32,16 @@ use Rattle.table.specs.Step.{one-goes, asked, plannedOf, isSound}
 use Rattle.table.specs.Valid.{validOf}
 use Rattle.table.proofs.Sound.{sound}
 use Rattle.table.proofs.By.{goes, go-same, never-go, RefusedFor, invalid, out-of-range, forbidden, full, step-refused}
-use Rattle.lookup_laws.specs.Journey.{stepped, LookupAt, delivered, onward, fateOf}
+use Rattle.lookup_laws.specs.Journey.{stepped, hopsAt, LookupAt, delivered, onward, fateOf}
 use Rattle.lookup_laws.specs.Claims.{Ready}
 use Rattle.lookup_laws.proofs.Stands.{count-is}
 use Rattle.lookup_laws.specs.Fates.{others, coversAt, hopAt}
 use Rattle.lookup_laws.proofs.Tracks.{forwardAt, Sends, to, nowhere, forwards, ready-is, deliver-is, forward-is}
 
 -- at most one message is added
-pass-adds : (t : Table) (k d : ℕ) (x : Plan) → Sends t k d x → x .all ≡ 0
-pass-adds t k d x (to h o e) = ap (λ (y : Plan). y .all) e
-pass-adds t k d x (nowhere o e) = ap (λ (y : Plan). y .all) e
+pass-adds : (t : Table) (k d c : ℕ) (x : Plan) → Sends t k d c x → x .all ≡ 0
+pass-adds t k d c x (to h o e) = ap (λ (y : Plan). y .all) e
+pass-adds t k d c x (nowhere o e) = ap (λ (y : Plan). y .all) e
 
 adds-one : (x : Plan) (ys : List Message) → x .all ≡ 0 → length (mailed x ys) ≤ length ys + 1
 adds-one x ys e = let none : sizeOf (x .all) ≡ 0 = rw e size-zero in omega (arith, mailed-length x ys .1)
@@ -81,9 +81,10 @@ module _ (t : Table) (p : Pool) (q k d : ℕ) (e : validOf t p ≡ true) (l : Lo
   pub forward-done : coversAt t d k ≡ false → stepped t p (Forward q) .answer ≡ Done
   unfolding planForward
   forward-done c =
-      let x = forwardPlan (hopAt t d k) (nodeAt t d) (lookup k) k d in
-      let made : forwardAt t d k ≡ Go x = rw (status-ready, c) in
-      done (Forward q) refl x (forward-is t p q k d (sound t p e) l ∙ made) (pass-adds t k d x (forwards t k d x made .sends))
+      let b = hopsAt p q in
+      let x = forwardPlan (hopAt t d k) (nodeAt t d) (lookupAfter (b + 1) k) k d in
+      let made : forwardAt t d k b ≡ Go x = rw (status-ready, c) in
+      done (Forward q) refl x (forward-is t p q k d (sound t p e) l ∙ made) (pass-adds t k d b x (forwards t k d b x made .sends))
 
   pub fate-delivered : coversAt t d k ≡ true → fateOf t p q (Deliver q) ≡ delivered
   unfolding fateOf

@@ -3,7 +3,7 @@
 use mathlib.Core.Path.{_≡_}
 use mathlib.Core.Bool.{Bool, true, false}
 use mathlib.Core.List.{List, [], _∷_, _++_}
-use Prim.Native.Nat.{ℕ, _<_}
+use Prim.Native.Nat.{ℕ, _+_, _<_}
 use Rattle.rules.specs.declared.Hop.{Hop}
 use Rattle.rules.specs.declared.Hop.the-variants.{To, NoRoute}
 use Rattle.rules.specs.declared.Message.{Message}
@@ -14,7 +14,7 @@ use Rattle.rules.specs.declared.Via.{Via}
 use Rattle.rules.specs.declared.Via.the-variants.{Unrouted}
 use Rattle.rules.specs.Hop.{nextHop, viaOf}
 use Rattle.rules.specs.Leaf.{coversOf}
-use Rattle.rules.specs.Letters.{lookup, noLegalRoute}
+use Rattle.rules.specs.Letters.{lookupAfter, noLegalRoute}
 use Rattle.rules.specs.Mail.{added, removedAt}
 use Rattle.rules.specs.Nodes.{sidesOf, placed}
 use Rattle.rules.specs.Plans.{isReady}
@@ -23,7 +23,7 @@ use Rattle.table_type.specs.declared.Table.{Table}
 use Rattle.table_type.specs.Table.{nodeAt, idsOf, ringOf}
 use Rattle.table.specs.Settle.{doneBy}
 use Rattle.table.specs.Settled.{deadSet}
-use Rattle.lookup_laws.specs.Journey.{stepped, LookupAt, Fate, stays, routed, met, delivered, unroutable}
+use Rattle.lookup_laws.specs.Journey.{stepped, hopsAt, LookupAt, Fate, stays, routed, met, delivered, unroutable}
 
 -- the messages but the one at place q
 abbrev pub others : Pool → ℕ → List Message
@@ -48,14 +48,20 @@ pub record Took (t : Table) (p : Pool) (d : ℕ) (a this : Action) (via : Via) (
 
 -- ---- what each fate says of the step a on the table t and the pool p, in which a Lookup of k for slot d waits at place q
 
--- forwarded to h: the others wait as before, and the Lookup, now for h, at their end
+-- where it stays, the same Lookup waits at the place named, with the same hops
+pub record Stays (t : Table) (p : Pool) (q k d : ℕ) (a : Action) (r : ℕ) : Type 0 where
+  pub now : LookupAt (stepped t p a .pool) r k d
+  pub same : messageAt (stepped t p a .pool) r ≡ messageAt p q
+
+-- forwarded to h: the others wait as before, and the Lookup, now for h and with one hop more, at their end
 pub record Goes (t : Table) (p : Pool) (q k d : ℕ) (a : Action) (h r : ℕ) : Type 0 where
-  pub took : Took t p d a (Forward q) (viaAt t d h) (others p q ++ (placed (lookup k) h ∷ []))
+  pub took : Took t p d a (Forward q) (viaAt t d h) (others p q ++ (placed (lookupAfter (hopsAt p q + 1) k) h ∷ []))
   pub uncovered : coversAt t d k ≡ false
   pub hop : hopAt t d k ≡ To h
   pub now : LookupAt (stepped t p a .pool) r k h
+  pub hops : hopsAt (stepped t p a .pool) r ≡ hopsAt p q + 1
 
--- forwarded to h, where its equal waits, at place r
+-- forwarded to h, where its equal waits, at place r, and stays with its own hops
 pub record Meets (t : Table) (p : Pool) (q k d : ℕ) (a : Action) (h r : ℕ) : Type 0 where
   pub took : Took t p d a (Forward q) (viaAt t d h) (others p q)
   pub uncovered : coversAt t d k ≡ false
@@ -74,9 +80,8 @@ pub record Strands (t : Table) (p : Pool) (q k d : ℕ) (a : Action) : Type 0 wh
   pub no-hop : hopAt t d k ≡ NoRoute
   pub told : (r : ℕ) × (r < stepped t p a .pool .count) × (messageAt (stepped t p a .pool) r ≡ placed (noLegalRoute k) d)
 
--- where it stays, the same Lookup waits at the place named
 abbrev pub Tracked : Table → Pool → ℕ → ℕ → ℕ → Action → Fate → Type 0
-Tracked t p q k d a (stays r) = LookupAt (stepped t p a .pool) r k d
+Tracked t p q k d a (stays r) = Stays t p q k d a r
 Tracked t p q k d a (routed h r) = Goes t p q k d a h r
 Tracked t p q k d a (met h r) = Meets t p q k d a h r
 Tracked t p q k d a delivered = Ends t p q k d a

@@ -18,7 +18,7 @@ use Rattle.rules.specs.declared.Action.the-variants.{Deliver, Forward}
 use Rattle.rules.specs.declared.Answer.{Answer}
 use Rattle.rules.specs.declared.Answer.the-variants.{Done, Refused}
 use Rattle.rules.specs.Leave.{isProbeFrom}
-use Rattle.rules.specs.Letters.{lookup}
+use Rattle.rules.specs.Letters.{lookup, lookupAfter}
 use Rattle.rules.specs.Nodes.{sidesOf, placed}
 use Rattle.rules.specs.Leaf.{coversOf}
 use Rattle.rules.specs.Hop.{nextHop}
@@ -34,10 +34,14 @@ use Rattle.table.specs.Step.{Gone, all-stay, one-goes, probes-go, asked, stepOf
 abbrev pub stepped : Table → Pool → Action → Stepped
 stepped t p a = stepOf t p 256 a
 
--- a Lookup of k waits at place q, for slot d
+-- the hops of the message at place q (T-07)
+abbrev pub hopsAt : Pool → ℕ → ℕ
+hopsAt p q = messageAt p q .hops
+
+-- a Lookup of k waits at place q, for slot d, whatever its hops
 pub record LookupAt (p : Pool) (q k d : ℕ) : Type 0 where
   pub waits : q < p .count
-  pub is : messageAt p q ≡ placed (lookup k) d
+  pub is : messageAt p q ≡ placed (lookupAfter (hopsAt p q) k) d
 
 -- what a step does to the lookup that waits at a place
 pub data Fate : Type 0 where

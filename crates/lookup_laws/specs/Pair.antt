@@ -5,7 +5,7 @@ use mathlib.Core.Path.{_≡_}
 use mathlib.Core.Bool.{Bool, true, false, cond, not}
 use mathlib.Core.List.{List, [], _∷_}
 use mathlib.Core.Logic.{_⊎_}
-use Prim.Native.Nat.{ℕ, _<_}
+use Prim.Native.Nat.{ℕ, _+_, _<_}
 use lib.Dec.{eqb}
 use Rattle.rules.specs.declared.Action.{Action}
 use Rattle.rules.specs.declared.Action.the-variants.{Lookup, Join, RequestLease, LeaseExpired, GrantExpired, Take, Deliver, Forward}
@@ -20,7 +20,7 @@ use Rattle.rules.specs.declared.Refusal.the-variants as no
 use Rattle.rules.specs.declared.Ring.{Ring}
 use Rattle.rules.specs.Hop.{nextHop}
 use Rattle.rules.specs.Leaf.{coversOf}
-use Rattle.rules.specs.Letters.{lookup}
+use Rattle.rules.specs.Letters.{lookupAfter}
 use Rattle.rules.specs.Nodes.{sidesOf}
 use Rattle.rules.specs.Plans.{isReady, quietPlan}
 use Rattle.rules.specs.Pool.{messageAt}
@@ -36,17 +36,17 @@ use Rattle.lookup_laws.specs.Journey.{stepped, LookupAt, Fate, stays, ro
 
 -- ---- 01's Take, with its taking of a Lookup
 
--- 2 unless ready. If i covers k, delivered: nothing is added. Else Lookup goes to the next hop, or NoLegalRoute(k) to i
-unfoldable pub planTakeLookup : Ring → List ℕ → ℕ → ℕ → Node → ℕ → Planned
-planTakeLookup g ids dead i v k =
+-- 2 unless ready. If i covers k, delivered: nothing is added. Else Lookup goes to the next hop, or NoLegalRoute(k) to i; with one hop more (T-07)
+unfoldable pub planTakeLookup : Ring → List ℕ → ℕ → ℕ → Node → ℕ → ℕ → Planned
+planTakeLookup g ids dead i v k hops =
     cond (not (isReady (v .status))) (No no.Status)
     (cond (coversOf g ids i (sidesOf v) k) (Go (quietPlan v))
-    (Go (forwardPlan (nextHop g ids dead i v k) v (lookup k) k i)))
+    (Go (forwardPlan (nextHop g ids dead i v k) v (lookupAfter (hops + 1) k) k i)))
 
 -- the other kinds as they are
 abbrev pub takenBefore : Table → Message → Planned
 takenBefore t m =
-    cond (eqb (m .kind) 1) (planTakeLookup (ringOf t) (idsOf t) (deadSet t) (m .dest) (nodeAt t (m .dest)) (m .word)) (takenOf t m)
+    cond (eqb (m .kind) 1) (planTakeLookup (ringOf t) (idsOf t) (deadSet t) (m .dest) (nodeAt t (m .dest)) (m .word) (m .hops)) (takenOf t m)
 
 abbrev pub askedBefore : Table → Pool → ℕ → Asked
 askedBefore t p place = takes p place (takenBefore t)

@@ -1,8 +1,8 @@
 // Lookups and joins: the actions Lookup and Join, the delivering and forwarding of a Lookup (kind 1), and the taking of a JoinRequest (kind 2).
 ghost use mathlib.Core.Path.{_≡_};
-ghost use Prim.Native.Nat.{ℕ, _^_, _<_};
+ghost use Prim.Native.Nat.{ℕ, _^_, _<_, _≤_};
 ghost use Rattle.rules.specs.InnerAsks.{Listed};
-ghost use Rattle.rules.specs.Letters.{lookup, joinRequest, joinReply, noLegalRoute};
+ghost use Rattle.rules.specs.Letters.{lookup, lookupAfter, joinRequest, joinReply, noLegalRoute};
 ghost use Rattle.rules.specs.Actions.{planLookup, planJoin};
 ghost use Rattle.rules.specs.Take.{forwardPlan, planDeliver, planForward, planTakeJoinRequest};
 use rules::Hop;
@@ -19,6 +19,14 @@ pub fn lookup_of(k: u32) -> Message
     ensures { λ r. ⌜ r ≡ lookup k ⌝ }
 {
     parts::write_letter(1, k, 0, 0, 0, parts::no_sides(), 0)
+}
+
+// A Lookup with its hop number.
+pub fn lookup_after(hops: u32, k: u32) -> Message
+    ensures { λ r. ⌜ r ≡ lookupAfter hops k ⌝ }
+{
+    let m = lookup_of(k);
+    Message { hops, ..m }
 }
 
 pub fn no_legal_route(k: u32) -> Message
@@ -96,7 +104,7 @@ pub fn plan_deliver(kind: u32, g: Ring, ids: &[u32; 64], i: usize, v: Node, k: u
     Planned::Go(parts::quiet_plan(v))
 }
 
-// Forward: the same, to the next hop.
+// Forward: the same, to the next hop, with one hop more than it had.
 pub fn plan_forward(
     kind: u32,
     g: Ring,
@@ -105,9 +113,10 @@ pub fn plan_forward(
     i: usize,
     v: Node,
     k: u32,
+    hops: u32,
 ) -> Planned
-    requires { ⌜ Listed g (now ids) × (i < 64) × (kind ≡ 1 → k < 2 ^ g .m) ⌝ }
-    ensures { λ r. ⌜ r ≡ planForward kind g (now (ids .entry)) dead i v k ⌝ }
+    requires { ⌜ Listed g (now ids) × (i < 64) × (kind ≡ 1 → k < 2 ^ g .m) × (hops ≤ 64) ⌝ }
+    ensures { λ r. ⌜ r ≡ planForward kind g (now (ids .entry)) dead i v k hops ⌝ }
 {
     if !(kind == 1) {
         return Planned::No(Refusal::Partner);
@@ -120,7 +129,7 @@ pub fn plan_forward(
         return Planned::No(Refusal::Partner);
     }
     let next = hop::next_hop(g, ids, dead, i, v, k);
-    Planned::Go(forward(next, v, lookup_of(k), k, i))
+    Planned::Go(forward(next, v, lookup_after(hops + 1, k), k, i))
 }
 
 // The taking of a JoinRequest of node j at node i.

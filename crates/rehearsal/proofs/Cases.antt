@@ -5,13 +5,14 @@ use mathlib.Core.Bool.{true, false}
 use mathlib.Core.List.{List, [], _∷_, _++_}
 use Prim.Native.Nat.{ℕ}
 use lib.ListN.{take}
+use Rattle.ring.specs.Distance.{signedOf, absDistOf, risesTo, nearer}
 use Rattle.ring.specs.Distance.{fallOf, leftCoverOf, rightCoverOf, coversKey}
 use Rattle.marks.specs.Marks.{has, tally, allTo, sizeOf, listed}
 use Rattle.rules.specs.declared.Action.the-variants.{Lookup, Take, Deliver}
 use Rattle.rules.specs.declared.Refusal.the-variants as no
 use Rattle.rules.specs.Actions.{waits, planLookup}
 use Rattle.rules.specs.Fits.{numbersFit, idFits, sideFits, leafFits, othersFit, nodeFits, isBlank, slotFits}
-use Rattle.rules.specs.Fits.{wordFits, flagFits, carriedFits, ownerFits, routingFits, failedFits, fieldsFit, messageFits}
+use Rattle.rules.specs.Fits.{wordFits, flagFits, carriedFits, ownerFits, routingFits, failedFits, fieldsFit, messageFits, fartherThan, hopsFit}
 use Rattle.rules.specs.Leaf.{seenFrom, coversOf}
 use Rattle.rules.specs.Mail.{alike, allDifferent, firstFrom, firstEqual, added, removedAt, sentTo}
 use Rattle.rules.specs.Pick.{best}
@@ -124,10 +125,11 @@ pub record Cases : Type 0 where
 
 pub cases : Cases
 unfolding fallOf leftCoverOf rightCoverOf coversKey has tally allTo sizeOf listed waits planLookup numbersFit idFits sideFits leafFits
-    othersFit nodeFits isBlank slotFits wordFits flagFits carriedFits ownerFits routingFits failedFits fieldsFit messageFits seenFrom
-    coversOf alike allDifferent firstFrom firstEqual added removedAt sentTo best mailed planDeliver planTake carriedOut settle
-    isSound stepOf nodesFit messagesFit poolFits validOf bytesOf numberOf encode decode encodeAll decodeAll fileOf headerFits offsetsFit
-    statusesFit fileTable partPool filePool loadOf loadedOf agreesWith verdictFrom verdictOf beginOf checkedOf handedOf
+    othersFit nodeFits isBlank slotFits wordFits flagFits carriedFits ownerFits routingFits failedFits fieldsFit messageFits fartherThan
+    hopsFit nearer risesTo absDistOf signedOf seenFrom coversOf alike allDifferent firstFrom firstEqual added removedAt sentTo best mailed
+    planDeliver planTake carriedOut settle isSound stepOf nodesFit messagesFit poolFits validOf bytesOf numberOf encode decode encodeAll
+    decodeAll fileOf headerFits offsetsFit statusesFit fileTable partPool filePool loadOf loadedOf agreesWith verdictFrom verdictOf beginOf
+    checkedOf handedOf
 cases =
     record {
       good = refl;

@@ -1,13 +1,13 @@
 -- Validity of numbers, of one slot and of one message, computed by the checker: each rule at its limit and beyond. Assumes nothing.
 use mathlib.Core.Path.{_≡_, refl}
-use mathlib.Core.Bool.{Bool, true, false}
+use mathlib.Core.Bool.{Bool, true, false, _&&_}
 use mathlib.Core.List.{List, [], _∷_}
 use Prim.Native.Nat.{ℕ}
 use Rattle.rules.specs.declared.Ring.{Ring}
 use Rattle.rules.specs.declared.Status.the-variants.{Dead, Wait, Ok, Ready}
 use Rattle.rules.specs.declared.Message.{Message}
 use Rattle.rules.specs.Nodes.{noNode}
-use Rattle.rules.specs.Fits.{numbersFit, idFits, nodeFits, isBlank, slotFits, messageFits}
+use Rattle.rules.specs.Fits.{numbersFit, idFits, nodeFits, isBlank, slotFits, messageFits, fartherThan, hopsFit}
 use Rattle.rules.proofs.Small.{opened, four, ids, six, node}
 
 abbrev ring : ℕ → ℕ → ℕ → Ring
@@ -91,12 +91,11 @@ slots-fit =
       judged = (refl, refl);
     }
 
--- ---- messages of four nodes, M = 8, L = 1: kind, destination, node or key, flag, owner, sixth word, routing, left, right, failed
+-- ---- messages of four nodes, M = 8, L = 1: kind, destination, node or key, flag, owner, hops, routing, left, right, failed
 
-abbrev obeys : ℕ → ℕ → ℕ → ℕ → ℕ → ℕ → ℕ → ℕ → ℕ → ℕ → Bool
-obeys kind dest word flag owner hops routing left right failed =
-    messageFits four
-    (record {
+abbrev message : ℕ → ℕ → ℕ → ℕ → ℕ → ℕ → ℕ → ℕ → ℕ → ℕ → Message
+message kind dest word flag owner hops routing left right failed =
+    record {
       kind = kind;
       dest = dest;
       word = word;
@@ -107,9 +106,15 @@ obeys kind dest word flag owner hops routing left right failed =
       left = left;
       right = right;
       failed = failed;
-    })
+    }
 
--- whether a message of a kind may have, alone of its fields: none, node or key 1, flag 1, owner 1, the sixth word 1, and the sets routing {1}, left {1},
+abbrev judged : Message → Bool
+judged m = messageFits four m && hopsFit four ids m
+
+abbrev obeys : ℕ → ℕ → ℕ → ℕ → ℕ → ℕ → ℕ → ℕ → ℕ → ℕ → Bool
+obeys kind dest word flag owner hops routing left right failed = judged (message kind dest word flag owner hops routing left right failed)
+
+-- whether a message of a kind may have, alone of its fields: none, node or key 1, flag 1, owner 1, hops 1, and the sets routing {1}, left {1},
 -- right {1}, failed {1}
 abbrev may : ℕ → List Bool
 may kind =
@@ -132,8 +137,8 @@ not = false
 
 pub record Kinds : Type 0 where
   pub zero : may 0 ≡ not ∷ not ∷ not ∷ not ∷ not ∷ not ∷ not ∷ not ∷ not ∷ []
-  -- 1 Lookup (key)
-  pub one : may 1 ≡ yes ∷ yes ∷ not ∷ not ∷ not ∷ not ∷ not ∷ not ∷ not ∷ []
+  -- 1 Lookup (key), and hops (T-07)
+  pub one : may 1 ≡ yes ∷ yes ∷ not ∷ not ∷ yes ∷ not ∷ not ∷ not ∷ not ∷ []
   -- 2 JoinRequest (node, routing set)
   pub two : may 2 ≡ yes ∷ yes ∷ not ∷ not ∷ not ∷ yes ∷ not ∷ not ∷ not ∷ []
   -- 3 JoinReply (routing set, leaf set with owner)
@@ -204,4 +209,38 @@ fields =
       carried-destination = refl;
       sets = (refl, refl, refl, refl, refl);
       to-itself = refl;
+    }
+
+-- ---- T-07. A Lookup's hops are at most the number of listed nodes farther from its key than its destination (farther by 01's order); always 0 for
+-- kinds other than Lookup. The ids are 17, 18, 65 and 95.
+
+abbrev far : ℕ → List ℕ
+far k = fartherThan four ids k 0 ∷ fartherThan four ids k 1 ∷ fartherThan four ids k 2 ∷ fartherThan four ids k 3 ∷ []
+
+-- a Lookup of k at a slot, by its hops
+abbrev travelled : ℕ → ℕ → ℕ → Bool
+travelled k dest hops = obeys 1 dest k 0 0 hops 0 0 0 0
+
+pub record Hops : Type 0 where
+  -- from key 18, and from key 200, which is reached from 17 by falling through 0
+  pub farther : (far 18 ≡ 2 ∷ 3 ∷ 1 ∷ 0 ∷ []) × (far 200 ≡ 3 ∷ 2 ∷ 0 ∷ 1 ∷ [])
+  -- from key 80: 65 and 95 are at equal distance, and the one below it is the nearer
+  pub tie : far 80 ≡ 0 ∷ 1 ∷ 3 ∷ 2 ∷ []
+  -- the bound exactly met, and one more
+  pub met : (travelled 80 2 3 ≡ true) × (travelled 80 3 2 ≡ true) × (travelled 80 0 0 ≡ true) × (travelled 18 3 0 ≡ true)
+  pub one-more : (travelled 80 2 4 ≡ false) × (travelled 80 3 3 ≡ false) × (travelled 80 0 1 ≡ false) × (travelled 18 3 1 ≡ false)
+  -- 0 for every other kind, though nodes are farther
+  pub others : (obeys 2 1 3 0 0 1 0 0 0 0 ≡ false) × (obeys 3 1 0 0 0 1 0 0 0 0 ≡ false) × (obeys 4 1 3 0 3 1 0 0 0 0 ≡ false)
+      × (obeys 5 1 3 0 3 1 0 0 0 0 ≡ false) × (obeys 6 1 18 0 0 1 0 0 0 0 ≡ false) × (obeys 7 1 3 0 0 1 0 0 0 0 ≡ false)
+      × (obeys 8 1 0 1 3 1 0 0 0 0 ≡ false)
+
+pub hops : Hops
+unfolding opened
+hops =
+    record {
+      farther = (refl, refl);
+      tie = refl;
+      met = (refl, refl, refl, refl);
+      one-more = (refl, refl, refl, refl);
+      others = (refl, refl, refl, refl, refl, refl, refl);
     }

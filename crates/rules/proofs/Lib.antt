@@ -1,6 +1,7 @@
 pub mod Best
 pub mod Closest
 pub mod Steps
+pub mod Capped
 pub mod Leaf
 pub mod Hops
 pub mod Cases

@@ -12,13 +12,13 @@ use Rattle.rules.specs.declared.Pool.{Pool}
 use Rattle.rules.specs.declared.Plan.{Plan}
 use Rattle.rules.specs.declared.Via.the-variants.{Unrouted}
 use Rattle.rules.specs.Nodes.{placed}
-use Rattle.rules.specs.Letters.{noSides, lookup, lsProbe, lsProbeReply}
+use Rattle.rules.specs.Letters.{noSides, lookup, lookupAfter, lsProbe, lsProbeReply}
 use Rattle.rules.specs.Pool.{blank, messageAt, waiting, lay, laid}
 use Rattle.rules.specs.Mail.{alike, allDifferent, firstEqual, added, removedAt, sent}
 use Rattle.rules.specs.Plans.{mailed}
 use Rattle.rules.proofs.Small.{opened, node}
 
--- kind, destination, node or key, flag, owner, sixth word, routing, left, right, failed
+-- kind, destination, node or key, flag, owner, hops, routing, left, right, failed
 abbrev message : ℕ → ℕ → ℕ → ℕ → ℕ → ℕ → ℕ → ℕ → ℕ → ℕ → Message
 message kind dest word flag owner hops routing left right failed =
     record {
@@ -47,6 +47,10 @@ b = placed (lookup 80) 1
 abbrev c : Message
 c = placed (lookup 90) 1
 
+-- the first of them after two forwardings
+abbrev a2 : Message
+a2 = placed (lookupAfter 2 70) 1
+
 -- a probe and a reply, for no slot yet
 abbrev probe : Message
 probe = lsProbe 0 noSides 0
@@ -69,6 +73,8 @@ pub record Equals : Type 0 where
   pub left : alike plain (message 1 1 1 1 1 0 1 3 1 1) ≡ false
   pub right : alike plain (message 1 1 1 1 1 0 1 1 3 1) ≡ false
   pub failed : alike plain (message 1 1 1 1 1 0 1 1 1 3) ≡ false
+  -- T-07: equality of messages ignores the hop number
+  pub hops : (alike plain (message 1 1 1 1 1 5 1 1 1 1) ≡ true) × (alike (message 1 1 1 1 1 5 1 1 1 1) plain ≡ true)
 
 pub equals : Equals
 unfolding opened
@@ -84,6 +90,7 @@ equals =
       left = refl;
       right = refl;
       failed = refl;
+      hops = (refl, refl);
     }
 
 pub record Waiting : Type 0 where
@@ -93,6 +100,8 @@ pub record Waiting : Type 0 where
   pub first : (firstEqual (a ∷ b ∷ b ∷ []) b ≡ At 1) × (firstEqual (a ∷ b ∷ a ∷ []) a ≡ At 0) × (firstEqual (a ∷ b ∷ []) c ≡ Nothing)
   -- adds nothing if there is one, else goes to the end
   pub not-added : added (a ∷ b ∷ []) a ≡ a ∷ b ∷ []
+  -- T-07: the earlier message with its own number stays, the smaller or the larger
+  pub own-number : (added (a2 ∷ b ∷ []) a ≡ a2 ∷ b ∷ []) × (added (a ∷ b ∷ []) a2 ≡ a ∷ b ∷ []) × (allDifferent (a ∷ b ∷ a2 ∷ []) ≡ false)
   pub at-the-end : added (a ∷ b ∷ []) c ≡ a ∷ b ∷ c ∷ []
   -- removing closes the gap
   pub removed : (removedAt (a ∷ b ∷ c ∷ []) 0 ≡ b ∷ c ∷ []) × (removedAt (a ∷ b ∷ c ∷ []) 1 ≡ a ∷ c ∷ [])
@@ -113,6 +122,7 @@ waiting-messages =
       different = (refl, refl, refl);
       first = (refl, refl, refl);
       not-added = refl;
+      own-number = (refl, refl, refl);
       at-the-end = refl;
       removed = (refl, refl, refl);
       rising = refl;

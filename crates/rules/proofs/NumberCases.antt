@@ -11,7 +11,7 @@ use Rattle.rules.specs.declared.Via.the-variants as via
 use Rattle.rules.specs.Limits.{mLow, mHigh, lLow, lHigh, nodesHigh, messagesHigh}
 use Rattle.rules.specs.Numbers.{statusNumber, answerNumber, viaNumber}
 use Rattle.rules.specs.Nodes.{placed}
-use Rattle.rules.specs.Letters.{lookup, joinRequest, joinReply, lsProbe, lsProbeReply, noLegalRoute, leaseRequest, broadcastLSet}
+use Rattle.rules.specs.Letters.{lookup, lookupAfter, joinRequest, joinReply, lsProbe, lsProbeReply, noLegalRoute, leaseRequest, broadcastLSet}
 use Rattle.rules.proofs.Small.{sides}
 
 pub record Numbers : Type 0 where
@@ -66,7 +66,7 @@ numbers =
       vias = refl;
     }
 
--- kind, destination, node or key, flag, owner, sixth word, routing, left, right, failed
+-- kind, destination, node or key, flag, owner, hops, routing, left, right, failed
 abbrev row : Message → List ℕ
 row m = m .kind ∷ m .dest ∷ m .word ∷ m .flag ∷ m .owner ∷ m .hops ∷ m .routing ∷ m .left ∷ m .right ∷ m .failed ∷ []
 
@@ -76,6 +76,7 @@ s = sides 2 8
 -- a field that a kind lacks is 0
 pub record Letters : Type 0 where
   pub one : row (lookup 80) ≡ 1 ∷ 0 ∷ 80 ∷ 0 ∷ 0 ∷ 0 ∷ 0 ∷ 0 ∷ 0 ∷ 0 ∷ []
+  pub one-after : row (lookupAfter 7 80) ≡ 1 ∷ 0 ∷ 80 ∷ 0 ∷ 0 ∷ 7 ∷ 0 ∷ 0 ∷ 0 ∷ 0 ∷ []
   pub two : row (joinRequest 3 6) ≡ 2 ∷ 0 ∷ 3 ∷ 0 ∷ 0 ∷ 0 ∷ 6 ∷ 0 ∷ 0 ∷ 0 ∷ []
   pub three : row (joinReply 6 3 s) ≡ 3 ∷ 0 ∷ 0 ∷ 0 ∷ 3 ∷ 0 ∷ 6 ∷ 2 ∷ 8 ∷ 0 ∷ []
   pub four : row (lsProbe 3 s 6) ≡ 4 ∷ 0 ∷ 3 ∷ 0 ∷ 3 ∷ 0 ∷ 0 ∷ 2 ∷ 8 ∷ 6 ∷ []
@@ -85,6 +86,7 @@ pub record Letters : Type 0 where
   pub eight : row (broadcastLSet 3 s 1) ≡ 8 ∷ 0 ∷ 0 ∷ 1 ∷ 3 ∷ 0 ∷ 0 ∷ 2 ∷ 8 ∷ 0 ∷ []
   -- the same message for another destination
   pub elsewhere : row (placed (lsProbe 3 s 6) 1) ≡ 4 ∷ 1 ∷ 3 ∷ 0 ∷ 3 ∷ 0 ∷ 0 ∷ 2 ∷ 8 ∷ 6 ∷ []
+  pub hops-kept : row (placed (lookupAfter 7 80) 1) ≡ 1 ∷ 1 ∷ 80 ∷ 0 ∷ 0 ∷ 7 ∷ 0 ∷ 0 ∷ 0 ∷ 0 ∷ []
   pub all-kept : row (placed (placed (joinReply 6 3 s) 2) 1) ≡ 3 ∷ 1 ∷ 0 ∷ 0 ∷ 3 ∷ 0 ∷ 6 ∷ 2 ∷ 8 ∷ 0 ∷ []
   pub flag-kept : row (placed (broadcastLSet 3 s 1) 2) ≡ 8 ∷ 2 ∷ 0 ∷ 1 ∷ 3 ∷ 0 ∷ 0 ∷ 2 ∷ 8 ∷ 0 ∷ []
 
@@ -92,6 +94,7 @@ pub letters : Letters
 letters =
     record {
       one = refl;
+      one-after = refl;
       two = refl;
       three = refl;
       four = refl;
@@ -100,6 +103,7 @@ letters =
       seven = refl;
       eight = refl;
       elsewhere = refl;
+      hops-kept = refl;
       all-kept = refl;
       flag-kept = refl;
     }

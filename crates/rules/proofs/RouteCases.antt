@@ -13,7 +13,7 @@ use Rattle.rules.specs.declared.Planned.the-variants.{No}
 use Rattle.rules.specs.declared.Refusal.the-variants as no
 use Rattle.rules.specs.declared.Via.the-variants.{Unrouted, Leaf, Routing}
 use Rattle.rules.specs.Nodes.{placed}
-use Rattle.rules.specs.Letters.{lookup, joinRequest, joinReply, noLegalRoute}
+use Rattle.rules.specs.Letters.{lookupAfter, joinRequest, joinReply, noLegalRoute}
 use Rattle.rules.specs.Take.{planTake, planDeliver, planForward, planTakeJoinRequest, planTakeJoinReply, planTakeProbe, planTakeProbeReply}
 use Rattle.rules.specs.Take.{planTakeLeaseRequest, planTakeBroadcast}
 use Rattle.rules.proofs.Small.{opened, four, ids, node, sides, atEach, made, saidBy}
@@ -26,7 +26,7 @@ abbrev delivers : ℕ → ℕ → ℕ → Status → Planned
 delivers kind failed k s = planDeliver kind four ids 2 (node 65 s 8 2 1 failed 15 5 3) k
 
 abbrev forwards : ℕ → ℕ → ℕ → ℕ → Status → Planned
-forwards kind dead failed k s = planForward kind four ids dead 2 (node 65 s 8 2 1 failed 15 5 3) k
+forwards kind dead failed k s = planForward kind four ids dead 2 (node 65 s 8 2 1 failed 15 5 3) k 0
 
 pub record LookupDelivered : Type 0 where
   pub covered : atEach (delivers 1 0 60) ≡ 2 ∷ 2 ∷ 2 ∷ 0 ∷ []
@@ -47,13 +47,26 @@ pub record LookupForwarded : Type 0 where
   pub covered : atEach (forwards 1 0 0 60) ≡ 2 ∷ 2 ∷ 2 ∷ 5 ∷ []
   pub another-kind : atEach (forwards 2 0 0 200) ≡ 5 ∷ 5 ∷ 5 ∷ 5 ∷ []
   pub no-legal-route : atEach (forwards 6 0 0 200) ≡ 5 ∷ 5 ∷ 5 ∷ 5 ∷ []
-  pub goes-on : made (forwards 1 0 0 200 Ready) ≡ (node 65 Ready 8 2 1 0 15 5 3, placed (lookup 200) 1 ∷ [])
+  pub goes-on : made (forwards 1 0 0 200 Ready) ≡ (node 65 Ready 8 2 1 0 15 5 3, placed (lookupAfter 1 200) 1 ∷ [])
+  -- T-07: one more at each forwarding; NoLegalRoute has none
+  pub one-more : made (planForward 1 four ids 0 2 (node 65 Ready 8 2 1 0 15 5 3) 200 7) ≡ (node 65 Ready 8 2 1 0 15 5 3, placed (lookupAfter 8 200) 1 ∷ [])
+  pub none-stranded : made (planForward 1 four ids 8 2 (node 65 Ready 8 2 1 2 15 5 3) 200 7)
+      ≡ (node 65 Ready 8 2 1 2 15 5 3, placed (noLegalRoute 200) 2 ∷ [])
   pub no-route : made (forwards 1 8 2 200 Ready) ≡ (node 65 Ready 8 2 1 2 15 5 3, placed (noLegalRoute 200) 2 ∷ [])
 
 pub lookup-forwarded : LookupForwarded
 unfolding opened
 lookup-forwarded =
-    record { uncovered = refl; covered = refl; another-kind = refl; no-legal-route = refl; goes-on = refl; no-route = refl }
+    record {
+      uncovered = refl;
+      covered = refl;
+      another-kind = refl;
+      no-legal-route = refl;
+      goes-on = refl;
+      one-more = refl;
+      none-stranded = refl;
+      no-route = refl;
+    }
 
 -- ---- 2. From j. 2 unless ready; 5 if j is in i's content. If i covers j's id, a JoinReply to j with m's routing set and i's leaf set.
 -- Else to the next hop with i's routing set joined in, or NoLegalRoute(id of j) to i.
@@ -102,7 +115,7 @@ abbrev farIds : List ℕ
 farIds = 0 ∷ 40 ∷ 100 ∷ 110 ∷ 200 ∷ []
 
 abbrev looks : ℕ → ℕ → Planned
-looks routing k = planForward 1 five farIds 0 0 (node 0 Ready 16 2 0 0 routing 0 0) k
+looks routing k = planForward 1 five farIds 0 0 (node 0 Ready 16 2 0 0 routing 0 0) k 0
 
 abbrev joins : ℕ → ℕ → Planned
 joins routing j = planTakeJoinRequest five farIds 0 0 (node 0 Ready 16 2 0 0 routing 0 0) j 0
@@ -113,9 +126,9 @@ pub record Said : Type 0 where
   -- delivered, no legal route, refused: nothing is routed
   pub not-routed : (saidBy (delivers 1 0 60 Ready) ≡ Unrouted) × (saidBy (forwards 1 8 2 200 Ready) ≡ Unrouted) × (saidBy (forwards 1 0 0 200 Ok) ≡ Unrouted)
   -- 100 is in the routing set alone
-  pub routing : (made (looks 31 105) ≡ (node 0 Ready 16 2 0 0 31 0 0, placed (lookup 105) 2 ∷ [])) × (saidBy (looks 31 105) ≡ Routing)
+  pub routing : (made (looks 31 105) ≡ (node 0 Ready 16 2 0 0 31 0 0, placed (lookupAfter 1 105) 2 ∷ [])) × (saidBy (looks 31 105) ≡ Routing)
   -- 200 is in content, though found by content and routing set
-  pub by-the-node : (made (looks 19 140) ≡ (node 0 Ready 16 2 0 0 19 0 0, placed (lookup 140) 4 ∷ [])) × (saidBy (looks 19 140) ≡ Leaf)
+  pub by-the-node : (made (looks 19 140) ≡ (node 0 Ready 16 2 0 0 19 0 0, placed (lookupAfter 1 140) 4 ∷ [])) × (saidBy (looks 19 140) ≡ Leaf)
   -- a JoinRequest of 110: by the routing set to 100, by content to 40, and a reply
   pub join : (saidBy (joins 4 3) ≡ Routing) × (saidBy (joins 2 3) ≡ Leaf) × (saidBy (passing 0 0 3 Ready) ≡ Leaf)
       × (saidBy (covering 3 Ready) ≡ Unrouted) × (saidBy (passing 4 1 3 Ready) ≡ Unrouted)

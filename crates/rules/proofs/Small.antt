@@ -22,7 +22,7 @@ use Rattle.rules.specs.Leaf.{contentOf, seenFrom, leafWith, leafWithOne,
 use Rattle.rules.specs.Hop.{leafCandidates, routeCandidates, byLeaf, leafHop, routeHop, nextHop, viaOf}
 use Rattle.rules.specs.Mail.{alike, allDifferent, firstFrom, firstEqual, added, removedAt, sentTo}
 use Rattle.rules.specs.Fits.{numbersFit, idFits, sideFits, leafFits, othersFit, nodeFits, isBlank, slotFits}
-use Rattle.rules.specs.Fits.{wordFits, flagFits, carriedFits, ownerFits, routingFits, failedFits, fieldsFit, messageFits}
+use Rattle.rules.specs.Fits.{wordFits, flagFits, carriedFits, ownerFits, routingFits, failedFits, fieldsFit, messageFits, fartherThan, hopsFit}
 use Rattle.rules.specs.Plans.{mailed}
 use Rattle.rules.specs.Actions.{waits, joinWaits, planLookup, planJoin, leasePlan, planRequestLease}
 use Rattle.rules.specs.Actions.{isNeighbour, planLeaseExpired, planGrantExpired}
@@ -34,14 +34,14 @@ use Rattle.rules.specs.Leave.{replyWaits, planResignNode, lastEnd, planR
 
 -- to unfold this is to unfold all that the rules compute with
 unfoldable pub opened : Unit {0}
-unfolding fallOf signedOf absDistOf risesTo nearer leftCoverOf rightCoverOf coversKey has gather tally allTo single union meet without
-    addOf removeOf sizeOf listed best closest contentOf seenFrom leafWith leafWithOne overlaps isFull isComplete isEmpty coversOf leafCandidates
+unfolding fallOf signedOf absDistOf risesTo nearer leftCoverOf rightCoverOf coversKey has gather tally allTo single union meet without addOf
+    removeOf sizeOf listed best closest contentOf seenFrom leafWith leafWithOne overlaps isFull isComplete isEmpty coversOf leafCandidates
     routeCandidates byLeaf leafHop routeHop nextHop viaOf alike allDifferent firstFrom firstEqual added removedAt sentTo numbersFit idFits
     sideFits leafFits othersFit nodeFits isBlank slotFits wordFits flagFits carriedFits ownerFits routingFits failedFits fieldsFit
-    messageFits mailed waits joinWaits planLookup planJoin leasePlan planRequestLease isNeighbour planLeaseExpired planGrantExpired
-    planDeliver planForward planTakeJoinRequest planTakeJoinReply probes2 probesOf probePlanOf planTakeProbe statusAfterReply replyPlanOf
-    planTakeProbeReply planTakeLeaseRequest broadcastPlan planTakeBroadcast planTake planNodeLeft planSuspectFaulty withoutProbes
-    planProbeTimeOut planDeclareDead endsToProbe planLSRepair replyWaits planResignNode lastEnd planRecover
+    messageFits fartherThan hopsFit mailed waits joinWaits planLookup planJoin leasePlan planRequestLease isNeighbour planLeaseExpired
+    planGrantExpired planDeliver planForward planTakeJoinRequest planTakeJoinReply probes2 probesOf probePlanOf planTakeProbe
+    statusAfterReply replyPlanOf planTakeProbeReply planTakeLeaseRequest broadcastPlan planTakeBroadcast planTake planNodeLeft
+    planSuspectFaulty withoutProbes planProbeTimeOut planDeclareDead endsToProbe planLSRepair replyWaits planResignNode lastEnd planRecover
 opened = tt
 
 -- ---- rings: M = 8

@@ -55,6 +55,20 @@ module _ (n i : ℕ) (hi : i < n) where
   pub down-round : (d : ℕ) → d < n → i < d → stepsOf false n i (i + n - d) ≡ d
   down-round d h k = ⊎-elim (λ p. absurd (omega arith)) (λ p. omega arith) (falls n i (i + n - d) hi (omega arith))
 
+  -- it is the only one that one step more passes
+  pub reached : (up : Bool) (d s : ℕ) → s < n → stepsOf up n i s ≡ d → (t : ℕ) → t < n
+      → ltb (stepsOf up n i t) (d + 1) ≡ (ltb (stepsOf up n i t) d || eqb t s)
+  reached up d s hs at-d t k = go (stepsOf up n i t) refl (lt-or-le (stepsOf up n i t) d) (eq-or-ne t s)
+    where
+      go : (x : ℕ) → stepsOf up n i t ≡ x → (x < d) ⊎ (d ≤ x) → (t ≡ s) ⊎ (t ≡ s → ⊥) → ltb x (d + 1) ≡ (ltb x d || eqb t s)
+      go x q (inl a) e = rw (lt-ltb x d a) (lt-ltb x (d + 1) (omega arith))
+      go x q (inr a) (inl e) =
+          let v : x ≡ d = sym q ∙ ap (stepsOf up n i) e ∙ at-d in
+          rw (le-ltb x d a, eq-eqb t s e) (lt-ltb x (d + 1) (omega arith))
+      go x q (inr a) (inr e) =
+          let v : x ≡ d → ⊥ = λ w. e (steps-inj up t s k hs (q ∙ w ∙ sym at-d)) in
+          rw (le-ltb x d a, ne-eqb t s e) (le-ltb x (d + 1) (omega arith))
+
 -- ---- the walk
 
 -- a member other than i at fewer than d steps
@@ -129,22 +143,9 @@ module _ (up : Bool) (set i n l : ℕ) (hi : i < n) (hn : n ≤ 64) where
   looked-kept = gather-same n _ _ (λ s h. and-assoc (has set s) (not (eqb s i)) _)
 
   module _ (d s : ℕ) (hs : s < n) (at-d : stepsOf up n i s ≡ d) where
-    -- the slot at d steps is the only one that one step more passes
-    reached : (t : ℕ) → t < n → ltb (stepsOf up n i t) (d + 1) ≡ (ltb (stepsOf up n i t) d || eqb t s)
-    reached t k = go (stepsOf up n i t) refl (lt-or-le (stepsOf up n i t) d) (eq-or-ne t s)
-      where
-        go : (x : ℕ) → stepsOf up n i t ≡ x → (x < d) ⊎ (d ≤ x) → (t ≡ s) ⊎ (t ≡ s → ⊥) → ltb x (d + 1) ≡ (ltb x d || eqb t s)
-        go x q (inl a) e = rw (lt-ltb x d a) (lt-ltb x (d + 1) (omega arith))
-        go x q (inr a) (inl e) =
-            let v : x ≡ d = sym q ∙ ap (stepsOf up n i) e ∙ at-d in
-            rw (le-ltb x d a, eq-eqb t s e) (lt-ltb x (d + 1) (omega arith))
-        go x q (inr a) (inr e) =
-            let v : x ≡ d → ⊥ = λ w. e (steps-inj n i hi up t s k hs (q ∙ w ∙ sym at-d)) in
-            rw (le-ltb x d a, ne-eqb t s e) (le-ltb x (d + 1) (omega arith))
-
     passed-more : (t : ℕ) → t < n → passedBy up set i n (d + 1) t ≡ (passedBy up set i n d t || (otherThan set i s && eqb t s))
     passed-more t k =
-        rw (reached t k) (and-or-distrib-left (otherThan set i t) (ltb (stepsOf up n i t) d) (eqb t s)
+        rw (reached n i hi up d s hs at-d t k) (and-or-distrib-left (otherThan set i t) (ltb (stepsOf up n i t) d) (eqb t s)
         ∙ ap (λ (b : Bool). passedBy up set i n d t || b) (same (eq-or-ne t s)))
       where
         same : (t ≡ s) ⊎ (t ≡ s → ⊥) → (otherThan set i t && eqb t s) ≡ (otherThan set i s && eqb t s)

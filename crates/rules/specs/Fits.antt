@@ -5,7 +5,8 @@ use mathlib.Core.Bool.{Bool, true, cond, _&&_, _||_, not}
 use mathlib.Core.List.{List}
 use Prim.Native.Nat.{ℕ, pred, _^_}
 use lib.Dec.{eqb, leb, ltb}
-use Rattle.marks.specs.Marks.{has, sizeOf, listed}
+use Rattle.ring.specs.Distance.{nearer}
+use Rattle.marks.specs.Marks.{has, sizeOf, listed, tally}
 use Rattle.rules.specs.Pick.{idAt}
 use Rattle.rules.specs.declared.Node.{Node}
 use Rattle.rules.specs.declared.Ring.{Ring}
@@ -117,6 +118,17 @@ fieldsFit kind g m =
     && (carriedFits kind g (m .owner) (carriedOf m)
     && (ownerFits kind (m .word) (m .owner) && (routingFits kind g (m .routing) && failedFits kind g (m .failed)))))
 
--- each message obeys its kind; its destination is a slot, and its sixth word is 0
+-- each message obeys its kind; its destination is a slot
 unfoldable pub messageFits : Ring → Message → Bool
-messageFits g m = isKind (m .kind) && (ltb (m .dest) (g .n) && (eqb (m .hops) 0 && fieldsFit (m .kind) g m))
+messageFits g m = isKind (m .kind) && (ltb (m .dest) (g .n) && fieldsFit (m .kind) g m)
+
+-- ---- hops
+-- T-07: The message record gets a hop number, 0 on issue, one more at each forwarding, always 0 for kinds other than Lookup. Validity gains: a Lookup's hops
+-- are at most the number of listed nodes farther from its key than its destination (farther by 01's order).
+
+-- the number of listed nodes farther from key k than slot d
+unfoldable pub fartherThan : Ring → List ℕ → ℕ → ℕ → ℕ
+fartherThan g ids k d = tally (g .n) (λ s. nearer (2 ^ g .m) k (idAt ids d) (idAt ids s))
+
+unfoldable pub hopsFit : Ring → List ℕ → Message → Bool
+hopsFit g ids m = zeroUnless (eqb (m .kind) 1) (leb (m .hops) (fartherThan g ids (m .word) (m .dest))) (m .hops)

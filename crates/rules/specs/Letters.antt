@@ -1,4 +1,4 @@
--- The messages of 01, for no destination yet. A field that a kind lacks is 0. Assumes nothing.
+-- The messages of 01, for no destination yet. A field that a kind lacks is 0; the hop number (T-07) is always 0 for kinds other than Lookup. Assumes nothing.
 use Prim.Native.Nat.{ℕ}
 use Rattle.rules.specs.declared.Sides.{Sides}
 use Rattle.rules.specs.declared.Message.{Message}
@@ -21,9 +21,14 @@ letter kind word flag owner routing s failed =
 abbrev pub noSides : Sides
 noSides = record { left = 0; right = 0 }
 
--- 1 Lookup (key)
+-- 1 Lookup (key), with its hop number (T-07)
+abbrev pub lookupAfter : ℕ → ℕ → Message
+lookupAfter hops k =
+    record { kind = 1; dest = 0; word = k; flag = 0; owner = 0; hops = hops; routing = 0; left = 0; right = 0; failed = 0 }
+
+-- T-07: 0 on issue
 abbrev pub lookup : ℕ → Message
-lookup k = letter 1 k 0 0 0 noSides 0
+lookup k = lookupAfter 0 k
 
 -- 2 JoinRequest (node, routing set)
 abbrev pub joinRequest : ℕ → ℕ → Message

@@ -12,7 +12,7 @@ use Rattle.rules.specs.declared.Message.{Message}
 use Rattle.rules.specs.Nodes.{placed}
 use Rattle.rules.specs.Pool.{blank, waiting}
 
--- a message's fields in a row, but for the sixth word: it is 0 in every valid pool, so leaving it out changes nothing
+-- a message's fields in a row, but for its hops. T-07: Equality of messages ignores it, and the earlier message with its own number stays
 abbrev pub fieldsOf : Message → List ℕ
 fieldsOf m =
     m .dest ∷ m .kind ∷ m .word ∷ m .flag ∷ m .owner ∷ m .routing ∷ m .left ∷ m .right ∷ m .failed ∷ []

@@ -3,7 +3,7 @@
 -- 01's words stand above each kind; "several probes are sent in rising slot order" is Mail.sent. Definitions only. Assumes nothing.
 use mathlib.Core.Bool.{Bool, cond, _&&_, _||_, not}
 use mathlib.Core.List.{List}
-use Prim.Native.Nat.{ℕ}
+use Prim.Native.Nat.{ℕ, _+_}
 use lib.Dec.{eqb}
 use Rattle.marks.specs.Marks.{has, union, meet, without, addOf, removeOf}
 use Rattle.marks.specs.declared.Found.the-variants.{At, Nothing}
@@ -25,7 +25,7 @@ use Rattle.rules.specs.declared.Plan.{Plan}
 use Rattle.rules.specs.declared.Via.the-variants as via
 use Rattle.rules.specs.declared.Planned.{Planned}
 use Rattle.rules.specs.declared.Planned.the-variants.{No, Go}
-use Rattle.rules.specs.Letters.{lookup, joinRequest, joinReply, lsProbe, lsProbeReply, noLegalRoute, broadcastLSet}
+use Rattle.rules.specs.Letters.{lookupAfter, joinRequest, joinReply, lsProbe, lsProbeReply, noLegalRoute, broadcastLSet}
 use Rattle.rules.specs.Plans.{isDead, isWait, isReady, isUp, withLeases, quietPlan, sendBy, sendPlan}
 use Rattle.rules.specs.Actions.{isBeside, isNeighbour}
 
@@ -48,13 +48,13 @@ planDeliver kind g ids i v k =
     (cond (not (coversOf g ids i (sidesOf v) k)) (No no.Partner)
     (Go (quietPlan v))))
 
--- 5 on another kind; 2 unless ready; 5 when covered
-unfoldable pub planForward : ℕ → Ring → List ℕ → ℕ → ℕ → Node → ℕ → Planned
-planForward kind g ids dead i v k =
+-- 5 on another kind; 2 unless ready; 5 when covered. T-07: one more at each forwarding
+unfoldable pub planForward : ℕ → Ring → List ℕ → ℕ → ℕ → Node → ℕ → ℕ → Planned
+planForward kind g ids dead i v k hops =
     cond (not (eqb kind 1)) (No no.Partner)
     (cond (not (isReady (v .status))) (No no.Status)
     (cond (coversOf g ids i (sidesOf v) k) (No no.Partner)
-    (Go (forwardPlan (nextHop g ids dead i v k) v (lookup k) k i))))
+    (Go (forwardPlan (nextHop g ids dead i v k) v (lookupAfter (hops + 1) k) k i))))
 
 -- ---- 2 JoinRequest
 -- From j. 2 unless ready; 5 if j is in i's content. If i covers j's id, a JoinReply to j with m's routing set and i's leaf set.

@@ -43,7 +43,7 @@ pub struct Node {
     pub grant: u64,
 }
 
-// A message. `word` is the key or the node; `hops` is the sixth word, which is 0.
+// A message. `word` is the key or the node; `hops` is the hop number of a Lookup, and 0 for every other kind.
 pub struct Message {
     pub kind: u32,
     pub dest: u32,

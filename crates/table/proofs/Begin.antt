@@ -74,6 +74,7 @@ module _ (m l : ℕ) (ids : List ℕ) (a : ℕ) (f : StartFits m l (length ids))
         blank = made-blank m l ids a f e;
         counted = omega arith;
         message = λ q h. absurd (omega arith);
+        hops = λ q h. absurd (omega arith);
         different = none-differ;
       }
 

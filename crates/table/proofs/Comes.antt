@@ -26,7 +26,7 @@ use Rattle.rules.specs.Hop.{nextHop, viaOf}
 use Rattle.rules.specs.Leaf.{contentOf, leafWith, isComplete, isEmpty, coversOf}
 use Rattle.rules.specs.Leave.{emptied, probingPlan, afterTimeOut, withoutMember, lacksSide, lacksBoth, endsToProbe, lastEnd}
 use Rattle.rules.specs.Leave.{planNodeLeft, planSuspectFaulty, planProbeTimeOut, planDeclareDead, planLSRepair, planResignNode, planRecover}
-use Rattle.rules.specs.Letters.{lookup, joinRequest, joinReply, noLegalRoute}
+use Rattle.rules.specs.Letters.{lookup, lookupAfter, joinRequest, joinReply, noLegalRoute}
 use Rattle.rules.specs.Nodes.{sidesOf, carriedOf}
 use Rattle.rules.specs.Pick.{idAt}
 use Rattle.rules.specs.Plans.{isDead, isWait, isReady, isOk, isUp, withStatus, withLeases, quietPlan, sendBy, sendPlan}
@@ -161,16 +161,16 @@ module _ {Q : Refusal → Type 0} {P : Plan → Type 0} where
       unless (not (isReady (v .status))) (says-no (two (eqb-true kind 1 (not-false (eqb kind 1) e))))
       (unless (not (coversOf g ids i (sidesOf v) k)) (says-no five) (goes delivered)))
 
-  pub by-forward : (kind : ℕ) (g : Ring) (ids : List ℕ) (dead i : ℕ) (v : Node) (k : ℕ) → (kind ≡ 1 → Q no.Status) → Q no.Partner
-      → (kind ≡ 1 → (h : ℕ) → nextHop g ids dead i v k ≡ To h → P (sendBy (viaOf i v h) v (lookup k) h))
+  pub by-forward : (kind : ℕ) (g : Ring) (ids : List ℕ) (dead i : ℕ) (v : Node) (k hops : ℕ) → (kind ≡ 1 → Q no.Status) → Q no.Partner
+      → (kind ≡ 1 → (h : ℕ) → nextHop g ids dead i v k ≡ To h → P (sendBy (viaOf i v h) v (lookupAfter (hops + 1) k) h))
       → (kind ≡ 1 → nextHop g ids dead i v k ≡ NoRoute → P (sendPlan v (noLegalRoute k) i))
-      → Comes Q P (planForward kind g ids dead i v k)
+      → Comes Q P (planForward kind g ids dead i v k hops)
   unfolding planForward
-  by-forward kind g ids dead i v k two five to none =
+  by-forward kind g ids dead i v k hops two five to none =
       either (not (eqb kind 1)) (λ _. says-no five) (λ e.
       let is = eqb-true kind 1 (not-false (eqb kind 1) e) in
       unless (not (isReady (v .status))) (says-no (two is))
-      (unless (coversOf g ids i (sidesOf v) k) (says-no five) (forward (nextHop g ids dead i v k) v (lookup k) k i (to is) (none is))))
+      (unless (coversOf g ids i (sidesOf v) k) (says-no five) (forward (nextHop g ids dead i v k) v (lookupAfter (hops + 1) k) k i (to is) (none is))))
 
   pub by-take-join-request : (g : Ring) (ids : List ℕ) (dead i : ℕ) (v : Node) (j routing : ℕ) → Q no.Status → Q no.Partner
       → P (sendPlan v (joinReply routing i (sidesOf v)) j)

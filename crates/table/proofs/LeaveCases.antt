@@ -4,6 +4,7 @@ use mathlib.Core.Path.{_≡_, refl}
 use mathlib.Core.List.{List, [], _∷_, _++_}
 use Prim.Native.Nat.{ℕ}
 use lib.ListN.{replicate}
+use Rattle.ring.specs.Distance.{signedOf, absDistOf, risesTo, nearer}
 use Rattle.ring.specs.Distance.{fallOf}
 use Rattle.marks.specs.Marks.{has, gather, tally, allTo, single, union, meet, addOf, removeOf, sizeOf, listed}
 use Rattle.rules.specs.declared.Action.{Action}
@@ -22,7 +23,7 @@ use Rattle.rules.specs.Closest.{closest}
 use Rattle.rules.specs.Leaf.{contentOf, seenFrom, leafWith, overlaps, isFull, isComplete, isEmpty}
 use Rattle.rules.specs.Mail.{alike, allDifferent, firstFrom, firstEqual, added, removedAt, sentTo}
 use Rattle.rules.specs.Fits.{numbersFit, idFits, sideFits, leafFits, othersFit, nodeFits, isBlank, slotFits}
-use Rattle.rules.specs.Fits.{wordFits, flagFits, carriedFits, ownerFits, routingFits, failedFits, fieldsFit, messageFits}
+use Rattle.rules.specs.Fits.{wordFits, flagFits, carriedFits, ownerFits, routingFits, failedFits, fieldsFit, messageFits, fartherThan, hopsFit}
 use Rattle.rules.specs.Plans.{mailed}
 use Rattle.rules.specs.Actions.{joinWaits, planJoin, isNeighbour}
 use Rattle.rules.specs.Leave.{withoutProbes, replyWaits, endsToProbe, lastEnd}
@@ -180,11 +181,12 @@ pub record LeaveCases : Type 0 where
   pub back : Back
 
 pub leave-cases : LeaveCases
-unfolding fallOf has gather tally allTo single union meet addOf removeOf sizeOf listed best closest contentOf seenFrom leafWith overlaps isFull isComplete isEmpty
-    alike allDifferent firstFrom firstEqual added removedAt sentTo numbersFit idFits sideFits leafFits othersFit nodeFits isBlank slotFits wordFits flagFits
-    carriedFits ownerFits routingFits failedFits fieldsFit messageFits mailed joinWaits planJoin isNeighbour withoutProbes replyWaits endsToProbe lastEnd planNodeLeft
-    planSuspectFaulty planProbeTimeOut planDeclareDead planLSRepair planResignNode planRecover slotIds slotsTo startNode startNodes startFits idsRise listFits
-    startOf nodesFit messagesFit poolFits validOf carriedOut settle readySet okSet isSound stepOf
+unfolding fallOf has gather tally allTo single union meet addOf removeOf sizeOf listed best closest contentOf seenFrom leafWith overlaps
+    isFull isComplete isEmpty alike allDifferent firstFrom firstEqual added removedAt sentTo numbersFit idFits sideFits leafFits othersFit
+    nodeFits isBlank slotFits wordFits flagFits carriedFits ownerFits routingFits failedFits fieldsFit messageFits fartherThan hopsFit
+    nearer risesTo absDistOf signedOf mailed joinWaits planJoin isNeighbour withoutProbes replyWaits endsToProbe lastEnd planNodeLeft
+    planSuspectFaulty planProbeTimeOut planDeclareDead planLSRepair planResignNode planRecover slotIds slotsTo startNode startNodes
+    startFits idsRise listFits startOf nodesFit messagesFit poolFits validOf carriedOut settle readySet okSet isSound stepOf
 leave-cases =
     record {
       ranges = record {

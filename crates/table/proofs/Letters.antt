@@ -9,12 +9,12 @@ use Rattle.rules.specs.declared.Ring.{Ring}
 use Rattle.rules.specs.declared.Sides.{Sides}
 use Rattle.rules.specs.Fits.{leafFits, wordFits, flagFits, carriedFits, ownerFits, routingFits, failedFits, fieldsFit, messageFits}
 use Rattle.rules.specs.Nodes.{placed}
-use Rattle.rules.specs.Letters.{lookup, joinRequest, joinReply, lsProbe, lsProbeReply, noLegalRoute, leaseRequest, broadcastLSet}
+use Rattle.rules.specs.Letters.{lookupAfter, joinRequest, joinReply, lsProbe, lsProbeReply, noLegalRoute, leaseRequest, broadcastLSet}
 
 module _ (g : Ring) (s : ℕ) (h : s < g .n) where
-  pub lookup-fits : (k : ℕ) → k < 2 ^ g .m → messageFits g (placed (lookup k) s) ≡ true
+  pub lookup-fits : (hops k : ℕ) → k < 2 ^ g .m → messageFits g (placed (lookupAfter hops k) s) ≡ true
   unfolding messageFits fieldsFit wordFits flagFits carriedFits ownerFits routingFits failedFits
-  lookup-fits k l = rw (lt-ltb s (g .n) h, lt-ltb k (2 ^ g .m) l)
+  lookup-fits hops k l = rw (lt-ltb s (g .n) h, lt-ltb k (2 ^ g .m) l)
 
   pub joinRequest-fits : (j routing : ℕ) → j < g .n → listed (g .n) routing ≡ true
       → messageFits g (placed (joinRequest j routing) s) ≡ true

@@ -174,7 +174,7 @@ module _ {t : Table} {p : Pool} (s : Sound t p) where
     forwarded-named : Comes (Named p (Forward place)) (Roomy t p (Forward place)) (forwardedOf t (messageAt p place))
     forwarded-named =
         let m = messageAt p place in
-        by-forward (m .kind) (ringOf t) (idsOf t) (deadSet t) (m .dest) (nodeAt t (m .dest)) (m .word) pair-two (pair-five (eqb (m .kind) 1))
+        by-forward (m .kind) (ringOf t) (idsOf t) (deadSet t) (m .dest) (nodeAt t (m .dest)) (m .word) (m .hops) pair-two (pair-five (eqb (m .kind) 1))
         (λ _ d _ l. absurd (take-send _ _ _ _ l)) (λ _ _ l. absurd (take-send _ _ _ _ l))
 
   planned-named : (a : Action) → asked t p a .range ≡ true → Comes (Named p a) (Roomy t p a) (plannedOf (asked t p a))

@@ -23,7 +23,6 @@ pub record Obeys (g : Ring) (m : Message) : Type 0 where
   pub kind-low : 1 ≤ m .kind
   pub kind-high : m .kind ≤ 8
   pub dest-in : m .dest < g .n
-  pub no-hops : m .hops ≡ 0
   pub key-in : hasKey (m .kind) ≡ true → m .word < 2 ^ g .m
   pub node-in : hasNode (m .kind) ≡ true → m .word < g .n
   pub owner-in : hasLeaf (m .kind) ≡ true → m .owner < g .n
@@ -115,8 +114,7 @@ obeys g m e =
     let kind = both _ _ e in
     let between = both _ _ (kind .0) in
     let dest = both _ _ (kind .1) in
-    let hops = both _ _ (dest .1) in
-    let word = both _ _ (hops .1) in
+    let word = both _ _ (dest .1) in
     let flag = both _ _ (word .1) in
     let carried = both _ _ (flag .1) in
     let owner = both _ _ (carried .1) in
@@ -129,7 +127,6 @@ obeys g m e =
       kind-low = leb-true 1 (m .kind) (between .0);
       kind-high = leb-true (m .kind) 8 (between .1);
       dest-in = ltb-true (m .dest) (g .n) (dest .0);
-      no-hops = eqb-true (m .hops) 0 (hops .0);
       key-in = key-told g (m .kind) (m .word) (word .0);
       node-in = node-told g (m .kind) (m .word) (word .0);
       owner-in = λ p. leaf p .0;

@@ -93,7 +93,7 @@ leases-rules r lease grant st a b =
 
 module _ {g : Ring} {i : ℕ} (hi : i < g .n) {v : Node} (r : NodeRules g i v) where
   pub fine-lookup : (waiting : Bool) (k : ℕ) → k < 2 ^ g .m → FinePlanned g i v (planLookup waiting i k v)
-  fine-lookup waiting k h = by-lookup waiting i k v tt (send-fine refl r (lookup-fits g i hi k h))
+  fine-lookup waiting k h = by-lookup waiting i k v tt (send-fine refl r (lookup-fits g i hi 0 k h))
 
   pub fine-join : (waiting : Bool) (seed : ℕ) (u : Node) → seed < g .n → FinePlanned g i v (planJoin waiting i v seed u)
   fine-join waiting seed u h =

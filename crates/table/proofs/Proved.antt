@@ -31,7 +31,7 @@ use Rattle.table.specs.Settled.{deadSet, someUp}
 use Rattle.table.specs.Step.{Gone, all-stay, one-goes, probes-go, asked, remaining, plannedOf}
 use Rattle.table_type.specs.Table.{nodeAt, withNode, idOf, idsOf, ringOf}
 use Rattle.pool.proofs.Laws.{All, all-at, all-index, all-removed, all-mailed, waiting-at, waiting-short, laid-at, waiting-laid}
-use Rattle.pool.proofs.Laws.{Apart, apart-different, apart-removed, apart-mailed}
+use Rattle.pool.proofs.Laws.{Fine, Apart, apart-different, apart-removed, apart-mailed}
 use Rattle.pool.proofs.Probes.{all-left, apart-left}
 use Rattle.table.proofs.Nodes.{NodeRules, node-rules}
 use Rattle.table.proofs.Obeys.{obeys}
@@ -45,6 +45,7 @@ use Rattle.table.proofs.Leaves.{fine-node-left, fine-suspect-faulty, fi
 use Rattle.table.proofs.Leaves.{fine-ls-repair, fine-resign-node, fine-recover}
 use Rattle.table.proofs.Takes.{fine-deliver, fine-forward, fine-take}
 use Rattle.table.proofs.Routed.{planned-silent}
+use Rattle.table.proofs.Hops.{Within, planned-within}
 
 -- ---- every plan is fine
 
@@ -79,7 +80,7 @@ module _ {t : Table} {p : Pool} (s : Sound t p) where
   planned-fine (Forward place) e =
       let m = messageAt p place in
       let o = obeys (ringOf t) m (s .message place (ltb-true place (p .count) e)) in
-      fine-forward (s .listed) (o .dest-in) (listed-rules (m .dest) (o .dest-in)) (m .kind) (deadSet t) (m .word) (λ k. o .key-in (ap hasKey k))
+      fine-forward (s .listed) (o .dest-in) (listed-rules (m .dest) (o .dest-in)) (m .kind) (deadSet t) (m .word) (m .hops) (λ k. o .key-in (ap hasKey k))
   planned-fine (NodeLeft i) e = let h = slot-in-range s (NodeLeft i) e in fine-node-left (s .listed) h (listed-rules i h)
   planned-fine (SuspectFaulty i j) e =
       let h = slot-in-range s (SuspectFaulty i j) e in
@@ -99,6 +100,9 @@ module _ {t : Table} {p : Pool} (s : Sound t p) where
 pub done-fine : {t : Table} {p : Pool} {len : ℕ} {a : Action} {x : Plan} → DoneWith t p len a x
     → FinePlan (ringOf t) (asked t p a .slot) (nodeAt t (asked t p a .slot)) x
 done-fine {a = a} {x = x} d = go-comes (planned-fine (d .sound) a (d .in-range)) x (d .plan)
+
+pub done-within : {t : Table} {p : Pool} {len : ℕ} {a : Action} {x : Plan} → DoneWith t p len a x → Fine (Within (ringOf t) (idsOf t)) x
+done-within {a = a} {x = x} d = go-comes (planned-within (d .sound) a (d .in-range)) x (d .plan)
 
 -- ---- one node written
 
@@ -128,9 +132,13 @@ module _ {t : Table} {p : Pool} (s : Sound t p) (a : Action) where
       all-index (waiting p)
       (λ q l. let k : q < p .count = omega (arith, waiting-short p) in rw (waiting-at p q k) (s .message q k))
 
-  left-fit : All (Fits (ringOf t)) (remaining p (asked t p a .gone))
-  left-fit = by-left (All (Fits (ringOf t))) p (asked t p a .gone) waiting-fit (λ place. all-removed place waiting-fit)
-      (λ i j. all-left i j waiting-fit)
+  pub waiting-within : All (Within (ringOf t) (idsOf t)) (waiting p)
+  waiting-within =
+      all-index (waiting p)
+      (λ q l. let k : q < p .count = omega (arith, waiting-short p) in rw (waiting-at p q k) (s .hops q k))
+
+  left-all : {C : Message → Type 0} → All C (waiting p) → All C (remaining p (asked t p a .gone))
+  left-all {C} h = by-left (All C) p (asked t p a .gone) h (λ place. all-removed place h) (λ i j. all-left i j h)
 
   left-apart : Apart (remaining p (asked t p a .gone))
   left-apart =
@@ -146,7 +154,8 @@ module _ {t : Table} {p : Pool} {len : ℕ} {a : Action} {x : Plan} (d : DoneWit
       let fine = done-fine d in
       let i = asked t p a .slot in
       let zs = mailed x (remaining p (asked t p a .gone)) in
-      let fit : All (Fits (ringOf t)) zs = all-mailed (fine .mail) (left-fit s a) in
+      let fit : All (Fits (ringOf t)) zs = all-mailed (fine .mail) (left-all s a (waiting-fit s a)) in
+      let within : All (Within (ringOf t) (idsOf t)) zs = all-mailed (done-within d) (left-all s a (waiting-within s a)) in
       let apart : Apart zs = apart-mailed x (left-apart s a) in
       record {
         numbers = s .numbers;
@@ -155,6 +164,7 @@ module _ {t : Table} {p : Pool} {len : ℕ} {a : Action} {x : Plan} (d : DoneWit
         blank = λ q l h. written (λ v. v ≡ noNode) t i (x .node) q (λ e. absurd (omega (arith, d .slot-in))) (s .blank q l h);
         counted = d .room;
         message = λ q l. rw (laid-at zs q l) (all-at fit q l);
+        hops = λ q l. rw (written-ids t i (x .node) (fine .same-id), laid-at zs q l) (all-at within q l);
         different = rw (waiting-laid zs) (apart-different zs .0 apart);
       }
 

@@ -3,14 +3,14 @@
 use mathlib.Core.Path.{_≡_, refl}
 use mathlib.Core.Logic.{_⊎_, inl, inr}
 use mathlib.Core.List.{List}
-use mathlib.Core.Bool.{true, false}
+use mathlib.Core.Bool.{true, false, _&&_}
 use Prim.Native.Nat.{ℕ, zero, suc, _^_, _<_, _≤_}
 use native.Mathlib.Omega.{arith}
 use lib.Dec.{eqb, leb, ltb}
 use lib.Pow.{pow-pos}
 use borrow.Author.Tests.{ltb-true, leb-true, eqb-true, lt-ltb, le-ltb, le-leb, ne-eqb}
 use Rattle.marks.specs.Marks.{allTo}
-use Rattle.marks.proofs.Bools.{and-right, and-both, lt-or-le}
+use Rattle.marks.proofs.Bools.{and-left, and-right, and-both, lt-or-le}
 use Rattle.marks.proofs.Laws.{each, all-of}
 use Rattle.rules.specs.declared.Status.{Status}
 use Rattle.rules.specs.declared.Status.the-variants as status
@@ -18,7 +18,7 @@ use Rattle.rules.specs.declared.Node.{Node}
 use Rattle.rules.specs.declared.Ring.{Ring}
 use Rattle.rules.specs.declared.Pool.{Pool}
 use Rattle.rules.specs.InnerAsks.{Listed}
-use Rattle.rules.specs.Fits.{between, numbersFit, idFits, nodeFits, isBlank, slotFits, messageFits}
+use Rattle.rules.specs.Fits.{between, numbersFit, idFits, nodeFits, isBlank, slotFits, messageFits, hopsFit}
 use Rattle.rules.specs.Limits.{mLow, mHigh, lLow, lHigh, nodesHigh}
 use Rattle.rules.specs.Mail.{allDifferent}
 use Rattle.rules.specs.Nodes.{noNode}
@@ -48,6 +48,7 @@ pub record Sound (t : Table) (p : Pool) : Type 0 where
   pub blank : (s : ℕ) → t .n ≤ s → s < 64 → nodeAt t s ≡ noNode
   pub counted : p .count ≤ 256
   pub message : (q : ℕ) → q < p .count → messageFits (ringOf t) (messageAt p q) ≡ true
+  pub hops : (q : ℕ) → q < p .count → hopsFit (ringOf t) (idsOf t) (messageAt p q) ≡ true
   pub different : allDifferent (waiting p) ≡ true
 
 -- ---- slots that are not listed
@@ -132,7 +133,7 @@ record Parts (t : Table) (p : Pool) : Type 0 where
   numbers : numbersFit (ringOf t) ≡ true
   slot : (s : ℕ) → s < 64 → slotFits (ringOf t) (idsOf t) s (nodeAt t s) ≡ true
   counted : leb (p .count) 256 ≡ true
-  message : (q : ℕ) → q < p .count → messageFits (ringOf t) (messageAt p q) ≡ true
+  message : (q : ℕ) → q < p .count → (messageFits (ringOf t) (messageAt p q) && hopsFit (ringOf t) (idsOf t) (messageAt p q)) ≡ true
   different : allDifferent (waiting p) ≡ true
 
 parts : (t : Table) (p : Pool) → validOf t p ≡ true → Parts t p
@@ -189,7 +190,8 @@ sound t p e =
       node = λ s h. slot-listed t s (q .slot s (omega (arith, n .n-high))) h .1;
       blank = λ s l h. slot-blank t s (q .slot s h) l;
       counted = leb-true (p .count) 256 (q .counted);
-      message = q .message;
+      message = λ s h. and-left (messageFits (ringOf t) (messageAt p s)) _ (q .message s h);
+      hops = λ s h. and-right (messageFits (ringOf t) (messageAt p s)) _ (q .message s h);
       different = q .different;
     }
   where
@@ -209,7 +211,7 @@ pub sound-valid : {t : Table} {p : Pool} → Sound t p → validOf t p ≡ true
 unfolding validOf nodesFit poolFits messagesFit
 sound-valid {t} {p} r =
     and-both (numbers-fit (r .numbers)) (and-both (all-of 64 _ (slot-fits r))
-    (and-both (le-leb (p .count) 256 (r .counted)) (and-both (all-of (p .count) _ (r .message)) (r .different))))
+    (and-both (le-leb (p .count) 256 (r .counted)) (and-both (all-of (p .count) _ (λ q h. and-both (r .message q h) (r .hops q h))) (r .different))))
 
 -- ---- a table that is looked at (isSound of Step) is valid, and a valid one is looked at with a list of 256 places
 

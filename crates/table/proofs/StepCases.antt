@@ -13,7 +13,7 @@ use Rattle.rules.specs.declared.Message.{Message}
 use Rattle.rules.specs.declared.Node.{Node}
 use Rattle.rules.specs.declared.Status.the-variants.{Wait, Ready}
 use Rattle.rules.specs.declared.Pool.{Pool}
-use Rattle.rules.specs.Letters.{lookup, joinRequest, noLegalRoute}
+use Rattle.rules.specs.Letters.{lookup, lookupAfter, joinRequest, noLegalRoute}
 use Rattle.rules.specs.Nodes.{noNode, placed}
 use Rattle.rules.specs.Numbers.{answerNumber, viaNumber}
 use Rattle.rules.specs.Pool.{waiting, lay, laid}
@@ -23,7 +23,7 @@ use Rattle.rules.specs.Leaf.{contentOf, seenFrom, leafWith, leafWithOne, overla
 use Rattle.rules.specs.Hop.{leafCandidates, routeCandidates, byLeaf, leafHop, routeHop, nextHop, viaOf}
 use Rattle.rules.specs.Mail.{alike, allDifferent, firstFrom, firstEqual, added, removedAt, sentTo}
 use Rattle.rules.specs.Fits.{numbersFit, idFits, sideFits, leafFits, othersFit, nodeFits, isBlank, slotFits}
-use Rattle.rules.specs.Fits.{wordFits, flagFits, carriedFits, ownerFits, routingFits, failedFits, fieldsFit, messageFits}
+use Rattle.rules.specs.Fits.{wordFits, flagFits, carriedFits, ownerFits, routingFits, failedFits, fieldsFit, messageFits, fartherThan, hopsFit}
 use Rattle.rules.specs.Plans.{mailed}
 use Rattle.rules.specs.Actions.{waits, joinWaits, planLookup, planJoin, leasePlan, planRequestLease, isNeighbour}
 use Rattle.rules.specs.Actions.{planLeaseExpired, planGrantExpired}
@@ -137,6 +137,27 @@ pub record Waits : Type 0 where
   -- a refused step leaves all 256 places as they were
   pub refused-same : stepOf ring one 256 (Lookup 4 0) .pool ≡ one
 
+-- ---- T-07: the hops of a Lookup
+
+-- of 65 at 95, from which 18 and 17 are farther, after so many forwardings
+abbrev after : ℕ → Message
+after hops = placed (lookupAfter hops 65) 3
+
+abbrev left : List Message → List Message
+left ms = waiting (stepOf ring (laid ms) 256 (Forward 0) .pool)
+
+pub record Hops : Type 0 where
+  -- one more at each forwarding, for each message its own
+  pub forwarded : left (after 2 ∷ placed (lookup 18) 1 ∷ []) ≡ placed (lookup 18) 1 ∷ placed (lookupAfter 3 65) 2 ∷ []
+  pub forwarded-first : left (after 0 ∷ []) ≡ placed (lookupAfter 1 65) 2 ∷ []
+  -- the earlier message with its own number stays
+  pub met : left (after 2 ∷ placed (lookupAfter 1 65) 2 ∷ []) ≡ placed (lookupAfter 1 65) 2 ∷ []
+  pub met-larger : left (after 0 ∷ placed (lookupAfter 3 65) 2 ∷ []) ≡ placed (lookupAfter 3 65) 2 ∷ []
+  -- a Lookup waits whatever its number; 10 for one hop too many
+  pub waits-so : number ring (laid (after 2 ∷ [])) (Lookup 3 65) ≡ 3
+  pub too-many : number ring (laid (after 3 ∷ [])) (Lookup 0 0) ≡ 10
+  pub issued : stepOf ring none 256 (Lookup 3 65) .pool ≡ laid (after 0 ∷ [])
+
 -- ---- T-01: where the next hop came from
 
 -- by id, left and right, with every node but that of slot 3 in the routing set
@@ -195,18 +216,19 @@ pub record StepCases : Type 0 where
   pub repeats : Repeats
   pub pair : Pair
   pub waits-after : Waits
+  pub hops : Hops
   pub said : Said
   pub fills : Fills
 
 pub step-cases : StepCases
 unfolding fallOf signedOf absDistOf risesTo nearer leftCoverOf rightCoverOf coversKey has gather tally firstTo allTo single union meet
-    without addOf removeOf sizeOf lowestOf listed best closest contentOf seenFrom leafWith leafWithOne overlaps isComplete isEmpty
-    coversOf leafCandidates routeCandidates byLeaf leafHop routeHop nextHop viaOf alike allDifferent firstFrom firstEqual added removedAt
-    sentTo numbersFit idFits sideFits leafFits othersFit nodeFits isBlank slotFits wordFits flagFits carriedFits ownerFits routingFits
-    failedFits fieldsFit messageFits mailed waits joinWaits planLookup planJoin planLeaseExpired planGrantExpired leasePlan planRequestLease isNeighbour
-    planDeliver planForward planTakeJoinRequest planTakeJoinReply probes2 probesOf probePlanOf planTakeProbe statusAfterReply replyPlanOf planTakeProbeReply
-    planTakeLeaseRequest broadcastPlan planTakeBroadcast planTake slotIds slotsTo startNode startNodes startFits idsRise listFits
-    startOf nodesFit messagesFit poolFits validOf carriedOut settle deadSet isSound stepOf
+    without addOf removeOf sizeOf lowestOf listed best closest contentOf seenFrom leafWith leafWithOne overlaps isComplete isEmpty coversOf
+    leafCandidates routeCandidates byLeaf leafHop routeHop nextHop viaOf alike allDifferent firstFrom firstEqual added removedAt sentTo
+    numbersFit idFits sideFits leafFits othersFit nodeFits isBlank slotFits wordFits flagFits carriedFits ownerFits routingFits failedFits
+    fieldsFit messageFits fartherThan hopsFit mailed waits joinWaits planLookup planJoin planLeaseExpired planGrantExpired leasePlan
+    planRequestLease isNeighbour planDeliver planForward planTakeJoinRequest planTakeJoinReply probes2 probesOf probePlanOf planTakeProbe
+    statusAfterReply replyPlanOf planTakeProbeReply planTakeLeaseRequest broadcastPlan planTakeBroadcast planTake slotIds slotsTo startNode
+    startNodes startFits idsRise listFits startOf nodesFit messagesFit poolFits validOf carriedOut settle deadSet isSound stepOf
 step-cases =
     record {
       ordered = record { list-first = refl; table-first = refl; range-first = refl; status-then = refl };
@@ -241,6 +263,15 @@ step-cases =
         added-last = refl;
         taken-last = refl;
         refused-same = refl;
+      };
+      hops = record {
+        forwarded = refl;
+        forwarded-first = refl;
+        met = refl;
+        met-larger = refl;
+        waits-so = refl;
+        too-many = refl;
+        issued = refl;
       };
       said = record {
         leaf = refl;

@@ -3,7 +3,7 @@
 use mathlib.Core.Path.{_≡_, refl, _∙_, ap}
 use mathlib.Core.Bool.{Bool, true, false, cond, _&&_, not}
 use mathlib.Core.List.{List}
-use Prim.Native.Nat.{ℕ, _^_, _<_}
+use Prim.Native.Nat.{ℕ, _+_, _^_, _<_}
 use native.Mathlib.Omega.{arith}
 use lib.Dec.{eqb}
 use borrow.Author.Tests.{eq-eqb}
@@ -90,7 +90,7 @@ module _ {g : Ring} {ids : List ℕ} (l : Listed g ids) {i : ℕ} (hi : i < g .n
   with-one-rules : (j : ℕ) → LeafRules g i (leafWithOne g ids i (sidesOf v) j)
   with-one-rules j = leaf-rules g i _ (leaf-one-fits l i hi (sidesOf v) j (rules-leaf (r .leaf)))
 
-  hop-in : (dead k h : ℕ) → nextHop g ids dead i v k ≡ To h → h < g .n
+  pub hop-in : (dead k h : ℕ) → nextHop g ids dead i v k ≡ To h → h < g .n
   hop-in dead k h e = hop-listed g ids dead i v k (g .n) h (r .leaf .left .inside) (r .leaf .right .inside) (r .routing) hi e
 
   -- ---- 1 Lookup
@@ -98,9 +98,9 @@ module _ {g : Ring} {ids : List ℕ} (l : Listed g ids) {i : ℕ} (hi : i < g .n
   pub fine-deliver : (kind k : ℕ) → FinePlanned g i v (planDeliver kind g ids i v k)
   fine-deliver kind k = by-deliver kind g ids i v k (λ _. tt) tt (quiet-fine refl r)
 
-  pub fine-forward : (kind dead k : ℕ) → (kind ≡ 1 → k < 2 ^ g .m) → FinePlanned g i v (planForward kind g ids dead i v k)
-  fine-forward kind dead k hk =
-      by-forward kind g ids dead i v k (λ _. tt) tt (λ is h e. send-fine refl r (lookup-fits g h (hop-in dead k h e) k (hk is)))
+  pub fine-forward : (kind dead k hops : ℕ) → (kind ≡ 1 → k < 2 ^ g .m) → FinePlanned g i v (planForward kind g ids dead i v k hops)
+  fine-forward kind dead k hops hk =
+      by-forward kind g ids dead i v k hops (λ _. tt) tt (λ is h e. send-fine refl r (lookup-fits g h (hop-in dead k h e) (hops + 1) k (hk is)))
       (λ is _. send-fine refl r (noLegalRoute-fits g i hi k (hk is)))
 
   -- ---- 2 JoinRequest

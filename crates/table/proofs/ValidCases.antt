@@ -5,6 +5,7 @@ use mathlib.Core.Bool.{Bool, true, false}
 use mathlib.Core.List.{List, [], _∷_, _++_}
 use Prim.Native.Nat.{ℕ, _-_}
 use lib.ListN.{length, replicate}
+use Rattle.ring.specs.Distance.{fallOf, signedOf, absDistOf, risesTo, nearer}
 use Rattle.marks.specs.Marks.{has, tally, allTo, sizeOf, listed}
 use Rattle.marks.specs.declared.Found.the-variants.{At}
 use Rattle.rules.specs.declared.Status.{Status}
@@ -18,12 +19,12 @@ use Rattle.rules.specs.declared.Plan.{Plan}
 use Rattle.rules.specs.declared.Refusal.{Refusal}
 use Rattle.rules.specs.declared.Refusal.the-variants as no
 use Rattle.rules.specs.declared.Planned.the-variants.{No, Go}
-use Rattle.rules.specs.Letters.{lookup}
+use Rattle.rules.specs.Letters.{lookup, lookupAfter}
 use Rattle.rules.specs.Mail.{alike, allDifferent, firstFrom, firstEqual, added, sentTo}
 use Rattle.rules.specs.Nodes.{noNode, placed}
 use Rattle.rules.specs.Pool.{blank, waiting, laid}
 use Rattle.rules.specs.Fits.{numbersFit, idFits, sideFits, leafFits, othersFit, nodeFits, isBlank, slotFits}
-use Rattle.rules.specs.Fits.{wordFits, flagFits, carriedFits, ownerFits, routingFits, failedFits, fieldsFit, messageFits}
+use Rattle.rules.specs.Fits.{wordFits, flagFits, carriedFits, ownerFits, routingFits, failedFits, fieldsFit, messageFits, fartherThan, hopsFit}
 use Rattle.rules.specs.Plans.{mailed}
 use Rattle.table_type.specs.declared.Table.{Table}
 use Rattle.table_type.specs.Table.{withNode}
@@ -52,6 +53,10 @@ blanks = replicate 62 noNode
 abbrev k : ℕ → Message
 k key = placed (lookup key) 1
 
+-- after one forwarding
+abbrev k1 : ℕ → Message
+k1 key = placed (lookupAfter 1 key) 1
+
 pub record ValidCases : Type 0 where
   pub valid : validOf (table 8 a b blanks) (laid (k 80 ∷ k 90 ∷ [])) ≡ true
   -- all numbers are in range
@@ -68,10 +73,15 @@ pub record ValidCases : Type 0 where
   pub past-the-count : validOf (table 8 a b blanks) (record { count = 1; places = k 80 ∷ k 256 ∷ k 80 ∷ [] }) ≡ true
   -- no two messages are equal
   pub equal : validOf (table 8 a b blanks) (laid (k 80 ∷ k 90 ∷ k 80 ∷ [])) ≡ false
+  -- T-07: of the two ids, 17 is farther from 80 than 18; and from 10 none is. The ids are the table's own
+  pub hops-met : validOf (table 8 a b blanks) (laid (k 90 ∷ k1 80 ∷ [])) ≡ true
+  pub hops-past : validOf (table 8 a b blanks) (laid (k 90 ∷ k1 10 ∷ [])) ≡ false
+  pub equal-but-for-hops : validOf (table 8 a b blanks) (laid (k 80 ∷ k 90 ∷ k1 80 ∷ [])) ≡ false
 
 pub valid-cases : ValidCases
 unfolding validOf numbersFit nodesFit slotFits idFits nodeFits leafFits sideFits othersFit isBlank listed sizeOf tally has allTo poolFits
-    messagesFit messageFits fieldsFit wordFits flagFits carriedFits ownerFits routingFits failedFits allDifferent alike
+    messagesFit messageFits fieldsFit wordFits flagFits carriedFits ownerFits routingFits failedFits fartherThan hopsFit nearer risesTo absDistOf
+    signedOf fallOf allDifferent alike
 valid-cases =
     record {
       valid = refl;
@@ -84,6 +94,9 @@ valid-cases =
       last-message = refl;
       past-the-count = refl;
       equal = refl;
+      hops-met = refl;
+      hops-past = refl;
+      equal-but-for-hops = refl;
     }
 
 -- ---- at most 256 messages
@@ -92,14 +105,14 @@ valid-cases =
 abbrev counted : ℕ → List Message → Pool
 counted n places = record { count = n; places = places }
 
-pub at-256 : (g : Ring) (xs : List Message) → messagesFit g (counted 256 xs) ≡ true → allDifferent (waiting (counted 256 xs)) ≡ true
-    → poolFits g (counted 256 xs) ≡ true
+pub at-256 : (g : Ring) (ids : List ℕ) (xs : List Message) → messagesFit g ids (counted 256 xs) ≡ true → allDifferent (waiting (counted 256 xs)) ≡ true
+    → poolFits g ids (counted 256 xs) ≡ true
 unfolding poolFits
-at-256 g xs m d = rw (m, d)
+at-256 g ids xs m d = rw (m, d)
 
-pub at-257 : (g : Ring) (xs : List Message) → poolFits g (counted 257 xs) ≡ false
+pub at-257 : (g : Ring) (ids : List ℕ) (xs : List Message) → poolFits g ids (counted 257 xs) ≡ false
 unfolding poolFits
-at-257 g xs = refl
+at-257 g ids xs = refl
 
 -- ---- what an action leaves
 

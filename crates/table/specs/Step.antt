@@ -83,7 +83,7 @@ abbrev pub deliveredOf : Table → Message → Planned
 deliveredOf t m = planDeliver (m .kind) (ringOf t) (idsOf t) (m .dest) (nodeAt t (m .dest)) (m .word)
 
 abbrev pub forwardedOf : Table → Message → Planned
-forwardedOf t m = planForward (m .kind) (ringOf t) (idsOf t) (deadSet t) (m .dest) (nodeAt t (m .dest)) (m .word)
+forwardedOf t m = planForward (m .kind) (ringOf t) (idsOf t) (deadSet t) (m .dest) (nodeAt t (m .dest)) (m .word) (m .hops)
 
 -- ---- what each action asks
 

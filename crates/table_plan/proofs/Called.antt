@@ -1,9 +1,10 @@
--- An action in range on a valid table: its slots are below 64, its key is below 2^32, and the message that is taken obeys its kind.
+-- An action in range on a valid table: its slots are below 64, its key is below 2^32, and the message that is taken obeys its kind, with few hops.
 -- Assumes nothing.
 use mathlib.Core.Path.{_≡_}
 use mathlib.Core.Bool.{true}
 use Prim.Native.Nat.{ℕ, _^_, _<_, _≤_}
 use native.Mathlib.Nat.{lt-of-lt-of-le}
+use native.Mathlib.Omega.{arith}
 use lib.Dec.{ltb}
 use lib.Pow.{pow-mono}
 use borrow.Author.Tests.{ltb-true}
@@ -20,6 +21,7 @@ use Rattle.table_type.specs.Table.{idsOf, ringOf}
 use Rattle.table.specs.Step.{one-goes, asked}
 use Rattle.table.proofs.By.{goes, slot-in-range}
 use Rattle.table.proofs.Obeys.{obeys}
+use Rattle.table.proofs.Hops.{within-low}
 use Rattle.table.proofs.Sound.{Sound, sound}
 use Rattle.table_plan.specs.InnerAsked.{Called}
 
@@ -46,7 +48,10 @@ key-low {t} {k = k} c =
 
 -- the message that goes
 pub gone-obeys : {t : Table} {p : Pool} {a : Action} {place : ℕ} {m : Message} → Called t p a → asked t p a .gone ≡ one-goes place → messageAt p place ≡ m
-    → (m .dest < t .n) × (messageFits (ringOf t) m ≡ true)
+    → (m .dest < t .n) × (messageFits (ringOf t) m ≡ true) × (m .hops ≤ 64)
 gone-obeys {t} {p} {a} {place} c g e =
-    let f = is-sound c .message place (ltb-true place (p .count) (rw (goes t p place a g .0) at (c .range))) in
-    rw (← e) (obeys (ringOf t) _ f .dest-in, f)
+    let s = is-sound c in
+    let there = ltb-true place (p .count) (rw (goes t p place a g .0) at (c .range)) in
+    let f = s .message place there in
+    let few = within-low (ringOf t) (idsOf t) (messageAt p place) (s .hops place there) in
+    rw (← e) (obeys (ringOf t) _ f .dest-in, f, omega (arith, few, s .numbers .n-high))

@@ -76,14 +76,14 @@ fn plan_of_deliver(t: Table, m: Message) -> Planned
 }
 
 fn plan_of_forward(t: Table, m: Message) -> Planned
-    requires { ⌜ Listed (ringOf t) (idsOf t) × (m .dest < t .n) × (messageFits (ringOf t) m ≡ true) ⌝ }
+    requires { ⌜ Listed (ringOf t) (idsOf t) × (m .dest < t .n) × (messageFits (ringOf t) m ≡ true) × (m .hops ≤ 64) ⌝ }
     ensures { λ r. ⌜ r ≡ forwardedOf t m ⌝ }
 {
     let i = m.dest as usize;
     let v = table_type::node_at(t, i);
     let ids = table_type::ids(t);
     let dead = table_settled::dead_set(t);
-    plan_route::plan_forward(m.kind, table_type::ring_of(t), &ids, dead, i, v, m.word)
+    plan_route::plan_forward(m.kind, table_type::ring_of(t), &ids, dead, i, v, m.word, m.hops)
 }
 
 fn plan_of_lookup(t: Table, there: bool, i: usize, k: u64) -> Planned

@@ -1,19 +1,26 @@
 -- The slots of a table in turn. Ids rise, so a listed node's id is at least one above the id before it: `lowAt` is the least that it may
--- be, 0 at slot 0. Assumes nothing.
-use mathlib.Core.Path.{_≡_}
-use mathlib.Core.List.{List}
-use mathlib.Core.Bool.{_&&_, _||_}
+-- be, 0 at slot 0. Where all slots fit, the ids are listed (`nodes-listed`). Assumes nothing.
+use mathlib.Core.Path.{_≡_, refl}
+use mathlib.Core.List.{List, []}
+use mathlib.Core.Bool.{true, _&&_, _||_}
 use Prim.Native.Nat.{ℕ, zero, suc, pred, _+_, _^_, _<_, _≤_}
 use native.Mathlib.Numerals.{add-one}
 use native.Mathlib.Omega.{arith}
 use borrow.Author.Tests.{leb-true, le-leb, ltb-true, lt-ltb, le-ltb, ne-eqb}
 use lib.Dec.{eqb, leb, ltb}
-use Rattle.marks.proofs.Bools.{bool-same}
-use Rattle.rules.specs.Fits.{idFits, nodeFits, isBlank, slotFits}
+use Rattle.marks.specs.Marks.{allTo}
+use Rattle.marks.proofs.Bools.{bool-same, and-both}
+use Rattle.rules.specs.declared.Ring.{Ring}
+use Rattle.rules.specs.declared.Pool.{Pool}
+use Rattle.rules.specs.InnerAsks.{Listed}
+use Rattle.rules.specs.Fits.{numbersFit, idFits, nodeFits, isBlank, slotFits}
+use Rattle.rules.specs.Mail.{allDifferent}
 use Rattle.rules.specs.Pick.{idAt}
 use Rattle.table_type.specs.declared.Table.{Table}
 use Rattle.table_type.specs.Table.{nodeAt, idsOf, ringOf}
 use Rattle.table_type.proofs.IdLaws.{ids-at}
+use Rattle.table.specs.Valid.{nodesFit, messagesFit, poolFits, validOf}
+use Rattle.table.proofs.Sound.{sound}
 
 unfoldable pub lowAt : List ℕ → ℕ → ℕ
 lowAt ids zero = 0
@@ -43,3 +50,15 @@ module _ (t : Table) where
   pub slot-blank : (s : ℕ) → t .n ≤ s → isBlank (nodeAt t s) ≡ slotFits (ringOf t) (idsOf t) s (nodeAt t s)
   unfolding slotFits
   slot-blank s h = rw (le-ltb s (t .n) h)
+
+-- the messages have no part in it: it is so where none waits
+nobody : Pool
+nobody = record { count = 0; places = [] }
+
+none-fits : (g : Ring) (ids : List ℕ) → poolFits g ids nobody ≡ true
+unfolding poolFits messagesFit allTo allDifferent nobody
+none-fits g ids = refl
+
+pub nodes-listed : (t : Table) → numbersFit (ringOf t) ≡ true → nodesFit t ≡ true → Listed (ringOf t) (idsOf t)
+unfolding validOf
+nodes-listed t a b = sound t nobody (and-both a (and-both b (none-fits (ringOf t) (idsOf t)))) .listed

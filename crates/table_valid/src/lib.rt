@@ -1,10 +1,12 @@
 // Validity, decided: true exactly for a valid table and pool.
 ghost use mathlib.Core.Path.{_≡_};
-ghost use mathlib.Core.Bool.{_&&_};
-ghost use Prim.Native.Nat.{_^_, _≤_};
+ghost use mathlib.Core.Bool.{_&&_, not};
+ghost use Prim.Native.Nat.{_^_, _<_, _≤_};
 ghost use lib.Dec.{leb, ltb};
+ghost use Rattle.ring.specs.Distance.{nearer, risesTo};
 ghost use Rattle.marks.specs.Marks.{sizeOf};
-ghost use Rattle.rules.specs.Fits.{numbersFit, leafFits, nodeFits, isBlank, isKind, fieldsFit, messageFits};
+ghost use Rattle.rules.specs.Fits.{numbersFit, leafFits, nodeFits, isBlank, isKind, fieldsFit, messageFits, fartherThan, hopsFit};
+ghost use Rattle.rules.specs.InnerAsks.{Inside, Listed};
 ghost use Rattle.rules.specs.Nodes.{carriedOf};
 ghost use Rattle.table.specs.Valid.{nodesFit, poolFits, validOf};
 ghost use Rattle.table_valid.specs.InnerAlone.{carriesNone, wordAlone};
@@ -206,20 +208,90 @@ fn kind_fits(kind: u32, g: Ring, all: u64, m: Message) -> bool
     }
 }
 
-// Does the message obey its kind?
+// Does the message obey its kind, its hops aside?
 fn message_fits(g: Ring, all: u64, m: Message) -> bool
     requires { ⌜ (g .m ≤ 32) × (all ≡ allNodes (g .n)) ⌝ }
     ensures { λ r. ⌜ r ≡ messageFits g m ⌝ }
 {
-    ((m.dest as usize) < g.n) & ((m.hops == 0) & kind_fits(m.kind, g, all, m))
+    ((m.dest as usize) < g.n) & kind_fits(m.kind, g, all, m)
 }
 
-// Are there at most 256 messages, does each obey its kind, and are no two equal? A message is compared only with the earlier ones of its
-// own bucket: `heads` has one more than the last place of each bucket, and `next` one more than the place before of the same bucket; 0 is
-// none. Both loops stand in one function, which has one copy of the pool.
-fn pool_fits(g: Ring, all: u64, p: Pool) -> bool
-    requires { ⌜ (g .m ≤ 32) × (all ≡ allNodes (g .n)) ⌝ }
-    ensures { λ r. ⌜ r ≡ poolFits g p ⌝ }
+// Is the key reached from here by falling? Then the walk away from it goes up, else down.
+fn falls_to(m: u32, key: u32, here: u32) -> bool
+    requires { ⌜ Inside m key here ⌝ }
+    ensures { λ r. ⌜ r ≡ not (risesTo (2 ^ m) key here) ⌝ }
+{
+    dist::fall(m, here, key) < dist::fall(m, key, here)
+}
+
+// Is another id farther from the key than this one? By the ways from here to both: down where the key is reached by falling, else up.
+fn is_farther(m: u32, up: bool, key: u32, here: u32, there: u32) -> bool
+    requires { ⌜ Inside m key here × Inside m here there × (there ≡ here → ⊥) × (up ≡ not (risesTo (2 ^ m) key here)) ⌝ }
+    ensures { λ r. ⌜ r ≡ nearer (2 ^ m) key here there ⌝ }
+{
+    if up {
+        2 * dist::fall(m, here, key) < dist::fall(m, here, there)
+    } else {
+        2 * dist::fall(m, key, here) <= dist::fall(m, there, here)
+    }
+}
+
+// Are h listed nodes, or more, farther from the key than slot d? The slot at h steps away from the key decides.
+fn has_farther(g: Ring, ids: &[u32; 64], key: u32, d: usize, h: usize) -> bool
+    requires { ⌜ Listed g (now ids) × (key < 2 ^ g .m) × (d < g .n) × (1 ≤ h) × (h < g .n) ⌝ }
+    ensures { λ r. ⌜ r ≡ leb h (fartherThan g (now (ids .entry)) key d) ⌝ }
+{
+    let here = ids[d];
+    let up = falls_to(g.m, key, here);
+    let s = leaf::along(up, d, g.n, h);
+    let there = ids[s];
+    is_farther(g.m, up, key, here, there)
+}
+
+// Are the hops of a lookup at most the number of listed nodes farther from its key than its destination?
+fn hops_fit(g: Ring, ids: &[u32; 64], m: Message) -> bool
+    requires { ⌜ Listed g (now ids) × (m .word < 2 ^ g .m) × (m .dest < g .n) ⌝ }
+    ensures { λ r. ⌜ r ≡ leb (m .hops) (fartherThan g (now (ids .entry)) (m .word) (m .dest)) ⌝ }
+{
+    let h = m.hops as usize;
+    if h == 0 {
+        return true;
+    }
+    if g.n <= h {
+        return false;
+    }
+    has_farther(g, ids, m.word, m.dest as usize, h)
+}
+
+// A lookup.
+fn lookup_fits(g: Ring, ids: &[u32; 64], m: Message) -> bool
+    requires { ⌜ Listed g (now ids) ⌝ }
+    ensures { λ r. ⌜ r ≡ (ltb (m .dest) (g .n) && fieldsFit 1 g m && leb (m .hops) (fartherThan g (now (ids .entry)) (m .word) (m .dest))) ⌝ }
+{
+    if !(((m.dest as usize) < g.n) & key_fits(g, m)) {
+        return false;
+    }
+    hops_fit(g, ids, m)
+}
+
+// Any message: only a lookup may carry hops.
+fn place_fits(g: Ring, all: u64, ids: &[u32; 64], m: Message) -> bool
+    requires { ⌜ Listed g (now ids) × (all ≡ allNodes (g .n)) ⌝ }
+    ensures { λ r. ⌜ r ≡ (messageFits g m && hopsFit g (now (ids .entry)) m) ⌝ }
+{
+    if m.kind == 1 {
+        lookup_fits(g, ids, m)
+    } else {
+        (m.hops == 0) & message_fits(g, all, m)
+    }
+}
+
+// Are there at most 256 messages, does each fit, and are no two equal? A message is compared only with the earlier ones of its own bucket: `heads` has one
+// more than the last place of each bucket, and `next` one more than the place before of the same bucket; 0 is none. Both loops stand in one function, which
+// has one copy of the pool.
+fn pool_fits(g: Ring, all: u64, ids: &[u32; 64], p: Pool) -> bool
+    requires { ⌜ Listed g (now ids) × (all ≡ allNodes (g .n)) ⌝ }
+    ensures { λ r. ⌜ r ≡ poolFits g (now (ids .entry)) p ⌝ }
 {
     let n = p.count;
     if 256 < n {
@@ -228,7 +300,7 @@ fn pool_fits(g: Ring, all: u64, p: Pool) -> bool
     let mut k: usize = 0;
     'tests: while k < n {
         let m = p.places[k];
-        if !message_fits(g, all, m) {
+        if !place_fits(g, all, ids, m) {
             return false;
         }
         k += 1;
@@ -270,5 +342,6 @@ pub fn is_valid(t: Table, p: Pool) -> bool
     if !nodes_fit(t, all) {
         return false;
     }
-    pool_fits(g, all, p)
+    let ids = table_type::ids(t);
+    pool_fits(g, all, &ids, p)
 }

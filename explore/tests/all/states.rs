@@ -14,7 +14,7 @@ const FOUR: &[u32] = &[17, 18, 65, 95];
 const FIVE: &[u32] = &[0, 1, 2, 9, 14];
 const BOTH: &str = "join 17 at any\njoin 65 at any\n";
 
-const CASES: [Case; 10] = [
+const CASES: [Case; 11] = [
     Case::new(8, 1, 2, FOUR, "join 95 at 18\n"),
     Case::new(8, 1, 2, THREE, BOTH),
     Case::new(8, 2, 2, THREE, BOTH),
@@ -34,6 +34,8 @@ const CASES: [Case; 10] = [
         ..Case::new(8, 1, 2, THREE, "join 65 at 18\njoin 17 at any\n")
     },
     Case::new(32, 2, 7, &[1, 2_000_000_000, 3_000_000_000, 4_294_967_295], "join 4294967295 at 1\n"),
+    // Lookups of one key meet at 65 with 0, 1 and 2 hops.
+    Case::new(8, 1, 15, FOUR, "lookup 80 at 17\nlookup 80 at 18\nlookup 80 at 65\n"),
 ];
 
 /// One state in ten has its steps asked again.
@@ -58,7 +60,7 @@ fn remembered_steps_lead_to_the_models_states() {
 
 #[test]
 fn steps_asked_every_time_lead_to_the_models_states() {
-    for case in [&CASES[0], &CASES[4], &CASES[5], &CASES[9]] {
+    for case in [&CASES[0], &CASES[4], &CASES[5], &CASES[9], &CASES[10]] {
         assert!(agrees(case, &search(case, How::EVERY, &[]).expect("a search")));
     }
 }
@@ -233,18 +235,23 @@ fn a_key_that_drops_a_field_is_noticed() {
     for (name, node) in nodes {
         assert!(notices_key(&CASES[1], Key { node, ..Key::WHOLE }), "a node's {name}");
     }
-    let messages: [(&str, fn(Message) -> Message); 8] = [
+    let messages: [(&str, fn(Message) -> Message); 9] = [
         ("kind", less_message::<0, HIGH>),
         ("destination", less_message::<0, LOW>),
         ("node or key", less_message::<1, HIGH>),
         ("flag", less_message::<1, LOW>),
         ("owner", less_message::<2, HIGH>),
+        ("hops", less_message::<2, LOW>),
         ("routing", less_message::<3, 0>),
         ("left", less_message::<4, 0>),
         ("right", less_message::<5, 0>),
     ];
     for (name, message) in messages {
-        let case = if name == "routing" { &CASES[6] } else { &CASES[1] };
+        let case = match name {
+            "routing" => &CASES[6],
+            "hops" => &CASES[10],
+            _ => &CASES[1],
+        };
         assert!(notices_key(case, Key { message, ..Key::WHOLE }), "a message's {name}");
     }
 }

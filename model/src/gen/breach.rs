@@ -83,7 +83,7 @@ enum Rule {
     Owner,
     NoOwner,
     NoNode,
-    Sixth,
+    Hops,
     NoSet,
     Marks,
     OwnMark,
@@ -105,7 +105,7 @@ const RULES: [(Rule, &[u32]); 22] = [
     (Rule::Side, &[3, 4, 5, 8]),
     (Rule::NoNode, &[3, 8]),
     (Rule::NoNode, &[3, 8]),
-    (Rule::Sixth, &[1, 2, 3, 4, 5, 6, 7, 8]),
+    (Rule::Hops, &[1, 2, 3, 4, 5, 6, 7, 8]),
     (Rule::NoSet, &[1, 2, 3, 4, 5, 6, 7, 8]),
     (Rule::Marks, &[2, 3, 4, 5, 8]),
     (Rule::OwnMark, &[3, 4, 5, 8]),
@@ -145,7 +145,7 @@ fn break_rule(rng: &mut Rng, file: &mut [u8], sound: &Sound, at: usize, rule: Ru
         }
         Rule::NoOwner => put_word(file, at + 16, 1 + any as u32),
         Rule::NoNode => put_word(file, at + 8, 1 + any as u32),
-        Rule::Sixth => put_word(file, at + 20, 1),
+        Rule::Hops => put_word(file, at + 20, sound.most_hops(file, at) + 1),
         Rule::NoSet => put_long(file, at + rng.pick(lacked(kind)), bit(any)),
         Rule::Marks if sound.n < Table::NODES => {
             let set = at + rng.pick(carried(kind));

@@ -1,12 +1,11 @@
 //! Actions that would be done but for one or two conditions.
 
 use super::case::Case;
-use super::messages::{fill, key, message};
+use super::messages::{fill, key, lookup, message};
 use super::rng::Rng;
 use super::tables;
 use super::taking::{fitting, three};
 use crate::marks::{below, bit};
-use crate::message::Message;
 use crate::reading::Right;
 use crate::step::Action;
 use crate::table::{Sides, Status};
@@ -89,7 +88,7 @@ impl Broken<'_> {
         for fault in self.faults(4) {
             match fault {
                 0 => at = self.out(),
-                1 => self.case.push(Message::Lookup { to: self.i as u8, key }),
+                1 => self.case.push(lookup(&self.case.table, self.i, key)),
                 2 => asked = (1 << 32) + u64::from(key),
                 _ => asked = self.rng.pick(&[whole, whole + u64::from(key), u64::MAX]),
             }
@@ -189,8 +188,8 @@ impl Broken<'_> {
 
     /// A place where nothing waits.
     fn take_past(&mut self) -> Action {
-        let lookup = Message::Lookup { to: self.i as u8, key: key(self.rng, &self.case.table) };
-        self.case.push(lookup);
+        let key = key(self.rng, &self.case.table);
+        self.case.push(lookup(&self.case.table, self.i, key));
         let count = self.case.table.count;
         let within = self.rng.below(count);
         let place = self.rng.pick(&[count, 256, usize::MAX, (1 << 8) + within, (1 << 32) + within]);

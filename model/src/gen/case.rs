@@ -19,8 +19,9 @@ impl Case {
         &self.pool[..self.table.count]
     }
 
+    /// The place of an equal message.
     pub fn place_of(&self, message: &Message) -> Option<usize> {
-        self.waiting().iter().position(|other| other == message)
+        self.waiting().iter().position(|other| other.equals(message))
     }
 
     /// Adds a message where there is room and no equal one.

@@ -4,6 +4,9 @@ use super::breach::breach;
 use super::rng::Rng;
 use crate::file::{HEADER, MESSAGE, NODE};
 use crate::marks::bit;
+use crate::reading::Right;
+use crate::table::Table;
+use crate::view::View;
 
 /// The file with one rule broken, or with one to three faults; some of them happen to leave a right file.
 pub fn damaged(rng: &mut Rng, mut file: Vec<u8>) -> Vec<u8> {
@@ -41,6 +44,19 @@ impl Sound {
 
     pub fn whole(&self) -> u64 {
         1 << self.m
+    }
+
+    /// The most hops that the message of a sound record may have.
+    pub fn most_hops(&self, file: &[u8], at: usize) -> u32 {
+        let [kind, to, key] = [0, 4, 8].map(|offset| word_at(file, at + offset));
+        if kind != 1 {
+            return 0;
+        }
+        let mut table = Table { m: self.m, l: self.l, n: self.n, ..Table::BLANK };
+        for (slot, node) in table.nodes[..self.n].iter_mut().enumerate() {
+            node.id = word_at(file, HEADER + NODE * slot);
+        }
+        View::new(Right, &table).farther(to as usize, key).count_ones()
     }
 
     /// A mark at n or above, or any mark where there is none.

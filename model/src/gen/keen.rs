@@ -1,7 +1,7 @@
 //! Messages whose handling hangs on one member of one set.
 
 use super::case::Case;
-use super::messages::{carried, key_from};
+use super::messages::{carried, key_from, lookup, travelled};
 use super::prime::added;
 use super::rng::Rng;
 use super::tables;
@@ -32,7 +32,9 @@ pub fn keen(rng: &mut Rng) -> (Case, Action) {
     let place = case.place_of(&message).expect("it waits");
     let action = taking(rng, &case, place);
     if rng.one_in(8) {
-        added(&case, action).into_iter().for_each(|echo| case.push(echo));
+        for echo in added(&case, action) {
+            case.push(travelled(&case.table, echo));
+        }
     }
     (case, action)
 }
@@ -136,11 +138,11 @@ fn routed(rng: &mut Rng, case: &mut Case, i: usize, j: usize, key: u32) -> Messa
     let others = below(case.table.n) & !bit(i);
     case.table.nodes[i].status = Status::Ready;
     if !rng.one_in(4) {
-        return Message::Lookup { to: i as u8, key };
+        return lookup(&case.table, i, key);
     }
     let strangers = others & !case.table.nodes[i].sides.content(i);
     let node = if strangers != 0 { rng.member(strangers) } else { j } as u8;
-    Message::JoinRequest { to: i as u8, node, routing: rng.subset(others) }
+    Message::JoinRequest { to: i as u8, node, routing: rng.subset(others), hops: 0 }
 }
 
 /// The key half-way up from one node to another.

@@ -310,7 +310,7 @@ impl Leaving<'_> {
             }
         }
         if self.rng.one_in(12) {
-            self.case.push(Message::JoinRequest { to: self.j as u8, node: i as u8, routing: 0 });
+            self.case.push(Message::JoinRequest { to: self.j as u8, node: i as u8, routing: 0, hops: 0 });
         }
         Action::ResignNode { node: self.node, seed: self.partner }
     }

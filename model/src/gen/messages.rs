@@ -48,6 +48,27 @@ pub fn carried(rng: &mut Rng, table: &Table, owner: usize) -> Sides {
     }
 }
 
+/// A Lookup of `key` to the slot `to`, with hops that hang on these two alone.
+pub fn lookup(table: &Table, to: usize, key: u32) -> Message {
+    let hops = some_hops(&mut Rng::new(u64::from(key) << 8 | to as u64), table, to, key);
+    Message::Lookup { to: to as u8, key, hops }
+}
+
+/// Hops of a Lookup: none, as many as there may be, or any number between.
+pub fn some_hops(rng: &mut Rng, table: &Table, to: usize, key: u32) -> u32 {
+    let most = View::new(Right, table).farther(to, key).count_ones();
+    let any = rng.below(most as usize + 1) as u32;
+    rng.pick(&[0, most, any])
+}
+
+/// The message; a Lookup with hops that it may have.
+pub fn travelled(table: &Table, message: Message) -> Message {
+    match message {
+        Message::Lookup { to, key, .. } => lookup(table, to.into(), key),
+        other => other,
+    }
+}
+
 /// A message of `kind`, from 1 to 8, to the slot `to` from `from`.
 pub fn message(rng: &mut Rng, table: &Table, kind: usize, to: usize, from: usize) -> Message {
     let listed = below(table.n);
@@ -55,12 +76,15 @@ pub fn message(rng: &mut Rng, table: &Table, kind: usize, to: usize, from: usize
     let (slot, node, owner) = (to, from as u8, from as u8);
     let to = to as u8;
     match kind {
-        1 => Message::Lookup { to, key: key_from(rng, table, slot) },
-        2 => Message::JoinRequest { to, node, routing: rng.subset(listed) },
+        1 => {
+            let key = key_from(rng, table, slot);
+            lookup(table, slot, key)
+        }
+        2 => Message::JoinRequest { to, node, routing: rng.subset(listed), hops: 0 },
         3 => Message::JoinReply { to, owner, routing: rng.subset(listed), sides },
         4 => Message::LsProbe { to, node, sides, failed: lost(rng, table, slot) },
         5 => Message::LsProbeReply { to, node, sides, failed: lost(rng, table, slot) },
-        6 => Message::NoLegalRoute { to, key: key(rng, table) },
+        6 => Message::NoLegalRoute { to, key: key(rng, table), hops: 0 },
         7 => Message::LeaseRequest { to, node },
         _ => Message::BroadcastLSet { to, owner, sides, grant: !rng.one_in(3) },
     }

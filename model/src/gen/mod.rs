@@ -1,9 +1,10 @@
-//! Seeded requests: tables, walks, refusals, departures, damaged files, rehearsals, water records, polls and malformed requests.
+//! Seeded requests: tables, walks, refusals, departures, damaged files, hops, rehearsals, water records, polls and malformed requests.
 
 mod breach;
 mod broken;
 mod case;
 mod damage;
+mod hops;
 mod keen;
 mod leaving;
 mod messages;

@@ -1,7 +1,7 @@
 //! Actions on tables arranged so that they are mostly done, and refused for one reason otherwise.
 
 use super::case::Case;
-use super::messages::{fill, key, message};
+use super::messages::{self, fill, key, message, travelled};
 use super::rng::Rng;
 use super::tables;
 use super::taking::taking;
@@ -35,8 +35,8 @@ fn lookup(rng: &mut Rng, case: &mut Case, i: usize) -> Action {
     let key = key(rng, &case.table);
     if rng.one_in(4) {
         let other = rng.below(case.table.n);
-        let to = rng.pick(&[i, other]) as u8;
-        case.push(Message::Lookup { to, key });
+        let to = rng.pick(&[i, other]);
+        case.push(messages::lookup(&case.table, to, key));
     }
     Action::Lookup { at: i, key: key.into() }
 }
@@ -211,7 +211,9 @@ fn crowd(rng: &mut Rng, case: &mut Case, action: Action) -> Action {
     if rng.one_in(3) {
         let kept = rng.any();
         let echoed = |nth: usize| kept >> (nth & 63) & 1 == 1;
-        added.iter().enumerate().filter(|(nth, _)| echoed(*nth)).for_each(|(_, m)| case.push(*m));
+        for (_, message) in added.iter().enumerate().filter(|(nth, _)| echoed(*nth)) {
+            case.push(travelled(&case.table, *message));
+        }
         added.retain(|m| case.place_of(m).is_none());
     }
     if rng.one_in(2) {
@@ -238,7 +240,7 @@ fn crowd(rng: &mut Rng, case: &mut Case, action: Action) -> Action {
     }
 }
 
-/// A message that differs in its flag, its routing set, its failed or its destination alone.
+/// A message that differs in its flag, its routing set, its failed or its destination alone, and in its hops.
 fn altered(rng: &mut Rng, table: &Table, mut message: Message) -> Message {
     let listed = below(table.n);
     match &mut message {
@@ -259,7 +261,7 @@ fn altered(rng: &mut Rng, table: &Table, mut message: Message) -> Message {
         | Message::BroadcastLSet { to, .. } => *to = rng.below(table.n) as u8,
         Message::Blank => {}
     }
-    message
+    travelled(table, message)
 }
 
 /// The messages that the step adds, if it is done.

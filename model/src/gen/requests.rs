@@ -3,9 +3,10 @@
 use super::broken::broken;
 use super::case::Case;
 use super::damage::damaged;
+use super::hops::Hops;
 use super::keen::keen;
 use super::leaving::Departures;
-use super::messages::{fill, key};
+use super::messages::{fill, key, lookup};
 use super::polls::Polls;
 use super::prime::primed;
 use super::records::Records;
@@ -14,7 +15,6 @@ use super::rng::Rng;
 use super::starts::start;
 use super::tables;
 use super::walk::Walk;
-use crate::message::Message;
 use crate::step::Action;
 use crate::wire::{Request, ACTIONS, LONGEST};
 
@@ -29,6 +29,7 @@ pub struct Requests {
     records: Records,
     polls: Polls,
     departures: Departures,
+    hops: Hops,
 }
 
 impl Requests {
@@ -36,7 +37,8 @@ impl Requests {
         let mut rng = Rng::new(seed);
         let walks = (0..4).map(|_| Walk::new(&mut rng)).collect();
         let (rehearsals, records, polls) = (Rehearsals::new(seed), Records::new(seed), Polls::new(seed));
-        Requests { rng, walks, rehearsals, records, polls, departures: Departures::new(seed) }
+        let (departures, hops) = (Departures::new(seed), Hops::new(seed));
+        Requests { rng, walks, rehearsals, records, polls, departures, hops }
     }
 
     /// Puts the bytes of the next request after `out`, without a length word.
@@ -52,6 +54,9 @@ impl Requests {
         }
         if self.departures.due() {
             return self.departures.put(out);
+        }
+        if self.hops.due() {
+            return self.hops.put(out);
         }
         let rng = &mut self.rng;
         match rng.below(100) {
@@ -135,8 +140,8 @@ impl Requests {
             if !rng.one_in(3) {
                 last = key(rng, &case.table);
             }
-            let to = rng.below(case.table.n) as u8;
-            case.push(Message::Lookup { to, key: last });
+            let to = rng.below(case.table.n);
+            case.push(lookup(&case.table, to, last));
         }
         if rng.one_in(3) {
             let waiting = case.table.count;

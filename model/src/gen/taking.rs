@@ -18,7 +18,7 @@ pub fn taking(rng: &mut Rng, case: &Case, place: usize) -> Action {
 /// Take, or for a Lookup the one of the pair that its destination's cover allows.
 pub fn fitting(case: &Case, place: usize) -> Action {
     match case.pool[place] {
-        Message::Lookup { to, key } if View::new(Right, &case.table).covers(to.into(), key) => {
+        Message::Lookup { to, key, .. } if View::new(Right, &case.table).covers(to.into(), key) => {
             Action::Deliver { place }
         }
         Message::Lookup { .. } => Action::Forward { place },

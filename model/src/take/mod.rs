@@ -14,9 +14,9 @@ impl<R: Reading> Scene<'_, R> {
     #[inline]
     pub(crate) fn take(&self, change: &mut Change, place: usize) -> Result<(), Refusal> {
         match *self.found(change, place) {
-            Message::Lookup { key, .. } => self.take_lookup(change, key),
-            Message::JoinRequest { node, routing, .. } => {
-                self.take_join_request(change, node.into(), routing)
+            Message::Lookup { key, hops, .. } => self.take_lookup(change, key, hops),
+            Message::JoinRequest { node, routing, hops, .. } => {
+                self.take_join_request(change, node.into(), routing, hops)
             }
             Message::JoinReply { owner, routing, sides, .. } => {
                 self.take_join_reply(change, owner.into(), routing, sides)

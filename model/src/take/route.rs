@@ -12,7 +12,7 @@ use crate::table::{Node, Status};
 impl<R: Reading> Scene<'_, R> {
     /// A Lookup is for Deliver and Forward.
     #[inline]
-    pub(super) fn take_lookup(&self, change: &mut Change, key: u32) -> Result<(), Refusal> {
+    pub(super) fn take_lookup(&self, change: &mut Change, key: u32, hops: u32) -> Result<(), Refusal> {
         let r = self.view.r;
         if r.takes(Slip::TakeTwoBeforeFive) {
             self.needs_ready(change)?;
@@ -22,7 +22,7 @@ impl<R: Reading> Scene<'_, R> {
         if self.covers(change.slot, key) {
             return Ok(());
         }
-        self.route(change, key)
+        self.route(change, key, hops)
     }
 
     /// Delivers a Lookup, where i covers its key.
@@ -33,12 +33,12 @@ impl<R: Reading> Scene<'_, R> {
             self.found(change, place);
             return Ok(());
         }
-        let key = self.lookup_at(change, place)?;
+        let (key, hops) = self.lookup_at(change, place)?;
         let covered = self.covers(change.slot, key);
         refuse_if(!covered && r.takes(Slip::CoverBeforeStatus), Refusal::Partner)?;
         self.pair_needs_ready(change, Slip::DeliverAtOk)?;
         if !covered && r.takes(Slip::DeliverForwards) {
-            return self.route(change, key);
+            return self.route(change, key, hops);
         }
         change.via = r.pick(Slip::ViaOfDelivered, Some(Via::Leaf), None);
         refuse_if(!covered && !r.takes(Slip::DeliverUncovered), Refusal::Partner)
@@ -51,7 +51,7 @@ impl<R: Reading> Scene<'_, R> {
         if r.takes(Slip::ForwardOfJoin) && matches!(self.pool[place], Message::JoinRequest { .. }) {
             return self.take(change, place);
         }
-        let key = self.lookup_at(change, place)?;
+        let (key, hops) = self.lookup_at(change, place)?;
         let covered = self.covers(change.slot, key);
         refuse_if(covered && r.takes(Slip::CoverBeforeStatus), Refusal::Partner)?;
         self.pair_needs_ready(change, Slip::ForwardAtOk)?;
@@ -61,13 +61,13 @@ impl<R: Reading> Scene<'_, R> {
         refuse_if(covered && !r.takes(Slip::ForwardCovered), Refusal::Partner)?;
         let stuck = r.takes(Slip::ForwardNoRouteIsFive) && self.view.next_hop(change.slot, key).is_none();
         refuse_if(stuck, Refusal::Partner)?;
-        self.route(change, key)
+        self.route(change, key, hops)
     }
 
-    /// The key of the Lookup at a place. Another kind is refused whatever the status.
-    fn lookup_at(&self, change: &mut Change, place: usize) -> Result<u32, Refusal> {
-        if let Message::Lookup { key, .. } = *self.found(change, place) {
-            return Ok(key);
+    /// The key and the hops of the Lookup at a place. Another kind is refused whatever the status.
+    fn lookup_at(&self, change: &mut Change, place: usize) -> Result<(u32, u32), Refusal> {
+        if let Message::Lookup { key, hops, .. } = *self.found(change, place) {
+            return Ok((key, hops));
         }
         if self.view.r.takes(Slip::PairTwoBeforeFive) {
             self.needs_ready(change)?;
@@ -75,13 +75,15 @@ impl<R: Reading> Scene<'_, R> {
         Err(Refusal::Partner)
     }
 
-    /// Sends a Lookup on from i, or says that there is no legal route.
-    fn route(&self, change: &mut Change, key: u32) -> Result<(), Refusal> {
-        let i = change.slot;
+    /// Sends a Lookup on from i with one more hop, or says that there is no legal route.
+    fn route(&self, change: &mut Change, key: u32, hops: u32) -> Result<(), Refusal> {
+        let (r, i) = (self.view.r, change.slot);
         let Some(hop) = self.view.next_hop(i, key) else {
-            return self.no_route(change, i, key);
+            return self.no_route(change, i, key, r.pick(Slip::NoRouteCarriesHops, hops, 0));
         };
-        change.send_on(self, key, hop, Message::Lookup { to: hop as u8, key });
+        let anew = r.pick(Slip::HopsBeginAnew, 0, hops.wrapping_add(1));
+        let hops = r.pick(Slip::HopsNotCounted, hops, anew);
+        change.send_on(self, key, hop, Message::Lookup { to: hop as u8, key, hops });
         Ok(())
     }
 
@@ -111,17 +113,23 @@ impl<R: Reading> Scene<'_, R> {
         self.view.covers(i, key) && !routes
     }
 
-    fn no_route(&self, change: &mut Change, to: usize, key: u32) -> Result<(), Refusal> {
+    fn no_route(&self, change: &mut Change, to: usize, key: u32, hops: u32) -> Result<(), Refusal> {
         refuse_if(self.view.r.takes(Slip::NoRouteIsFive), Refusal::Partner)?;
         if !self.view.r.takes(Slip::NoRouteDropped) {
-            change.send(self, Message::NoLegalRoute { to: to as u8, key });
+            change.send(self, Message::NoLegalRoute { to: to as u8, key, hops });
         }
         change.via = self.view.r.pick(Slip::ViaOfNoRoute, Some(Via::Leaf), None);
         Ok(())
     }
 
     #[inline]
-    pub(super) fn take_join_request(&self, change: &mut Change, j: usize, told: u64) -> Result<(), Refusal> {
+    pub(super) fn take_join_request(
+        &self,
+        change: &mut Change,
+        j: usize,
+        told: u64,
+        hops: u32,
+    ) -> Result<(), Refusal> {
         let (view, r, i) = (&self.view, self.view.r, change.slot);
         let node = change.node;
         let member = self.is_known(&node, i, j);
@@ -144,12 +152,14 @@ impl<R: Reading> Scene<'_, R> {
         let key = view.table.id(j);
         let Some(hop) = view.next_hop(i, key) else {
             let to = r.pick(Slip::NoRouteToSender, j, i);
-            return self.no_route(change, to, r.pick(Slip::NoRouteNamesSlot, j as u32, key));
+            return self.no_route(change, to, r.pick(Slip::NoRouteNamesSlot, j as u32, key), 0);
         };
         let gained = r.pick(Slip::ForwardKeepsRouting, 0, node.routing);
         let routing = r.pick(Slip::ForwardOwnRouting, 0, told) | gained;
         let routing = routing | r.pick(Slip::ForwardGainsItself, bit(i), 0);
-        change.send_on(self, key, hop, Message::JoinRequest { to: hop as u8, node: j as u8, routing });
+        let hops = r.pick(Slip::JoinsCountHops, hops.wrapping_add(1), 0);
+        let (to, node) = (hop as u8, j as u8);
+        change.send_on(self, key, hop, Message::JoinRequest { to, node, routing, hops });
         Ok(())
     }
 

@@ -1,5 +1,6 @@
 //! The table file and validity, as written.
 
+use super::ring::nearer;
 use super::{Message, Node, Set, Table};
 use std::collections::BTreeSet;
 
@@ -41,13 +42,12 @@ pub fn refusals(bytes: &[u8]) -> BTreeSet<u32> {
 fn valid(bytes: &[u8]) -> bool {
     let [m, l, n, count] = std::array::from_fn(|i| word(bytes, 4 * i));
     let (n, count) = (n as usize, count as usize);
-    let sixth = (0..count).all(|p| word(bytes, 32 + 64 * n + 56 * p + 20) == 0);
     let slots = (0..count).all(|p| {
         let at = 32 + 64 * n + 56 * p;
         word(bytes, at + 4) < n as u64 && word(bytes, at + 16) < n as u64
     });
     let statuses = (0..n).all(|s| word(bytes, 32 + 64 * s + 4) <= 3);
-    sixth && slots && statuses && table_valid(&read(bytes), m as u32, l as usize)
+    slots && statuses && table_valid(&read(bytes), m as u32, l as usize)
 }
 
 fn table_valid(table: &Table, m: u32, l: usize) -> bool {
@@ -63,12 +63,26 @@ fn table_valid(table: &Table, m: u32, l: usize) -> bool {
             && node.right.len() <= l
             && [&node.left, &node.right, &node.probing, &node.failed].iter().all(|set| !set.contains(&s))
     });
-    let alone = (0..table.pool.len()).all(|p| table.pool[..p].iter().all(|other| *other != table.pool[p]));
-    ids && nodes && alone && table.pool.iter().all(|message| message_valid(message, n, m, l))
+    let alone =
+        (0..table.pool.len()).all(|p| table.pool[..p].iter().all(|other| !other.equals(&table.pool[p])));
+    ids && nodes
+        && alone
+        && table.pool.iter().all(|message| message_valid(message, n, m, l) && hops_valid(table, message))
+}
+
+/// A Lookup's hops are at most the number of listed nodes farther from its key than its destination; any other kind
+/// has none.
+fn hops_valid(table: &Table, message: &Message) -> bool {
+    if message.kind != 1 {
+        return message.hops == 0;
+    }
+    let (key, at) = (message.node_or_key, table.nodes[message.to].id);
+    let farther = table.nodes.iter().filter(|node| nearer(table.m, key, at, node.id)).count();
+    message.hops <= farther as u64
 }
 
 fn message_valid(message: &Message, n: usize, m: u32, l: usize) -> bool {
-    let Message { kind, to, node_or_key, flag, owner, routing, left, right, failed } = message;
+    let Message { kind, to, node_or_key, flag, owner, routing, left, right, failed, .. } = message;
     let listed = |set: &Set| set.iter().all(|&s| s < n);
     let no_flag = *flag == 0;
     let no_owner = *owner == 0;
@@ -116,6 +130,7 @@ pub fn read(bytes: &[u8]) -> Table {
             node_or_key: word(bytes, at + 8) as i64,
             flag: word(bytes, at + 12) as u32,
             owner: word(bytes, at + 16) as usize,
+            hops: word(bytes, at + 20),
             routing,
             left,
             right,
@@ -146,7 +161,7 @@ pub fn bytes(table: &Table) -> Vec<u8> {
         }
     }
     for m in &table.pool {
-        for word in [m.kind, m.to as u32, m.node_or_key as u32, m.flag, m.owner as u32, 0] {
+        for word in [m.kind, m.to as u32, m.node_or_key as u32, m.flag, m.owner as u32, m.hops as u32] {
             out.extend(word.to_le_bytes());
         }
         for set in [&m.routing, &m.left, &m.right, &m.failed] {

@@ -1,5 +1,5 @@
 //! The bench once more, slowly, with sets of slots and straight from the sentences of 01, T-01, T-03, T-05, T-06,
-//! T-09 and T-13.
+//! T-07, T-09 and T-13.
 //! It shares no code with the model and takes the same requests.
 
 #![allow(dead_code)]
@@ -45,10 +45,18 @@ pub struct Message {
     pub node_or_key: i64,
     pub flag: u32,
     pub owner: usize,
+    pub hops: u64,
     pub routing: Set,
     pub left: Set,
     pub right: Set,
     pub failed: Set,
+}
+
+impl Message {
+    /// Equality of messages ignores the hop number.
+    pub fn equals(&self, other: &Message) -> bool {
+        Message { hops: 0, ..self.clone() } == Message { hops: 0, ..other.clone() }
+    }
 }
 
 #[derive(Clone, Debug, PartialEq)]

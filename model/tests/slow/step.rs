@@ -41,7 +41,7 @@ pub fn judge(table: &Table, action: u64, first: u64, second: u64) -> Verdict {
     };
     let mut after = effect.table;
     for message in effect.additions {
-        if !after.pool.contains(&message) {
+        if !after.pool.iter().any(|waiting| waiting.equals(&message)) {
             after.pool.push(message);
         }
     }
@@ -100,7 +100,7 @@ pub fn numbers<const N: usize>(conditions: [(u32, bool); N]) -> BTreeSet<u32> {
 
 fn lookup(table: &Table, i: usize, k: i64) -> (BTreeSet<u32>, Effect) {
     let message = Message { kind: 1, to: i, node_or_key: k, ..Message::default() };
-    let found = numbers([(3, table.pool.contains(&message))]);
+    let found = numbers([(3, table.pool.iter().any(|waiting| waiting.equals(&message)))]);
     (found, Effect { table: table.clone(), additions: vec![message] })
 }
 
@@ -183,7 +183,7 @@ fn deliver_or_forward(table: &Table, place: usize, deliver: bool) -> (BTreeSet<u
     let found = numbers([(2, table.nodes[i].status != READY), (5, covers(table, i, k) != deliver)]);
     let additions = match next_hop(table, i, k) {
         _ if deliver => vec![],
-        Some(h) => vec![Message { to: h, ..m.clone() }],
+        Some(h) => vec![Message { to: h, hops: m.hops + 1, ..m.clone() }],
         None => vec![no_route(i, k)],
     };
     (found, Effect { table: after, additions })

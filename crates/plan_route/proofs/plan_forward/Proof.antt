@@ -1,4 +1,5 @@
 -- `plan_route::plan_forward` meets its contract: its tests are the definition's, in the same order. Assumes nothing.
+use native.Mathlib.Omega.{arith}
 use borrow.Author.Needs.{needs}
 use borrow.Author.Tests.{eqb-true, not-false}
 use Rattle.rules.specs.Take.{planForward}
@@ -38,8 +39,11 @@ next-hop-requires c κs =
     let s = b .before in
     (s .pre .0, s .pre .1, s .pre .2 (eqb-true _ 1 (not-false _ (b .if1 .left))))
 
-lookup-of-requires : tie.Need-lookup-of-requires
-lookup-of-requires c κs = search needs
+add-lookup-after : tie.Need-add-lookup-after
+add-lookup-after c = omega (arith, c .before .before .before .before .before .before .before .pre .3)
+
+lookup-after-requires : tie.Need-lookup-after-requires
+lookup-after-requires c κs = search needs
 
 forward-requires : tie.Need-forward-requires
 forward-requires c κs = search needs
@@ -51,7 +55,7 @@ returns-4 c =
     let d = e .before .before in
     let b = d .before .before in
     rw (b .before .if1 .left, ← b .is-ready .ensures, d .before .if2 .left, ← d .sides-of .ensures, ← e .before .covers .ensures, e .if3 .left)
-    (rw (c .forward .ensures, c .before .lookup-of .ensures, c .before .before .next-hop .ensures))
+    (rw (c .forward .ensures, c .before .lookup-after .ensures, c .before .before .next-hop .ensures))
 
 pub plan-forward-spec : {M : Type 1} → statement M
 plan-forward-spec =
@@ -64,6 +68,7 @@ plan-forward-spec =
     covers-requires
     returns-3
     next-hop-requires
-    lookup-of-requires
+    add-lookup-after
+    lookup-after-requires
     forward-requires
     returns-4)

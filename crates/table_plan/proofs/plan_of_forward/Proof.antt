@@ -29,6 +29,7 @@ plan-forward-requires c κs =
       rw (g, c .before .before .before .ids .ensures) (s .pre .0),
       lt-of-lt-of-le (s .pre .1) (s .pre .0 .n-high),
       λ k. rw g (obeys _ _ (s .pre .2) .key-in (ap hasKey k)),
+      s .pre .3,
     )
 
 returns : tie.Need-returns

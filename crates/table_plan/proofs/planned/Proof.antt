@@ -3,7 +3,7 @@ use borrow.Author.Needs.{needs}
 use mathlib.Core.Path.{_≡_, refl, sym, _∙_, ap, subst}
 use Rattle.marks.proofs.Bools.{and-left}
 use mathlib.Core.Bool.{true}
-use Prim.Native.Nat.{ℕ, _<_}
+use Prim.Native.Nat.{ℕ, _<_, _≤_}
 use Rattle.rules.specs.declared.Action.{Action}
 use Rattle.rules.specs.declared.Planned.{Planned}
 use Rattle.rules.specs.declared.Pool.{Pool}
@@ -26,10 +26,11 @@ read c p b e r = subst (λ (a : Action). Read (c .args .t) p a (c .args .m)) e r
 -- an action that takes the message of a place
 handed : (c : tie.Start) (b : Action) (place : ℕ) → asked (c .args .t) (c .pre .0) b .gone ≡ one-goes place → c .args .a ≡ b
     → Listed (ringOf (c .args .t)) (idsOf (c .args .t)) × (c .args .m .dest < c .args .t .n) × (messageFits (ringOf (c .args .t)) (c .args .m) ≡ true)
+    × (c .args .m .hops ≤ 64)
 handed c b place g e =
     let k = called c b e in
     let o = gone-obeys k g (read c (c .pre .0) b e (c .pre .2) .is place g) in
-    (is-listed k, o .0, o .1)
+    (is-listed k, o .0, o .1, o .2)
 
 abbrev plan : (c : tie.Start) → Pool → Action → Planned
 plan c p b = asked (c .args .t) p b .plan (c .args .there)
@@ -72,13 +73,13 @@ enum-told : tie.Need-enum-told
 enum-told c = search needs
 
 plan-of-take-requires : tie.Need-plan-of-take-requires
-plan-of-take-requires c κs = handed (c .before .before) _ _ refl (c .enum-told .given .1)
+plan-of-take-requires c κs = let h = handed (c .before .before) _ _ refl (c .enum-told .given .1) in (h .0, h .1, h .2)
 
 enum-told-2 : tie.Need-enum-told-2
 enum-told-2 c = search needs
 
 plan-of-deliver-requires : tie.Need-plan-of-deliver-requires
-plan-of-deliver-requires c κs = handed (c .before .before) _ _ refl (c .enum-told2 .given .1)
+plan-of-deliver-requires c κs = let h = handed (c .before .before) _ _ refl (c .enum-told2 .given .1) in (h .0, h .1, h .2)
 
 enum-told-3 : tie.Need-enum-told-3
 enum-told-3 c = search needs

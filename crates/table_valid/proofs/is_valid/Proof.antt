@@ -1,8 +1,10 @@
 -- `table_valid::is_valid` meets its contract: the definition's three tests, in its order. The first bounds M and n for the others. Assumes nothing.
+use mathlib.Core.Path.{sym, _∙_}
 use borrow.Author.Needs.{needs}
 use borrow.Author.Tests.{not-true, not-false}
 use Rattle.table.proofs.Sound.{Numbers, numbers-told}
 use Rattle.table.specs.Valid.{validOf}
+use Rattle.table_valid.proofs.Slots.{nodes-listed}
 use Rattle.table_valid.proofs.is_valid.Statement.{statement}
 use Rattle.table_valid.proofs.is_valid.Tie as tie
 
@@ -46,13 +48,24 @@ returns-2 c =
       not-true (s .nodes-fit .result) (c .if2 .taken),
     )
 
+ids-requires : tie.Need-ids-requires
+ids-requires c κs = search needs
+
 pool-fits-requires : tie.Need-pool-fits-requires
-pool-fits-requires c κs = let w = c .before .before in (narrow (w .before) .m-high, w .all-nodes .ensures)
+pool-fits-requires c κs =
+    let i = c .before in
+    let s = i .before .before in
+    let e = s .before .before in
+    let g = e .before .before .ring-of .ensures in
+    let told = sym (e .before .numbers-fit .ensures) ∙ not-false (e .before .numbers-fit .result) (e .if1 .left) in
+    let nodes = sym (s .nodes-fit .ensures) ∙ not-false (s .nodes-fit .result) (i .before .if2 .left) in
+    (rw (g, i .ids .ensures) (nodes-listed _ (rw g at told) nodes), s .before .all-nodes .ensures)
 
 returns-3 : tie.Need-returns-3
 unfolding validOf
 returns-3 c =
-    let s = c .before .before in
+    let i = c .before .before in
+    let s = i .before .before in
     let e = s .before .before in
     let n = e .before in
     rw (
@@ -60,7 +73,8 @@ returns-3 c =
       ← n .numbers-fit .ensures,
       not-false (n .numbers-fit .result) (e .if1 .left),
       ← s .nodes-fit .ensures,
-      not-false (s .nodes-fit .result) (c .before .if2 .left),
+      not-false (s .nodes-fit .result) (i .before .if2 .left),
+      ← i .ids .ensures,
       c .pool-fits .ensures,
     )
 
@@ -74,5 +88,6 @@ is-valid-spec =
     all-nodes-requires
     nodes-fit-requires
     returns-2
+    ids-requires
     pool-fits-requires
     returns-3)

@@ -2,17 +2,15 @@
 use borrow.Author.Needs.{needs}
 use mathlib.Core.Path.{_≡_, refl}
 use mathlib.Core.Bool.{Bool, true, false, _&&_}
-use lib.Dec.{eqb, ltb}
+use lib.Dec.{ltb}
 use Rattle.rules.specs.Fits.{isKind, fieldsFit, messageFits}
 use Rattle.table_valid.proofs.message_fits.Statement.{statement}
 use Rattle.table_valid.proofs.message_fits.Tie as tie
 
-last-first : (a b c d : Bool) → (a && (b && (c && d))) ≡ (c && (a && (b && d)))
-last-first true true c d = refl
-last-first true false true d = refl
-last-first true false false d = refl
-last-first false b true d = refl
-last-first false b false d = refl
+kind-first : (a b c : Bool) → (a && (b && c)) ≡ (b && (a && c))
+kind-first true b c = refl
+kind-first false true c = refl
+kind-first false false c = refl
 
 cast-result : tie.Need-cast-result
 cast-result c = search needs
@@ -23,9 +21,9 @@ kind-fits-requires c κs = search needs
 returns : tie.Need-returns
 unfolding messageFits
 returns c =
-    let a = c .before .before .before .before .args in
+    let a = c .before .before .before .args in
     let m = a .m in
-    rw (c .kind-fits .ensures) (last-first (ltb (m .dest) (a .g .n)) (eqb (m .hops) 0) (isKind (m .kind)) (fieldsFit (m .kind) (a .g) m))
+    rw (c .kind-fits .ensures) (kind-first (ltb (m .dest) (a .g .n)) (isKind (m .kind)) (fieldsFit (m .kind) (a .g) m))
 
 pub message-fits-spec : {M : Type 1} → statement M
 message-fits-spec = tie.close (tie.spec cast-result kind-fits-requires returns)

@@ -1,9 +1,10 @@
--- `table_valid::pool_fits` meets its contract: the definition's three tests, in its order. Before place k the messages passed obey their kinds. Before
+-- `table_valid::pool_fits` meets its contract: the definition's three tests, in its order. Before place k the messages passed fit, hops included. Before
 -- place j the table has every place below j in its chain (Chained), and no two of them are equal (Differ); on the way down a chain all at or
 -- above the link differ from j's message (Walk). The measures: the places left, of each loop over places, and the link. Assumes nothing.
 use Prim.Native.Nat.{ℕ, _-_, _≤_, _<_, zero-le}
 use mathlib.Core.Path.{_≡_, refl, sym, _∙_, ap}
-use mathlib.Core.Bool.{Bool, true, false}
+use mathlib.Core.Bool.{Bool, true, false, _&&_}
+use mathlib.Core.List.{List}
 use native.Mathlib.Omega.{arith}
 use borrow.Author.Needs.{needs}
 use borrow.Author.Tests.{le-leb, lt-leb, not-true, not-false}
@@ -12,7 +13,7 @@ use Rattle.marks.proofs.Laws.{fails}
 use Rattle.marks.proofs.Laws.{more as all-more}
 use Rattle.rules.specs.declared.Ring.{Ring}
 use Rattle.rules.specs.declared.Pool.{Pool}
-use Rattle.rules.specs.Fits.{messageFits}
+use Rattle.rules.specs.Fits.{messageFits, hopsFit}
 use Rattle.rules.specs.Mail.{allDifferent}
 use Rattle.rules.specs.Pool.{messageAt, waiting}
 use Rattle.table.specs.Valid.{messagesFit, poolFits}
@@ -22,40 +23,41 @@ use Rattle.pool.proofs.Chain.{Chained, Walk, none, starts, onward, more}
 use Rattle.table_valid.proofs.pool_fits.Statement.{statement}
 use Rattle.table_valid.proofs.pool_fits.Tie as tie
 
-abbrev fitsAt : Ring → Pool → ℕ → Bool
-fitsAt g p q = messageFits g (messageAt p q)
+abbrev fitsAt : Ring → List ℕ → Pool → ℕ → Bool
+fitsAt g ids p q = messageFits g (messageAt p q) && hopsFit g ids (messageAt p q)
 
--- one that does not obey its kind decides
-one-fails : (g : Ring) (p : Pool) (k : ℕ) → p .count ≤ 256 → k < p .count → fitsAt g p k ≡ false → false ≡ poolFits g p
+-- one that does not fit decides
+one-fails : (g : Ring) (ids : List ℕ) (p : Pool) (k : ℕ) → p .count ≤ 256 → k < p .count → fitsAt g ids p k ≡ false → false ≡ poolFits g ids p
 unfolding poolFits messagesFit
-one-fails g p k l h e = rw (le-leb (p .count) 256 l, fails (p .count) (fitsAt g p) k h e)
+one-fails g ids p k l h e = rw (le-leb (p .count) 256 l, fails (p .count) (fitsAt g ids p) k h e)
 
--- where all obey theirs, the third test decides
-all-fit : (g : Ring) (p : Pool) (k : ℕ) → p .count ≤ 256 → p .count ≡ k → allTo k (fitsAt g p) ≡ true → allDifferent (waiting p) ≡ poolFits g p
+-- where all fit, the third test decides
+all-fit : (g : Ring) (ids : List ℕ) (p : Pool) (k : ℕ) → p .count ≤ 256 → p .count ≡ k → allTo k (fitsAt g ids p) ≡ true
+    → allDifferent (waiting p) ≡ poolFits g ids p
 unfolding poolFits messagesFit
-all-fit g p k l e f = rw (le-leb (p .count) 256 l, ap (λ (i : ℕ). allTo i (fitsAt g p)) e ∙ f)
+all-fit g ids p k l e f = rw (le-leb (p .count) 256 l, ap (λ (i : ℕ). allTo i (fitsAt g ids p)) e ∙ f)
 
 abbrev Inv-tests : tie.InvT-tests
-Inv-tests g all p n k₀ k = (k ≤ n) × (allTo k (fitsAt g p) ≡ true)
+Inv-tests g all ids p n k₀ k = (k ≤ n) × (allTo k (fitsAt g ids p) ≡ true)
 
 abbrev μ-tests : tie.MeasureT-tests
-μ-tests g all p n k₀ k = n - k
+μ-tests g all ids p n k₀ k = n - k
 
 abbrev Inv-chain : tie.InvT-chain
-Inv-chain all p n k heads next j m h first at₀ at = Walk (p .places) j at
+Inv-chain all ids p n k heads next j m h first at₀ at = Walk (p .places) j at
 
 abbrev μ-chain : tie.MeasureT-chain
-μ-chain all p n k heads next j m h first at₀ at = at
+μ-chain all ids p n k heads next j m h first at₀ at = at
 
 abbrev Inv-places : tie.InvT-places
-Inv-places all p n k heads₀ next₀ j₀ heads next j = (j ≤ n) × Chained (p .places) j heads next × Differ (p .places) j
+Inv-places all ids p n k heads₀ next₀ j₀ heads next j = (j ≤ n) × Chained (p .places) j heads next × Differ (p .places) j
 
 abbrev μ-places : tie.MeasureT-places
-μ-places all p n k heads₀ next₀ j₀ heads next j = n - j
+μ-places all ids p n k heads₀ next₀ j₀ heads next j = n - j
 
 returns : tie.Need-returns Inv-tests μ-tests Inv-chain μ-chain Inv-places μ-places
 unfolding poolFits
-returns c = rw (lt-leb (c .before .args .t3 .count) 256 (c .if1 .taken))
+returns c = rw (lt-leb (c .before .args .t4 .count) 256 (c .if1 .taken))
 
 tests-holds : tie.Need-tests-holds Inv-tests μ-tests Inv-chain μ-chain Inv-places μ-places
 unfolding allTo
@@ -67,15 +69,15 @@ mul-m c = search needs
 element-copy-out-m : tie.Need-element-copy-out-m Inv-tests μ-tests Inv-chain μ-chain Inv-places μ-places
 element-copy-out-m c = search needs
 
-message-fits-requires : tie.Need-message-fits-requires Inv-tests μ-tests Inv-chain μ-chain Inv-places μ-places
-message-fits-requires c κs = search needs
+place-fits-requires : tie.Need-place-fits-requires Inv-tests μ-tests Inv-chain μ-chain Inv-places μ-places
+place-fits-requires c κs = search needs
 
 returns-2 : tie.Need-returns-2 Inv-tests μ-tests Inv-chain μ-chain Inv-places μ-places
 returns-2 c =
     let l = c .before .before .before .before in
     let a = l .before .before .args in
-    one-fails (a .g) (a .t3) (l .tests .k) (omega arith) (omega arith)
-    (sym (c .before .message-fits .ensures) ∙ not-true _ (c .if2 .taken))
+    one-fails (a .g) _ (a .t4) (l .tests .k) (omega arith) (omega arith)
+    (sym (c .before .place-fits .ensures) ∙ not-true _ (c .if2 .taken))
 
 add-k : tie.Need-add-k Inv-tests μ-tests Inv-chain μ-chain Inv-places μ-places
 add-k c = search needs
@@ -87,8 +89,8 @@ tests-again : tie.Need-tests-again Inv-tests μ-tests Inv-chain μ-chain Inv-pla
 tests-again c =
     let l = c .before .before .before .before in
     let a = l .before .before .args in
-    let fit = sym (c .before .message-fits .ensures) ∙ not-false _ (c .if2 .left) in
-    (omega arith, all-more (l .tests .k) (fitsAt (a .g) (a .t3)) (l .tests .inv .1) fit)
+    let fit = sym (c .before .place-fits .ensures) ∙ not-false _ (c .if2 .left) in
+    (omega arith, all-more (l .tests .k) (fitsAt (a .g) _ (a .t4)) (l .tests .inv .1) fit)
 
 places-holds : tie.Need-places-holds Inv-tests μ-tests Inv-chain μ-chain Inv-places μ-places
 places-holds c = (omega arith, none _ _ _ refl refl, differ-none _)
@@ -199,9 +201,9 @@ returns-3 c =
     let t = c .before .before .before in
     let s = t .before .before in
     let low = t .before .if1 .left in
-    let long = places-length (s .args .t3) _ (s .good .1 .1 .0) in
+    let long = places-length (s .args .t4) _ (s .good .1 .1 .1 .0) in
     sym (differ-all _ _ _ long low (omega arith) (c .before .places .inv .2))
-    ∙ all-fit (s .args .g) (s .args .t3) (t .tests .k) low (omega arith) (t .tests .inv .1)
+    ∙ all-fit (s .args .g) _ (s .args .t4) (t .tests .k) low (omega arith) (t .tests .inv .1)
 
 returns-4 : tie.Need-returns-4 Inv-tests μ-tests Inv-chain μ-chain Inv-places μ-places
 returns-4 c =
@@ -212,9 +214,9 @@ returns-4 c =
     let low = t .before .if1 .left in
     let w = b .chain .inv .low in
     let same = sym (c .before .alike .ensures) ∙ c .if4 .taken in
-    let long = places-length (s .args .t3) _ (s .good .1 .1 .0) in
+    let long = places-length (s .args .t4) _ (s .good .1 .1 .1 .0) in
     sym (differ-not _ _ (b .chain .at - 1) (k .places .j) long low (omega arith) (omega arith) same)
-    ∙ all-fit (s .args .g) (s .args .t3) (t .tests .k) low (omega arith) (t .tests .inv .1)
+    ∙ all-fit (s .args .g) _ (s .args .t4) (t .tests .k) low (omega arith) (t .tests .inv .1)
 
 pub pool-fits-spec : {M : Type 1} → statement M
 pool-fits-spec =
@@ -230,7 +232,7 @@ pool-fits-spec =
     tests-holds
     mul-m
     element-copy-out-m
-    message-fits-requires
+    place-fits-requires
     returns-2
     add-k
     tests-less
