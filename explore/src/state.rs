@@ -1,4 +1,5 @@
-//! A state: a table and a set of messages, named by the numbers of their records. The order of the pool is of no account.
+//! A state: a table and a set of messages, named by the numbers of their records. The order of the pool is of no account:
+//! crates/order_laws has this proved of the step.
 
 use crate::file::{self, Frame, Message, Node};
 use crate::index::Index;
