@@ -14,10 +14,10 @@ use Rattle.marks.proofs.Bools.{bool-false, bool-same, opposed, lt-or-le}
 use Rattle.marks.specs.Marks.{has, gather, tally, firstTo}
 use Rattle.marks.proofs.Laws.{first-found, first-none, first-at, first-nothing, has-gather, gather-high, tally-some, some-tally}
 use Rattle.rules.specs.declared.Refusal.the-variants as no
-use Rattle.rules.specs.Actions.{isFound}
+use Rattle.rules.specs.Mail.{isFound}
 use Rattle.rules.specs.Numbers.{refusalNumber}
 use Rattle.rules.specs.Pool.{messageAt, waiting}
-use Rattle.table.proofs.Sound.{sound, is-valid}
+use Rattle.table_laws.proofs.Sound.{sound, is-valid}
 use Rattle.counts.specs.declared.Counted.{Counted}
 use Rattle.counts.specs.declared.Has.{Has}
 use Rattle.counts.specs.declared.Has.the-variants as has-message

@@ -12,10 +12,10 @@ use Rattle.rules.specs.declared.Pool.{Pool}
 use Rattle.rules.specs.declared.Refusal.the-variants as no
 use Rattle.rules.specs.Mail.{sameTo}
 use Rattle.rules.specs.Pool.{waiting}
-use Rattle.table.proofs.Sound.{sound, Sound, is-valid}
-use Rattle.table.specs.Step.{isSound}
+use Rattle.table_laws.proofs.Sound.{sound, Sound, is-valid}
+use Rattle.step.specs.Step.{isSound}
 use Rattle.table.specs.Valid.{validOf}
-use Rattle.face_table.specs.declared.Rest.the-variants.{NotAsked}
+use Rattle.face.specs.declared.Rest.the-variants.{NotAsked}
 use Rattle.counts.specs.declared.Counted.{Counted}
 use Rattle.counts.specs.declared.First.the-variants as first
 use Rattle.counts.specs.declared.Has.the-variants as has

@@ -13,29 +13,30 @@ use Rattle.rules.specs.declared.Answer.the-variants.{Refused}
 use Rattle.rules.specs.declared.Pool.{Pool}
 use Rattle.rules.specs.declared.Refusal.the-variants as no
 use Rattle.rules.specs.declared.Via.the-variants.{Leaf, Unrouted}
-use Rattle.rules.specs.Actions.{waits, planLookup}
+use Rattle.rules.specs.Mail.{waits, alike, allDifferent, firstFrom, firstEqual, added, removedAt, sentTo}
+use Rattle.plan.specs.Actions.{planLookup}
 use Rattle.rules.specs.Closest.{closest}
 use Rattle.rules.specs.Fits.{numbersFit, idFits, sideFits, leafFits, othersFit, nodeFits, isBlank, slotFits}
 use Rattle.rules.specs.Fits.{wordFits, flagFits, carriedFits, ownerFits, routingFits, failedFits, fieldsFit, messageFits, fartherThan, hopsFit}
 use Rattle.rules.specs.Hop.{leafCandidates, routeCandidates, byLeaf, leafHop, routeHop, nextHop, viaOf}
 use Rattle.rules.specs.Leaf.{contentOf, seenFrom, leafWith, overlaps, isEmpty, coversOf}
 use Rattle.rules.specs.Letters.{lookup}
-use Rattle.rules.specs.Mail.{alike, allDifferent, firstFrom, firstEqual, added, removedAt, sentTo}
 use Rattle.rules.specs.Nodes.{placed}
 use Rattle.rules.specs.Pick.{best}
 use Rattle.rules.specs.Plans.{mailed}
 use Rattle.rules.specs.Pool.{waiting, laid}
 use Rattle.table_type.specs.declared.Table.{Table}
-use Rattle.table_type.specs.Start.{slotIds, slotsTo, startNode, startNodes, startFits, idsRise, listFits, startOf}
-use Rattle.rules.specs.Take.{planDeliver, planForward}
+use Rattle.start.specs.Start.{slotIds, slotsTo, startNode, startNodes, startFits, idsRise, listFits}
+use Rattle.table_type.specs.Start.{startOf}
+use Rattle.take.specs.Take.{planDeliver, planForward}
 use Rattle.table.specs.Settle.{carriedOut, settle}
 use Rattle.table.specs.Settled.{deadSet}
-use Rattle.table.specs.Step.{isSound, stepOf}
+use Rattle.step.specs.Step.{isSound, stepOf}
 use Rattle.table.specs.Valid.{nodesFit, messagesFit, poolFits, validOf}
 use Rattle.words.specs.Bytes.{bytesOf, numberOf, encode, decode, encodeAll, decodeAll}
 use Rattle.file.specs.Load.{headerFits, offsetsFit, statusesFit, fileTable, partPool, filePool, loadOf}
-use Rattle.face_table.specs.declared.Rest.the-variants as rest
-use Rattle.face_table.specs.Asked.{startStep}
+use Rattle.face.specs.declared.Rest.the-variants as rest
+use Rattle.face.specs.Asked.{startStep}
 use Rattle.counts.specs.declared.Counted.{Counted}
 use Rattle.counts.specs.declared.Has.the-variants as has-message
 use Rattle.counts.specs.declared.First.the-variants as first

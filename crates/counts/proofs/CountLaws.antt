@@ -18,15 +18,15 @@ use Rattle.marks.specs.Marks.{tally, firstTo}
 use Rattle.marks.proofs.Laws.{tally-same, tally-none, tally-zero, first-none, first-nothing, first-same, each, all-of}
 use Rattle.rules.specs.declared.Message.{Message}
 use Rattle.rules.specs.declared.Pool.{Pool}
-use Rattle.rules.specs.Actions.{isFound}
+use Rattle.rules.specs.Mail.{isFound}
 use Rattle.rules.specs.Pool.{messageAt, waiting}
-use Rattle.pool.proofs.Laws.{waiting-at}
+use Rattle.pool_laws.proofs.Laws.{waiting-at}
 use Rattle.rules.specs.declared.Action.{Action}
 use Rattle.rules.specs.declared.Refusal.the-variants as no
-use Rattle.table.specs.Step.{stepOf}
+use Rattle.step.specs.Step.{stepOf}
 use Rattle.file.specs.Write.{notWritten, wroteOf, writtenOf}
-use Rattle.face_table.specs.declared.Rest.the-variants.{NotAsked}
-use Rattle.face_table.specs.Asked.{restOf}
+use Rattle.face.specs.declared.Rest.the-variants.{NotAsked}
+use Rattle.face.specs.Asked.{restOf}
 use Rattle.counts.specs.declared.Counted.{Counted}
 use Rattle.counts.specs.Counts.{afterBy, refusedWith, stepWith, wroteWith, writtenWith, restWith}
 use Rattle.counts.specs.Counts.{isFor, countFor, numbersTo, countsOf, countAt, agreeOf, firstFor}

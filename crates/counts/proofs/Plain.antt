@@ -14,22 +14,22 @@ use Rattle.rules.specs.declared.Refusal.the-variants as no
 use Rattle.rules.specs.Numbers.{answerNumber}
 use Rattle.rules.specs.Pool.{waiting, laid}
 use Rattle.table.specs.Settled.{isSettled}
-use Rattle.table.specs.Step.{isSound, stepOf}
-use Rattle.pool.proofs.Laws.{waiting-laid}
-use Rattle.table.proofs.Sound.{is-valid}
+use Rattle.step.specs.Step.{isSound, stepOf}
+use Rattle.pool_laws.proofs.Laws.{waiting-laid}
+use Rattle.table_laws.proofs.Sound.{is-valid}
 use Rattle.file.specs.declared.Wrote.{Wrote}
 use Rattle.file.proofs.Exactly.{write-exactly, write-leaves}
 use Rattle.file.proofs.Theorems.{load-of-file}
 use Rattle.file.specs.Write.{notWritten, wroteOf, writtenOf}
-use Rattle.face_table.specs.declared.Rest.the-variants.{Settled, Unsettled, NotAsked}
-use Rattle.face_table.specs.Asked.{restOf, restNumber}
+use Rattle.face.specs.declared.Rest.the-variants.{Settled, Unsettled, NotAsked}
+use Rattle.face.specs.Asked.{restOf, restNumber}
 use Rattle.counts.specs.declared.After.{After}
 use Rattle.counts.specs.declared.Counted.{Counted}
 use Rattle.counts.specs.Counts.{countFor, agreeOf, afterBy, stepWith, loadWith, startWith, wroteWith, writtenWith, restWith}
 use Rattle.counts.proofs.CountLaws.{counts-at, waiting-count}
 use Rattle.counts.specs.Claims.{TrueCounts, Good, Call, Same, StepAsPlain, StepInvalidExactly, LoadAsPlain, StartAsPlain, LoadsBack}
 use Rattle.counts.specs.Claims.{WriteInvalidExactly, WriteAsPlain, WriteRefusedKeeps, RestInvalidExactly, RestAsPlain}
-use Rattle.table.proofs.Ten.{step-ten, ten-step}
+use Rattle.table_laws.proofs.Ten.{step-ten, ten-step}
 use Rattle.counts.proofs.CountLaws.{step-disagreed, wrote-agreed, wrote-disagreed, written-agreed, written-disagreed, rest-agreed, rest-disagreed}
 use Rattle.counts.proofs.Truth.{sound-counted, true-agree, good-of}
 

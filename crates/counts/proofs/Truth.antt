@@ -18,17 +18,17 @@ use Rattle.table_type.specs.declared.Stepped.{Stepped}
 use Rattle.table_type.specs.declared.Table.{Table}
 use Rattle.table.specs.Settle.{refusedOf}
 use Rattle.table_type.specs.Start.{startOf}
-use Rattle.table.specs.Step.{isSound, stepOf}
-use Rattle.pool.proofs.Laws.{waiting-short}
+use Rattle.step.specs.Step.{isSound, stepOf}
+use Rattle.pool_laws.proofs.Laws.{waiting-short}
 use Rattle.table.specs.InnerDone.{ValidDone}
-use Rattle.table.proofs.Sound.{Sound, sound, is-valid, is-sound}
-use Rattle.table.proofs.Numbers.{taken-waits}
-use Rattle.table.proofs.Proved.{keeps-valid, refusal-keeps}
-use Rattle.table.proofs.Begin.{start-valid}
+use Rattle.table_laws.proofs.Sound.{Sound, sound, is-valid, is-sound}
+use Rattle.table_laws.proofs.Numbers.{taken-waits}
+use Rattle.table_laws.proofs.Proved.{keeps-valid, refusal-keeps}
+use Rattle.table_laws.proofs.Begin.{start-valid}
 use Rattle.file.proofs.Exactly.{load-valid, load-leaves}
 use Rattle.file.specs.Load.{loadOf}
-use Rattle.face_table.specs.Asked.{began, startStep}
-use Rattle.face_table.proofs.Laid.{Neat, step-neat, load-neat, start-neat, start-leaves}
+use Rattle.face.specs.Asked.{began, startStep}
+use Rattle.face.proofs.Laid.{Neat, step-neat, load-neat, start-neat, start-leaves}
 use Rattle.counts.specs.declared.Counted.{Counted}
 use Rattle.counts.specs.Counts.{agreeOf, isSoundCounted, afterBy, refusedWith, stepWith, loadWith, startWith}
 use Rattle.counts.proofs.CountLaws.{counts-at, agree-at, agree-of, waiting-count}

@@ -1,4 +1,4 @@
--- Change request T-06, sentence by sentence, in plain equations. Only statements: the proofs are named in Proved. Assumes nothing.
+-- T-06: sentence by sentence, in plain equations. Only statements: the proofs are named in Proved. Assumes nothing.
 use mathlib.Core.Path.{_≡_}
 use mathlib.Core.Bool.{true}
 use mathlib.Core.List.{List, [], _∷_}
@@ -7,18 +7,19 @@ use Prim.Native.Nat.{ℕ, _<_, _≤_}
 use lib.Dec.{eqb}
 use lib.ListN.{getD}
 use Rattle.marks.specs.Marks.{has, tally}
+use Rattle.rules.specs.Names.{Slot, Marks, Ids, Place}
 use Rattle.rules.specs.declared.Action.{Action}
 use Rattle.rules.specs.declared.Answer.the-variants.{Done, Refused}
 use Rattle.rules.specs.declared.Refusal.{Refusal}
 use Rattle.rules.specs.Numbers.{answerNumber}
 use Rattle.rules.specs.Pool.{messageAt}
 use Rattle.table_type.specs.declared.Stepped.{Stepped}
-use Rattle.table.specs.Step.{isSound, stepOf}
+use Rattle.step.specs.Step.{isSound, stepOf}
 use Rattle.file.specs.Format.{fileOf}
 use Rattle.file.specs.Held.{Held}
 use Rattle.file.specs.Load.{loadOf}
 use Rattle.file.specs.Write.{wroteOf, writtenOf}
-use Rattle.face_table.specs.Asked.{startStep, restOf, restNumber}
+use Rattle.face.specs.Asked.{startStep, restOf, restNumber}
 use Rattle.counts.specs.declared.Counted.{Counted}
 use Rattle.counts.specs.declared.After.{After}
 use Rattle.counts.specs.declared.Has.the-variants as has-message
@@ -31,7 +32,7 @@ use Rattle.counts.specs.Counts.{hasOf, firstOf, polledOf, hasNumber, fir
 
 -- the count of node i is the number of waiting messages for it (in a pool that counts more than 256, never valid, places past the last read as blank)
 abbrev pub TrueCounts : Counted → Type 0
-TrueCounts x = (i : ℕ) → i < 64 → getD (x .counts) i 0 ≡ tally (x .pool .count) (λ q. eqb (messageAt (x .pool) q .dest) i)
+TrueCounts x = (i : Slot) → i < 64 → getD (x .counts) i 0 ≡ tally (x .pool .count) (λ q. eqb (messageAt (x .pool) q .dest) i)
 
 -- a valid table with true counts, and a list of 256 places
 pub record Good (x : Counted) (len : ℕ) : Type 0 where
@@ -42,7 +43,7 @@ pub record Good (x : Counted) (len : ℕ) : Type 0 where
 pub data Call : Type 0 where
   step : ℕ → Action → Call
   load : List ℕ → ℕ → Call
-  start : ℕ → ℕ → ℕ → List ℕ → ℕ → Call
+  start : ℕ → ℕ → ℕ → Ids → Marks → Call
 
 -- what it leaves, with counts
 abbrev pub made : Counted → Call → After
@@ -101,22 +102,20 @@ abbrev pub LoadAsPlain : Type 0
 LoadAsPlain = (x : Counted) (bs : List ℕ) (len : ℕ) → Same x (Call.load bs len)
 
 abbrev pub StartAsPlain : Type 0
-StartAsPlain = (x : Counted) (len m l : ℕ) (ids : List ℕ) (a : ℕ) → Same x (Call.start len m l ids a)
+StartAsPlain = (x : Counted) (len m l : ℕ) (ids : Ids) (a : Marks) → Same x (Call.start len m l ids a)
 
 -- the file of a valid table with true counts loads back, and with the same counts
 abbrev pub LoadsBack : Type 0
-LoadsBack =
-    (x y : Counted) → Held (x .table) (x .pool) → Good x 256
+LoadsBack = (x y : Counted) → Held (x .table) (x .pool) → Good x 256
     → (loadWith (fileOf (x .table) (x .pool)) y 256 .answer ≡ Done)
-    × ((i : ℕ) → i < 64 → getD (loadWith (fileOf (x .table) (x .pool)) y 256 .counted .counts) i 0 ≡ getD (x .counts) i 0)
+    × ((i : Slot) → i < 64 → getD (loadWith (fileOf (x .table) (x .pool)) y 256 .counted .counts) i 0 ≡ getD (x .counts) i 0)
 
 -- writing, and asking whether the table is settled: 10 exactly as for a step, and else as without counts
 abbrev pub WriteInvalidExactly : Type 0
 WriteInvalidExactly = (x : Counted) (len : ℕ) (buf : List ℕ) → (answerNumber (wroteWith x len buf .answer) ≡ 10) ↔ (Good x len → ⊥)
 
 abbrev pub WriteAsPlain : Type 0
-WriteAsPlain =
-    (x : Counted) (len : ℕ) (buf : List ℕ) → TrueCounts x
+WriteAsPlain = (x : Counted) (len : ℕ) (buf : List ℕ) → TrueCounts x
     → (wroteWith x len buf ≡ wroteOf (x .table) (x .pool) len buf) × (writtenWith x len buf ≡ writtenOf (x .table) (x .pool) len buf)
 
 abbrev pub WriteRefusedKeeps : Type 0
@@ -131,49 +130,43 @@ RestAsPlain = (x : Counted) (len : ℕ) → TrueCounts x → restWith x len ≡ 
 -- ---- "Does node i have a message", "where is its first"
 
 -- a message for node i waits at place q
-pub record WaitsAt (x : Counted) (i q : ℕ) : Type 0 where
+pub record WaitsAt (x : Counted) (i : Slot) (q : Place) : Type 0 where
   pub below : q < x .pool .count
   pub meant : messageAt (x .pool) q .dest ≡ i
 
 -- no message for node i waits at a place before q
-abbrev pub NoneBefore : Counted → ℕ → ℕ → Type 0
-NoneBefore x i q = (r : ℕ) → r < q → WaitsAt x i r → ⊥
+abbrev pub NoneBefore : Counted → Slot → Place → Type 0
+NoneBefore x i q = (r : Place) → r < q → WaitsAt x i r → ⊥
 
 -- "10, before anything else"
 abbrev pub AskedInvalidExactly : Type 0
-AskedInvalidExactly =
-    (x : Counted) (len i : ℕ)
+AskedInvalidExactly = (x : Counted) (len : ℕ) (i : Slot)
     → ((hasNumber (hasOf x len i) ≡ 10) ↔ (Good x len → ⊥)) × ((firstNumber (firstOf x len i) ≡ 10) ↔ (Good x len → ⊥))
     × ((polledNumber (polledOf x len) ≡ 10) ↔ (Good x len → ⊥))
 
 -- "1 for a slot out of range"
 abbrev pub AskedOutOfRangeExactly : Type 0
-AskedOutOfRangeExactly =
-    (x : Counted) (len i : ℕ)
+AskedOutOfRangeExactly = (x : Counted) (len : ℕ) (i : Slot)
     → ((hasNumber (hasOf x len i) ≡ 1) ↔ (Good x len × (x .table .n ≤ i))) × ((firstNumber (firstOf x len i) ≡ 1) ↔ (Good x len × (x .table .n ≤ i)))
 
 -- "Both equal what a full walk says, and the second says "none" where there is none."
 abbrev pub HasExactly : Type 0
-HasExactly = (x : Counted) (len i : ℕ) → (hasOf x len i ≡ has-message.Yes) ↔ (Good x len × (i < x .table .n) × ((q : ℕ) × WaitsAt x i q))
+HasExactly = (x : Counted) (len : ℕ) (i : Slot) → (hasOf x len i ≡ has-message.Yes) ↔ (Good x len × (i < x .table .n) × ((q : Place) × WaitsAt x i q))
 
 abbrev pub HasNotExactly : Type 0
-HasNotExactly =
-    (x : Counted) (len i : ℕ) → (hasOf x len i ≡ has-message.No) ↔ (Good x len × (i < x .table .n) × NoneBefore x i (x .pool .count))
+HasNotExactly = (x : Counted) (len : ℕ) (i : Slot) → (hasOf x len i ≡ has-message.No) ↔ (Good x len × (i < x .table .n) × NoneBefore x i (x .pool .count))
 
 abbrev pub FirstExactly : Type 0
-FirstExactly =
-    (x : Counted) (len i q : ℕ) → (firstOf x len i ≡ first.At q) ↔ (Good x len × (i < x .table .n) × WaitsAt x i q × NoneBefore x i q)
+FirstExactly = (x : Counted) (len : ℕ) (i : Slot) (q : Place) → (firstOf x len i ≡ first.At q) ↔ (Good x len × (i < x .table .n) × WaitsAt x i q × NoneBefore x i q)
 
 abbrev pub FirstNoneExactly : Type 0
-FirstNoneExactly =
-    (x : Counted) (len i : ℕ) → (firstOf x len i ≡ first.None) ↔ (Good x len × (i < x .table .n) × NoneBefore x i (x .pool .count))
+FirstNoneExactly = (x : Counted) (len : ℕ) (i : Slot) → (firstOf x len i ≡ first.None) ↔ (Good x len × (i < x .table .n) × NoneBefore x i (x .pool .count))
 
 -- asked at once for all nodes: exactly those that have a message
 abbrev pub PolledExactly : Type 0
-PolledExactly =
-    (x : Counted) (len : ℕ) → Good x len
-    → (set : ℕ) × (polledOf x len ≡ polled.Nodes set) × ((i : ℕ) → (has set i ≡ true) ↔ ((i < x .table .n) × ((q : ℕ) × WaitsAt x i q)))
+PolledExactly = (x : Counted) (len : ℕ) → Good x len
+    → (set : Marks) × (polledOf x len ≡ polled.Nodes set) × ((i : Slot) → (has set i ≡ true) ↔ ((i < x .table .n) × ((q : Place) × WaitsAt x i q)))
 
 -- "answered from the count": where the counts are true, node i has a message exactly if its count is not 0
 abbrev pub CountTells : Type 0
-CountTells = (x : Counted) → TrueCounts x → (i : ℕ) → i < 64 → (0 < getD (x .counts) i 0) ↔ ((q : ℕ) × WaitsAt x i q)
+CountTells = (x : Counted) → TrueCounts x → (i : Slot) → i < 64 → (0 < getD (x .counts) i 0) ↔ ((q : Place) × WaitsAt x i q)

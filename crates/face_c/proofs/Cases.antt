@@ -8,7 +8,7 @@ use Rattle.rules.specs.declared.Refusal.the-variants as no
 use Rattle.rules.specs.declared.Via.the-variants.{Unrouted, Leaf, Routing}
 use Rattle.rules.specs.declared.Action.the-variants.{Lookup, Join, RequestLease, LeaseExpired, GrantExpired, Take, Deliver, Forward}
 use Rattle.rules.specs.declared.Action.the-variants.{NodeLeft, SuspectFaulty, ProbeTimeOut, DeclareDead, LSRepair, ResignNode, Recover}
-use Rattle.face_table.specs.declared.Rest.the-variants.{Settled, Unsettled, NotAsked}
+use Rattle.face.specs.declared.Rest.the-variants.{Settled, Unsettled, NotAsked}
 use Rattle.face_c.specs.declared.Asked.the-variants.{Is, None}
 use Rattle.face_c.specs.Words.{packOf, letterOf, restWord, unknown, askedOf, stepWord, viaWord, stepLeft}
 

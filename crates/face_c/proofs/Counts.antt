@@ -15,16 +15,16 @@ use Rattle.rules.specs.declared.Via.the-variants.{Unrouted, Leaf, Routing}
 use Rattle.rules.specs.Numbers.{answerNumber, viaNumber}
 use Rattle.table_type.specs.declared.Table.{Table}
 use Rattle.table_type.specs.declared.Stepped.{Stepped}
-use Rattle.table.specs.Step.{isSound}
+use Rattle.step.specs.Step.{isSound}
 use Rattle.table.specs.Valid.{validOf}
 use Rattle.file.proofs.Theorems.{total-most}
 use Rattle.file.specs.declared.Wrote.{Wrote}
 use Rattle.file.specs.Format.{totalOf}
 use Rattle.file.specs.Write.{notWritten, wroteOf}
-use Rattle.face_file.specs.Calls.{wroteBy, movedOf, movedBy}
-use Rattle.face_file.specs.declared.Moved.{Moved}
-use Rattle.file_list.specs.Print.{listingOf}
-use Rattle.file_list.specs.List.{room, listOf}
+use Rattle.face.specs.Calls.{wroteBy, movedOf, movedBy}
+use Rattle.face.specs.declared.Moved.{Moved}
+use Rattle.listing.specs.Print.{listingOf}
+use Rattle.listing.specs.List.{room, listOf}
 use Rattle.file_list.proofs.Length.{listing-short}
 
 pub number-few : (a : Answer) → answerNumber a ≤ 11

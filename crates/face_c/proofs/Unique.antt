@@ -3,8 +3,8 @@ use mathlib.Core.Path.{_≡_, sym, _∙_}
 use mathlib.Core.List.{List}
 use Prim.Native.Nat.{ℕ}
 use Rattle.file.proofs.Replies.{both-same}
-use Rattle.face_file.specs.Calls.{loadedOf, begunOf, wroteBy, leftBy, restBy}
-use Rattle.file_list.specs.List.{listOf, listedOf}
+use Rattle.face.specs.Calls.{loadedOf, begunOf, wroteBy, leftBy, restBy}
+use Rattle.listing.specs.List.{listOf, listedOf}
 use Rattle.face_c.specs.declared.Asked.{Asked}
 use Rattle.face_c.specs.Words.{packOf, restWord, askedOf, stepWord, viaWord, stepLeft}
 

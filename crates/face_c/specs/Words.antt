@@ -1,4 +1,4 @@
--- The calls as numbers and bytes alone: a word for an action, and a word for an answer with the number of bytes written and the letter of the next hop.
+-- Beside 01: the calls as numbers and bytes alone: a word for an action, and a word for an answer with the number of bytes written and the letter of the next hop.
 -- Definitions only. Assumes nothing.
 use mathlib.Core.Bool.{cond}
 use mathlib.Core.List.{List}
@@ -8,10 +8,10 @@ use Rattle.rules.specs.declared.Action.the-variants.{Lookup, Join, RequestLease
 use Rattle.rules.specs.declared.Action.the-variants.{NodeLeft, SuspectFaulty, ProbeTimeOut, DeclareDead, LSRepair, ResignNode, Recover}
 use Rattle.rules.specs.Numbers.{refusalNumber, answerNumber, viaNumber}
 use Rattle.file.specs.declared.Wrote.{Wrote}
-use Rattle.face_table.specs.declared.Rest.{Rest}
-use Rattle.face_table.specs.declared.Rest.the-variants.{Settled, Unsettled, NotAsked}
-use Rattle.face_file.specs.Calls.{loadedOf, nextOf, wroteBy, leftBy, movedBy}
-use Rattle.face_file.specs.declared.Moved.{Moved}
+use Rattle.face.specs.declared.Rest.{Rest}
+use Rattle.face.specs.declared.Rest.the-variants.{Settled, Unsettled, NotAsked}
+use Rattle.face.specs.Calls.{loadedOf, nextOf, wroteBy, leftBy, movedBy}
+use Rattle.face.specs.declared.Moved.{Moved}
 use Rattle.face_c.specs.declared.Asked.{Asked}
 use Rattle.face_c.specs.declared.Asked.the-variants.{Is, None}
 
@@ -36,8 +36,7 @@ unknown = 4294967295
 -- 1 Lookup, 2 Join, 3 RequestLease, 4 LeaseExpired, 5 GrantExpired, 6 Take, 7 Deliver, 8 Forward, 9 NodeLeft, 10 SuspectFaulty, 11 ProbeTimeOut,
 -- 12 DeclareDead, 13 LSRepair, 14 ResignNode, 15 Recover
 unfoldable pub askedOf : ℕ → ℕ → ℕ → Asked
-askedOf k x y =
-    cond (eqb k 1) (Is (Lookup x y))
+askedOf k x y = cond (eqb k 1) (Is (Lookup x y))
     (cond (eqb k 2) (Is (Join x y))
     (cond (eqb k 3) (Is (RequestLease x))
     (cond (eqb k 4) (Is (LeaseExpired x y))

@@ -2,11 +2,11 @@
 // written to the start of `out` in the high 32 bits; where the number is not 0, `out` is left as it was. include/tarpudhriv.h declares them.
 ghost use mathlib.Core.Path.{_≡_};
 ghost use Prim.Native.Nat.{_≤_};
-ghost use Rattle.face_file.specs.Calls.{loadedOf, begunOf, wroteBy, leftBy, restBy};
-ghost use Rattle.file_list.specs.List.{listOf, listedOf};
+ghost use Rattle.face.specs.Calls.{loadedOf, begunOf, wroteBy, leftBy, restBy};
+ghost use Rattle.listing.specs.List.{listOf, listedOf};
 ghost use Rattle.face_c.specs.Words.{packOf, letterOf, restWord, askedOf, stepWord, viaWord, stepLeft};
-use face_file::Moved;
-use face_table::Rest;
+use face::Moved;
+use face::Rest;
 use file::Wrote;
 use rules::Action;
 use rules::Answer;

@@ -22,9 +22,9 @@ use Rattle.table_type.specs.declared.Table.{Table}
 use Rattle.table_type.specs.declared.Stepped.{Stepped}
 use Rattle.table.specs.Settle.{refusedOf, doneOf}
 use Rattle.table_type.specs.Start.{noTable}
-use Rattle.table.specs.Step.{isSound}
+use Rattle.step.specs.Step.{isSound}
 use Rattle.table.specs.Valid.{validOf}
-use Rattle.table.proofs.Sound.{is-sound}
+use Rattle.table_laws.proofs.Sound.{is-sound}
 use Rattle.file.specs.declared.Wrote.{Wrote}
 use Rattle.file.proofs.Exactly.{noRoom, write-exactly, write-leaves}
 use Rattle.file.specs.Format.{totalOf}
@@ -32,13 +32,10 @@ use Rattle.file.specs.Load.{loadOf}
 use Rattle.file.specs.Held.{Held}
 use Rattle.file.proofs.Theorems.{counted, read-of-write}
 use Rattle.file.specs.Write.{notWritten, wroteOf, writtenOf}
-use Rattle.face_table.specs.Asked.{startStep}
-use Rattle.face_table.proofs.Laid.{Neat, refused-neat, step-neat, load-neat, start-neat}
-use Rattle.face_file.specs.Calls.{loadedOf, nextOf, begunOf, wroteBy, leftBy}
+use Rattle.face.specs.Asked.{startStep}
+use Rattle.face.proofs.Laid.{Neat, refused-neat, step-neat, load-neat, start-neat, not-done}
+use Rattle.face.specs.Calls.{loadedOf, nextOf, begunOf, wroteBy, leftBy}
 use Rattle.face_file.proofs.Unique.{Filed}
-
-pub not-done : {w : Answer} {why : Refusal} → w ≡ Refused why → w ≡ Done → ⊥
-not-done e d = let z : _≡_ {A = ℕ} 0 1 = cc in omega arith
 
 -- ---- what is written
 

@@ -7,9 +7,9 @@ use Rattle.rules.specs.declared.Action.{Action}
 use Rattle.table_type.specs.declared.Stepped.{Stepped}
 use Rattle.file.specs.declared.Wrote.{Wrote}
 use Rattle.file.proofs.Replies.{both-same}
-use Rattle.face_table.specs.declared.Rest.{Rest}
-use Rattle.face_file.specs.declared.Moved.{Moved}
-use Rattle.face_file.specs.Calls.{loadedOf, nextOf, begunOf, wroteBy, leftBy, movedBy, restBy}
+use Rattle.face.specs.declared.Rest.{Rest}
+use Rattle.face.specs.declared.Moved.{Moved}
+use Rattle.face.specs.Calls.{loadedOf, nextOf, begunOf, wroteBy, leftBy, movedBy, restBy}
 
 -- what the caller has of a result: the answer with the number of bytes, and the buffer that held out holds cs
 abbrev pub Filed : Stepped → List ℕ → List ℕ → Wrote → Type 0

@@ -1,8 +1,9 @@
 // Table files in, table files out: what a caller asks who holds nothing but bytes and numbers.
 ghost use mathlib.Core.Path.{_≡_};
 ghost use Rattle.table_type.specs.Start.{noTable};
-ghost use Rattle.face_file.specs.Calls.{loadedOf, nextOf, begunOf, wroteBy, leftBy, movedOf, movedBy, restBy};
-use face_table::Rest;
+ghost use Rattle.face.specs.Calls.{loadedOf, nextOf, begunOf, wroteBy, leftBy, movedOf, movedBy, restBy};
+use face::Moved;
+use face::Rest;
 use file::Wrote;
 use rules::Action;
 use rules::Answer;
@@ -10,12 +11,6 @@ use rules::Refusal;
 use rules::Via;
 use table_type::Stepped;
 use table_type::Table;
-
-// What a step wrote, and where the next hop came from, if it routed a message to one and was written.
-pub struct Moved {
-    pub wrote: Wrote,
-    pub via: Via,
-}
 
 // The table of no node.
 pub fn no_table() -> Table

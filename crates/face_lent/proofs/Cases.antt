@@ -15,9 +15,10 @@ use Rattle.rules.specs.Leaf.{leafWith}
 use Rattle.rules.specs.Letters.{lookup}
 use Rattle.rules.specs.Pool.{blank, laid}
 use Rattle.table_type.specs.declared.Stepped.{Stepped}
-use Rattle.table_type.specs.Start.{slotIds, slotsTo, startNode, startNodes, startFits, idsRise, listFits, startOf, noTable}
+use Rattle.start.specs.Start.{slotIds, slotsTo, startNode, startNodes, startFits, idsRise, listFits}
+use Rattle.table_type.specs.Start.{startOf, noTable}
 use Rattle.table.specs.Settle.{doneBy, doneOf}
-use Rattle.face_table.specs.Asked.{startStep}
+use Rattle.face.specs.Asked.{startStep}
 use Rattle.face_lent.specs.Lent.{blanks, placesOf, takenOf, givenOf, lent, lentStart, replyOf}
 
 abbrev ids : List ℕ

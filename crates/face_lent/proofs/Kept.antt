@@ -15,15 +15,15 @@ use Rattle.rules.specs.declared.Refusal.the-variants as no
 use Rattle.table_type.specs.declared.Stepped.{Stepped}
 use Rattle.table_type.specs.declared.Table.{Table}
 use Rattle.table.specs.Settle.{refusedOf}
-use Rattle.table.specs.Step.{isSound, stepOf}
-use Rattle.table.proofs.Proved.{refusal-keeps}
+use Rattle.step.specs.Step.{isSound, stepOf}
+use Rattle.table_laws.proofs.Proved.{refusal-keeps}
 use Rattle.file.specs.declared.Wrote.{Wrote}
 use Rattle.file.proofs.Exactly.{load-leaves, write-leaves}
 use Rattle.file.specs.Load.{headerFits, offsetsFit, loadOf}
 use Rattle.file.specs.Write.{notWritten, wroteOf}
-use Rattle.face_table.specs.declared.Rest.the-variants.{NotAsked}
-use Rattle.face_table.specs.Asked.{startStep, restOf}
-use Rattle.face_table.proofs.Laid.{start-leaves}
+use Rattle.face.specs.declared.Rest.the-variants.{NotAsked}
+use Rattle.face.specs.Asked.{startStep, restOf}
+use Rattle.face.proofs.Laid.{start-leaves}
 use Rattle.face_lent.specs.declared.Reply.{Reply}
 use Rattle.face_lent.specs.Lent.{blanks, takenOf, givenOf, lent, lentStep, lentStart, lentLoad, lentRest, Handed, Filed}
 

@@ -30,17 +30,16 @@ use Rattle.table_type.specs.declared.Stepped.{Stepped}
 use Rattle.table_type.specs.declared.Table.{Table}
 use Rattle.table.specs.Settle.{refusedOf, doneOf, carriedOut, settle}
 use Rattle.table_type.specs.Start.{startOf}
-use Rattle.table.specs.Step.{Gone, all-stay, one-goes, probes-go}
-use Rattle.table.specs.Step.{Asked, asked, remaining, plannedOf, actOf, isSound, stepOf}
+use Rattle.step.specs.Step.{Gone, all-stay, one-goes, probes-go, Asked, asked, remaining, plannedOf, actOf, isSound, stepOf}
 use Rattle.table_type.specs.Table.{idsOf, ringOf}
 use Rattle.table.specs.Valid.{messagesFit, poolFits, validOf}
 use Rattle.file.specs.declared.Wrote.{Wrote}
 use Rattle.file.specs.Format.{fileOf}
 use Rattle.file.specs.Load.{headerFits, offsetsFit, statusesFit, fileTable, filePool, loadOf}
 use Rattle.file.specs.Write.{wroteOf, writtenOf}
-use Rattle.face_table.specs.declared.Rest.{Rest}
-use Rattle.face_table.specs.Asked.{began, startStep, restOf}
-use Rattle.face_table.proofs.Laid.{Neat, step-neat, load-neat, start-neat}
+use Rattle.face.specs.declared.Rest.{Rest}
+use Rattle.face.specs.Asked.{began, startStep, restOf}
+use Rattle.face.proofs.Laid.{Neat, step-neat, load-neat, start-neat}
 use Rattle.face_lent.specs.declared.Reply.{Reply}
 use Rattle.face_lent.specs.Lent.{poolOf, takenOf, givenOf, lent, lentStep, lentStart, lentLoad, lentRest, replyOf, Handed, Filed}
 

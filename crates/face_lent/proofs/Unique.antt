@@ -8,12 +8,12 @@ use Rattle.rules.specs.declared.Message.{Message}
 use Rattle.rules.specs.declared.Pool.{Pool}
 use Rattle.table_type.specs.declared.Stepped.{Stepped}
 use Rattle.table_type.specs.declared.Table.{Table}
-use Rattle.table.specs.Step.{stepOf}
+use Rattle.step.specs.Step.{stepOf}
 use Rattle.file.specs.declared.Wrote.{Wrote}
 use Rattle.file.specs.Load.{loadOf}
 use Rattle.file.proofs.Replies.{both-same}
 use Rattle.file.specs.Write.{wroteOf, writtenOf}
-use Rattle.face_table.specs.declared.Rest.{Rest}
+use Rattle.face.specs.declared.Rest.{Rest}
 use Rattle.face_lent.specs.declared.Reply.{Reply}
 use Rattle.face_lent.specs.Lent.{lentStep, lentStart, lentLoad, lentRest, Handed, Filed}
 

@@ -5,6 +5,7 @@ use mathlib.Core.List.{List}
 use Prim.Native.Nat.{ℕ}
 use lib.Dec.{eqb}
 use lib.ListN.{length, replicate}
+use Rattle.rules.specs.Names.{Marks, Ids}
 use Rattle.rules.specs.declared.Action.{Action}
 use Rattle.rules.specs.declared.Message.{Message}
 use Rattle.rules.specs.declared.Pool.{Pool}
@@ -12,12 +13,12 @@ use Rattle.rules.specs.Limits.{messagesHigh}
 use Rattle.rules.specs.Pool.{blank}
 use Rattle.table_type.specs.declared.Stepped.{Stepped}
 use Rattle.table_type.specs.declared.Table.{Table}
-use Rattle.table.specs.Step.{stepOf}
+use Rattle.step.specs.Step.{stepOf}
 use Rattle.file.specs.declared.Wrote.{Wrote}
 use Rattle.file.specs.Load.{loadOf}
 use Rattle.file.specs.Write.{wroteOf, writtenOf}
-use Rattle.face_table.specs.declared.Rest.{Rest}
-use Rattle.face_table.specs.Asked.{startStep, restOf}
+use Rattle.face.specs.declared.Rest.{Rest}
+use Rattle.face.specs.Asked.{startStep, restOf}
 use Rattle.face_lent.specs.declared.Reply.{Reply}
 
 abbrev pub poolOf : ℕ → List Message → Pool
@@ -45,7 +46,7 @@ lent ys n = poolOf n (takenOf ys)
 abbrev pub lentStep : Table → List Message → ℕ → Action → Stepped
 lentStep t ys n a = stepOf t (lent ys n) (length ys) a
 
-abbrev pub lentStart : Table → List Message → ℕ → ℕ → ℕ → List ℕ → ℕ → Stepped
+abbrev pub lentStart : Table → List Message → ℕ → ℕ → ℕ → Ids → Marks → Stepped
 lentStart t ys n m l ids a = startStep t (lent ys n) (length ys) m l ids a
 
 abbrev pub lentLoad : List ℕ → Table → List Message → ℕ → Stepped

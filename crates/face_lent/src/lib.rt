@@ -2,7 +2,7 @@
 // list in, lets the core do the work on values, and copies the list back; its reply and what the list then holds are stated for every input.
 ghost use mathlib.Core.Path.{_≡_};
 ghost use Rattle.face_lent.specs.Lent.{poolOf, blanks, placesOf, takenOf, givenOf, replyOf, lentStep, lentStart, lentRest, lentLoad, Handed, Filed};
-use face_table::Rest;
+use face::Rest;
 use file::Wrote;
 use rules::Action;
 use rules::Answer;

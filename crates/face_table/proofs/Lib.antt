@@ -1,3 +1,1 @@
 pub mod Unique
-pub mod Laid
-pub mod Cases

@@ -2,19 +2,13 @@
 ghost use mathlib.Core.Path.{_≡_};
 ghost use mathlib.Core.List.{[]};
 ghost use Rattle.rules.specs.Pool.{laid};
-ghost use Rattle.face_table.specs.Asked.{startStep, restOf};
+ghost use Rattle.face.specs.Asked.{startStep, restOf};
+use face::Rest;
 use rules::Answer;
 use rules::Pool;
 use rules::Refusal;
 use table_type::Stepped;
 use table_type::Table;
-
-// Whether a table is settled, or why that was not looked at.
-pub enum Rest {
-    Settled,
-    Unsettled,
-    NotAsked(Refusal),
-}
 
 // The pool in which none waits.
 pub fn no_messages() -> Pool

@@ -21,7 +21,7 @@ use Rattle.rules.specs.Numbers.{answerNumber}
 use Rattle.table_type.specs.declared.Table.{Table}
 use Rattle.table_type.specs.declared.Stepped.{Stepped}
 use Rattle.table.specs.Settle.{refusedOf, doneOf}
-use Rattle.table.specs.Step.{isSound}
+use Rattle.step.specs.Step.{isSound}
 use Rattle.table.specs.Valid.{validOf}
 use Rattle.file.specs.declared.Wrote.{Wrote}
 use Rattle.file.specs.Format.{totalOf, fileOf}

@@ -17,7 +17,7 @@ use Rattle.rules.specs.Nodes.{noNode}
 use Rattle.rules.specs.Pool.{blank, messageAt, waiting, laid}
 use Rattle.table_type.specs.declared.Table.{Table}
 use Rattle.table_type.specs.Table.{nodeAt}
-use Rattle.table.proofs.Sound.{Sound}
+use Rattle.table_laws.proofs.Sound.{Sound}
 use Rattle.words.specs.Bytes.{encode, encodeAll, decode, decodeAll}
 use Rattle.words.proofs.Codec.{Fit, bytesIn, encode-length, decode-encode, encode-all-length, decode-all-at, decode-encode-all}
 use Rattle.file.specs.Format.{headerWidths, nodeWidths, messageWidths, nodesAt, messagesAt, totalOf, headerRow, nodeRow, messageRow}

@@ -21,7 +21,7 @@ use Rattle.rules.specs.Numbers.{answerNumber}
 use Rattle.rules.specs.Pool.{laid}
 use Rattle.table_type.specs.declared.Table.{Table}
 use Rattle.table.specs.Settle.{refusedOf, doneOf}
-use Rattle.table.specs.Step.{isSound}
+use Rattle.step.specs.Step.{isSound}
 use Rattle.table.specs.Valid.{nodesFit, messagesFit, poolFits, validOf}
 use Rattle.file.specs.declared.Wrote.{Wrote}
 use Rattle.words.specs.Bytes.{bytesOf, numberOf, encode, decode, encodeAll, decodeAll}
@@ -52,7 +52,7 @@ node id s left right probing failed routing lease grant =
       grant = grant;
     }
 
--- kind, destination, node or key, flag, owner, sixth word, routing, left, right, failed
+-- kind, destination, node or key, flag, owner, hops, routing, left, right, failed
 abbrev message : ℕ → ℕ → ℕ → ℕ → ℕ → ℕ → ℕ → ℕ → ℕ → ℕ → Message
 message kind dest word flag owner hops routing left right failed =
     record {
@@ -89,7 +89,7 @@ nodeBytes =
     ∷ 8 ∷ 0 ∷ 0 ∷ 0 ∷ 0 ∷ 0 ∷ 0 ∷ 0 ∷ 9 ∷ 0 ∷ 0 ∷ 0 ∷ 0 ∷ 0 ∷ 0 ∷ 0 ∷ 10 ∷ 0 ∷ 0 ∷ 0 ∷ 0 ∷ 0 ∷ 0 ∷ 0
     ∷ 11 ∷ 12 ∷ 13 ∷ 14 ∷ 15 ∷ 16 ∷ 17 ∷ 18 ∷ []
 
--- message, 56 bytes: kind, destination, node or key, flag, owner, 0 (32 bits each), then routing, left, right, failed (64 bits each)
+-- message, 56 bytes: kind, destination, node or key, flag, owner, hops (T-07) (32 bits each), then routing, left, right, failed (64 bits each)
 abbrev messageBytes : List ℕ
 messageBytes =
     1 ∷ 0 ∷ 0 ∷ 0 ∷ 2 ∷ 0 ∷ 0 ∷ 0 ∷ 5 ∷ 6 ∷ 7 ∷ 8 ∷ 4 ∷ 0 ∷ 0 ∷ 0 ∷ 29 ∷ 0 ∷ 0 ∷ 0 ∷ 30 ∷ 0 ∷ 0 ∷ 0
@@ -129,7 +129,7 @@ first s rest = w32 17 (w32 s (w64 2 (w64 2 (w64 0 (w64 0 (w64 3 (w64 1 (w64 3 re
 abbrev second : ℕ → List ℕ → List ℕ
 second id rest = w32 id (w32 1 (w64 0 (w64 1 (w64 1 (w64 1 (w64 2 (w64 0 (w64 0 rest))))))))
 
--- the LSProbe of slot 1 to slot 0, with 17 on its right and both failed, by its sixth word
+-- the LSProbe of slot 1 to slot 0, with 17 on its right and both failed, by its hops
 abbrev probe : ℕ → List ℕ → List ℕ
 probe z rest = w32 4 (w32 0 (w32 1 (w32 0 (w32 1 (w32 z (w64 0 (w64 0 (w64 1 (w64 3 rest)))))))))
 

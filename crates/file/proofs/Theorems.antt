@@ -21,14 +21,14 @@ use Rattle.rules.specs.Pool.{waiting, laid}
 use Rattle.table_type.specs.declared.Table.{Table}
 use Rattle.table_type.specs.declared.Stepped.{Stepped}
 use Rattle.table.specs.Settle.{refusedOf, doneOf}
-use Rattle.table.specs.Step.{isSound}
+use Rattle.step.specs.Step.{isSound}
 use Rattle.table.specs.Valid.{validOf}
 use Rattle.words.proofs.Codec.{Bytes}
 use Rattle.file.specs.Format.{totalOf, fileOf}
 use Rattle.file.specs.Load.{headerFits, offsetsFit, statusesFit, fileTable, filePool, loadOf}
 use Rattle.file.specs.Write.{notWritten, wroteOf, writtenOf}
 use Rattle.file.specs.Held.{Held}
-use Rattle.table.proofs.Sound.{sound, sound-valid, is-valid, is-sound}
+use Rattle.table_laws.proofs.Sound.{sound, sound-valid, is-valid, is-sound}
 use Rattle.file.proofs.Told.{laid-told}
 use Rattle.file.proofs.File.{file-long, file-header-fits, file-offsets-fit, file-statuses, file-table}
 use Rattle.file.proofs.File.{file-pool}

@@ -11,7 +11,7 @@ use Rattle.rules.specs.declared.Pool.{Pool}
 use Rattle.rules.specs.Nodes.{noNode}
 use Rattle.rules.specs.Pool.{blank, messageAt, waiting, laid}
 use Rattle.table_type.specs.declared.Table.{Table}
-use Rattle.table.proofs.Sound.{Sound}
+use Rattle.table_laws.proofs.Sound.{Sound}
 
 module _ {t : Table} {p : Pool} (v : Sound t p) where
   pub slots-told : length (t .nodes) ≡ 64 → take (t .n) (t .nodes) ++ replicate (64 - t .n) noNode ≡ t .nodes

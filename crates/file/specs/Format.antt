@@ -22,7 +22,7 @@ headerWidths = 4 ∷ 4 ∷ 4 ∷ 4 ∷ 4 ∷ 4 ∷ 4 ∷ 4 ∷ []
 abbrev pub nodeWidths : List ℕ
 nodeWidths = 4 ∷ 4 ∷ 8 ∷ 8 ∷ 8 ∷ 8 ∷ 8 ∷ 8 ∷ 8 ∷ []
 
--- message, 56 bytes: kind, destination, node or key, flag, owner, 0 (32 bits each), then routing, left, right, failed (64 bits each)
+-- message, 56 bytes: kind, destination, node or key, flag, owner, hops (T-07) (32 bits each), then routing, left, right, failed (64 bits each)
 abbrev pub messageWidths : List ℕ
 messageWidths = 4 ∷ 4 ∷ 4 ∷ 4 ∷ 4 ∷ 4 ∷ 8 ∷ 8 ∷ 8 ∷ 8 ∷ []
 
@@ -41,17 +41,14 @@ abbrev pub headerRow : ℕ → ℕ → ℕ → ℕ → List ℕ
 headerRow m l n count = m ∷ l ∷ n ∷ count ∷ nodesAt ∷ messagesAt n ∷ totalOf n count ∷ 0 ∷ []
 
 abbrev pub nodeRow : Node → List ℕ
-nodeRow v =
-    v .id ∷ statusNumber (v .status) ∷ v .left ∷ v .right ∷ v .probing ∷ v .failed ∷ v .routing ∷ v .lease ∷ v .grant ∷ []
+nodeRow v = v .id ∷ statusNumber (v .status) ∷ v .left ∷ v .right ∷ v .probing ∷ v .failed ∷ v .routing ∷ v .lease ∷ v .grant ∷ []
 
 abbrev pub messageRow : Message → List ℕ
-messageRow m =
-    m .kind ∷ m .dest ∷ m .word ∷ m .flag ∷ m .owner ∷ m .hops ∷ m .routing ∷ m .left ∷ m .right ∷ m .failed ∷ []
+messageRow m = m .kind ∷ m .dest ∷ m .word ∷ m .flag ∷ m .owner ∷ m .hops ∷ m .routing ∷ m .left ∷ m .right ∷ m .failed ∷ []
 
 -- the file of a table and the messages that wait
 unfoldable pub fileOf : Table → Pool → List ℕ
-fileOf t p =
-    encode headerWidths (headerRow (t .m) (t .l) (t .n) (p .count))
+fileOf t p = encode headerWidths (headerRow (t .m) (t .l) (t .n) (p .count))
     ++ (encodeAll nodeWidths (map nodeRow (take (t .n) (t .nodes))) ++ encodeAll messageWidths (map messageRow (waiting p)))
 
 -- ---- what a row says
@@ -60,31 +57,14 @@ fileOf t p =
 abbrev pub statusOf : ℕ → Status
 statusOf x = cond (eqb x 1) Wait (cond (eqb x 2) Ok (cond (eqb x 3) Ready Dead))
 
+-- a number of a row, from 0
+abbrev pub at : List ℕ → ℕ → ℕ
+at r i = getD r i 0
+
 abbrev pub nodeFrom : List ℕ → Node
 nodeFrom r =
-    record {
-      id = getD r 0 0;
-      status = statusOf (getD r 1 0);
-      left = getD r 2 0;
-      right = getD r 3 0;
-      probing = getD r 4 0;
-      failed = getD r 5 0;
-      routing = getD r 6 0;
-      lease = getD r 7 0;
-      grant = getD r 8 0;
-    }
+    record { id = at r 0; status = statusOf (at r 1); left = at r 2; right = at r 3; probing = at r 4; failed = at r 5; routing = at r 6; lease = at r 7; grant = at r 8 }
 
 abbrev pub messageFrom : List ℕ → Message
 messageFrom r =
-    record {
-      kind = getD r 0 0;
-      dest = getD r 1 0;
-      word = getD r 2 0;
-      flag = getD r 3 0;
-      owner = getD r 4 0;
-      hops = getD r 5 0;
-      routing = getD r 6 0;
-      left = getD r 7 0;
-      right = getD r 8 0;
-      failed = getD r 9 0;
-    }
+    record { kind = at r 0; dest = at r 1; word = at r 2; flag = at r 3; owner = at r 4; hops = at r 5; routing = at r 6; left = at r 7; right = at r 8; failed = at r 9 }

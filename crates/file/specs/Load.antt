@@ -36,15 +36,12 @@ fileCount bs = headerWord bs 3
 
 -- 8: M, L, n or message count out of range, or last header word not 0
 unfoldable pub headerFits : List ℕ → Bool
-headerFits bs =
-    between mLow (fileM bs) mHigh
+headerFits bs = between mLow (fileM bs) mHigh
     && (between lLow (fileL bs) lHigh && (between 1 (fileN bs) nodesHigh && (leb (fileCount bs) messagesHigh && eqb (headerWord bs 7) 0)))
 
 -- 9: an offset, the total or the real length disagrees with the counts
 unfoldable pub offsetsFit : List ℕ → Bool
-offsetsFit bs =
-    eqb (headerWord bs 4) nodesAt
-    && (eqb (headerWord bs 5) (messagesAt (fileN bs))
+offsetsFit bs = eqb (headerWord bs 4) nodesAt && (eqb (headerWord bs 5) (messagesAt (fileN bs))
     && (eqb (headerWord bs 6) (totalOf (fileN bs) (fileCount bs)) && eqb (length bs) (totalOf (fileN bs) (fileCount bs))))
 
 -- the rows of the nodes
@@ -56,8 +53,7 @@ unfoldable pub statusesFit : List ℕ → Bool
 statusesFit bs = allTo (fileN bs) (λ s. leb (getD (decode nodeWidths (drop (nodesAt + 64 * s) bs)) 1 0) 3)
 
 unfoldable pub fileTable : List ℕ → Table
-fileTable bs =
-    record { m = fileM bs; l = fileL bs; n = fileN bs; nodes = map nodeFrom (nodeRows bs) ++ replicate (64 - fileN bs) noNode }
+fileTable bs = record { m = fileM bs; l = fileL bs; n = fileN bs; nodes = map nodeFrom (nodeRows bs) ++ replicate (64 - fileN bs) noNode }
 
 -- the messages of the part of the file that begins at the message offset
 unfoldable pub partPool : ℕ → List ℕ → Pool
@@ -68,8 +64,7 @@ filePool bs = partPool (fileCount bs) (drop (messagesAt (fileN bs)) bs)
 
 -- 7, 8, 9, then the list's length, then the records; a refusal leaves the table t and the pool p as they are
 unfoldable pub loadOf : List ℕ → Table → Pool → ℕ → Stepped
-loadOf bs t p len =
-    cond (ltb (length bs) 32) (refusedOf t p no.Short)
+loadOf bs t p len = cond (ltb (length bs) 32) (refusedOf t p no.Short)
     (cond (not (headerFits bs)) (refusedOf t p no.Header)
     (cond (not (offsetsFit bs)) (refusedOf t p no.Offsets)
     (cond (not (eqb len messagesHigh)) (refusedOf t p no.Invalid)

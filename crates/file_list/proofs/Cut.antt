@@ -23,7 +23,7 @@ use Rattle.words.proofs.Codec.{bytesIn}
 use Rattle.file.specs.Format.{headerWidths, totalOf}
 use Rattle.file.specs.Load.{headerWord, fileM, fileL, fileN, fileCount, headerFits, offsetsFit, loadOf}
 use Rattle.file.proofs.Back.{header-told}
-use Rattle.file_list.specs.Print.{printOf, listingOf}
+use Rattle.listing.specs.Print.{printOf, listingOf}
 
 -- ---- the header is read of the first bytes
 

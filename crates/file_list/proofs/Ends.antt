@@ -19,9 +19,9 @@ use Rattle.file.specs.declared.Wrote.{Wrote}
 use Rattle.file.specs.Load.{loadOf}
 use Rattle.file.specs.Write.{notWritten}
 use Rattle.text.specs.Decimal.{decimal}
-use Rattle.file_list.specs.Print.{headline, refusedWord, linesOf, printOf, listingOf}
+use Rattle.listing.specs.Print.{headline, refusedWord, linesOf, printOf, listingOf}
 use Rattle.text.specs.InnerPrints.{Prints}
-use Rattle.file_list.specs.List.{room, listOf, listedOf}
+use Rattle.listing.specs.List.{room, listOf, listedOf}
 use Rattle.file_list.proofs.Length.{loaded}
 use Rattle.file_list.specs.InnerLoaded.{Loaded}
 

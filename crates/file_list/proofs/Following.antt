@@ -29,25 +29,25 @@ use Rattle.rules.specs.Nodes.{placed}
 use Rattle.rules.specs.Numbers.{viaNumber}
 use Rattle.rules.specs.Plans.{isReady}
 use Rattle.rules.specs.Pool.{laid, messageAt}
-use Rattle.rules.specs.Take.{planDeliver, planForward}
-use Rattle.pool.proofs.Laws.{mailed-quiet, mailed-send}
+use Rattle.take.specs.Take.{planDeliver, planForward}
+use Rattle.pool_laws.proofs.Laws.{mailed-quiet, mailed-send}
 use Rattle.table_type.specs.declared.Table.{Table}
 use Rattle.table_type.specs.declared.Stepped.{Stepped}
 use Rattle.table_type.specs.Table.{nodeAt, ringOf, idsOf}
 use Rattle.table.specs.Settle.{refusedOf, doneBy, doneOf, carriedOut, settle}
-use Rattle.table.specs.Step.{isSound, stepOf}
+use Rattle.step.specs.Step.{isSound, stepOf}
 use Rattle.table.specs.Valid.{validOf}
-use Rattle.table.proofs.Letters.{lookup-fits}
-use Rattle.table.proofs.Hops.{Within, within-lookup, lookup-within, farther-grows}
-use Rattle.table.proofs.Obeys.{Obeys, obeys}
-use Rattle.table.proofs.Sound.{Sound, sound, sound-valid}
+use Rattle.table_laws.proofs.Letters.{lookup-fits}
+use Rattle.table_laws.proofs.Hops.{Within, within-lookup, lookup-within, farther-grows}
+use Rattle.table_laws.proofs.Obeys.{Obeys, obeys}
+use Rattle.table_laws.proofs.Sound.{Sound, sound, sound-valid}
 use Rattle.lookup_laws.specs.Claims.{Nearer}
 use Rattle.lookup_laws.specs.Fates.{coversAt, hopAt, viaAt}
 use Rattle.lookup_laws.proofs.Tracks.{deliverAt, forwardAt}
 use Rattle.lookup_laws.proofs.Routings.{nearerListed, hop-nearer, nearer-falls, nearer-few}
 use Rattle.file_list.specs.declared.Turn.{Turn}
 use Rattle.file_list.specs.declared.Turn.the-variants.{Delivers, Stops, Goes}
-use Rattle.file_list.specs.Trip.{Trip, ended, tripOf, followOf}
+use Rattle.listing.specs.Trip.{Trip, ended, tripOf, followOf}
 use Rattle.file_list.specs.InnerFollow.{turnBy, turnOf, turnAt, letterAt}
 
 -- ---- a lookup that waits alone

@@ -16,8 +16,8 @@ use Rattle.rules.specs.InnerAsks.{Listed, Below}
 use Rattle.table_type.specs.declared.Table.{Table}
 use Rattle.table_type.specs.Table.{ringOf, idsOf}
 use Rattle.file_list.specs.declared.Turn.the-variants.{Delivers, Stops, Goes}
-use Rattle.file_list.specs.Trip.{Trip, ended, followOf}
-use Rattle.file_list.specs.Print.{lineOf}
+use Rattle.listing.specs.Trip.{Trip, ended, followOf}
+use Rattle.listing.specs.Print.{lineOf}
 use Rattle.file_list.proofs.Following.{Lone, lettered, followTo, turn, turn-none, follow-is, follow-few, follow-below}
 use Rattle.file_list.specs.InnerFollow.{turnOf, turnAt, letterAt}
 use Rattle.file_list.proofs.Following.{lone-listed, lone-slot, lone-key, lone-goes}

@@ -18,12 +18,12 @@ use Rattle.rules.specs.Pool.{laid}
 use Rattle.table_type.specs.declared.Table.{Table}
 use Rattle.table_type.specs.declared.Stepped.{Stepped}
 use Rattle.table_type.specs.Start.{noTable}
-use Rattle.table.proofs.Sound.{sound}
+use Rattle.table_laws.proofs.Sound.{sound}
 use Rattle.file.specs.Load.{loadOf}
 use Rattle.file.specs.Write.{notWritten}
 use Rattle.file.proofs.Exactly.{load-valid}
-use Rattle.file_list.specs.List.{room, listOf, listedOf}
-use Rattle.file_list.specs.Print.{printed, printOf, listingOf}
+use Rattle.listing.specs.List.{room, listOf, listedOf}
+use Rattle.listing.specs.Print.{printed, printOf, listingOf}
 use Rattle.file_list.proofs.Text.{lines-short}
 use Rattle.text.specs.Decimal.{decimal}
 use Rattle.text.proofs.Digits.{decimal-word}

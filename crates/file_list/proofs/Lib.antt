@@ -2,7 +2,6 @@ pub mod Following
 pub mod Line
 pub mod Text
 pub mod Cut
-pub mod Cases
 pub mod Unique
 pub mod Runs
 pub mod Ends

@@ -6,8 +6,8 @@ use Rattle.rules.specs.declared.Message.{Message}
 use Rattle.table_type.specs.declared.Table.{Table}
 use Rattle.table_type.specs.Table.{idsOf}
 use Rattle.table_type.proofs.IdLaws.{ids-at}
-use Rattle.file_list.specs.Trip.{followOf}
-use Rattle.file_list.specs.Print.{endText, lineOf}
+use Rattle.listing.specs.Trip.{followOf}
+use Rattle.listing.specs.Print.{endText, lineOf}
 use Rattle.file_list.specs.InnerLine.{endIn, lineIn}
 
 end-is : (t : Table) (end : Found) → endIn (idsOf t) end ≡ endText t end

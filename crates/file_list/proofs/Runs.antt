@@ -20,7 +20,7 @@ use Rattle.table.specs.Valid.{validOf}
 use Rattle.text.proofs.Runs.{then}
 use Rattle.words.proofs.Puts.{put-length}
 use Rattle.text.specs.Decimal.{decimal}
-use Rattle.file_list.specs.Print.{refusedWord, viaText, hopsText, lineOf, linesOf}
+use Rattle.listing.specs.Print.{refusedWord, viaText, hopsText, lineOf, linesOf}
 use Rattle.text.specs.InnerPrints.{Prints}
 use Rattle.file_list.specs.InnerLine.{endIn, lineIn}
 use Rattle.file_list.proofs.Text.{lines-more, lines-short}

@@ -24,8 +24,8 @@ use Rattle.table_type.specs.declared.Table.{Table}
 use Rattle.table_type.specs.Table.{nodeAt}
 use Rattle.table_type.proofs.IdLaws.{ids-at}
 use Rattle.table.specs.Valid.{validOf}
-use Rattle.file_list.specs.Trip.{followOf}
-use Rattle.file_list.specs.Print.{endText, viaText, lineOf, linesOf}
+use Rattle.listing.specs.Trip.{followOf}
+use Rattle.listing.specs.Print.{endText, viaText, lineOf, linesOf}
 use Rattle.file_list.proofs.Following.{Lone, lone, lone-listed, lone-slot, lone-key, follow-few, follow-below}
 
 -- ---- a line

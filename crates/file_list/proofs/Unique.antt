@@ -4,7 +4,7 @@ use mathlib.Core.List.{List}
 use Prim.Native.Nat.{ℕ}
 use Rattle.file.specs.declared.Wrote.{Wrote}
 use Rattle.file.proofs.Replies.{both-same}
-use Rattle.file_list.specs.List.{listOf, listedOf}
+use Rattle.listing.specs.List.{listOf, listedOf}
 
 -- what the caller has: the answer with the number of bytes, and the buffer that held out holds cs
 abbrev pub Filed : List ℕ → List ℕ → List ℕ → Wrote → Type 0

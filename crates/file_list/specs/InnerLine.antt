@@ -6,7 +6,7 @@ use Rattle.marks.specs.declared.Found.{Found}
 use Rattle.marks.specs.declared.Found.the-variants.{At, Nothing}
 use Rattle.rules.specs.declared.Message.{Message}
 use Rattle.text.specs.Decimal.{decimal}
-use Rattle.file_list.specs.Print.{space, hopsText}
+use Rattle.listing.specs.Print.{space, hopsText}
 
 abbrev pub endIn : List ℕ → Found → List ℕ
 endIn ids (At e) = decimal (getD ids e 0)

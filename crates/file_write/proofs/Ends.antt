@@ -13,9 +13,9 @@ use Rattle.rules.specs.declared.Pool.{Pool}
 use Rattle.rules.specs.declared.Refusal.the-variants as no
 use Rattle.rules.specs.declared.Answer.the-variants.{Done}
 use Rattle.table_type.specs.declared.Table.{Table}
-use Rattle.table.specs.Step.{isSound}
+use Rattle.step.specs.Step.{isSound}
 use Rattle.table.specs.Valid.{validOf}
-use Rattle.table.proofs.Sound.{sound}
+use Rattle.table_laws.proofs.Sound.{sound}
 use Rattle.file.specs.declared.Wrote.{Wrote}
 use Rattle.file.specs.Format.{totalOf, fileOf}
 use Rattle.file.specs.Write.{notWritten, wroteOf, writtenOf}

@@ -10,8 +10,8 @@ use Rattle.rules.specs.declared.Pool.{Pool}
 use Rattle.rules.specs.declared.Refusal.the-variants as no
 use Rattle.table_type.specs.declared.Table.{Table}
 use Rattle.table.specs.Settled.{isSettled}
-use Rattle.table.specs.Step.{isSound}
-use Rattle.table.proofs.Sound.{is-valid}
+use Rattle.step.specs.Step.{isSound}
+use Rattle.table_laws.proofs.Sound.{is-valid}
 use Rattle.holder.specs.declared.Holding.{Holding}
 use Rattle.holder.specs.declared.Holding.the-variants.{NotAsked, OutOfRange, Unsettled, By}
 use Rattle.holder.specs.Holder.{coveredBy, copiesOf, heldAt, holdingOf}

@@ -15,12 +15,12 @@ use Rattle.marks.proofs.Laws.{has-single, has-add, has-remove, remove-below, em
 use Rattle.rules.specs.declared.Pool.{Pool}
 use Rattle.rules.specs.Leaf.{wayUp, wayDown}
 use Rattle.rules.specs.Pick.{idAt}
-use Rattle.rules.proofs.Steps.{ids-inj}
+use Rattle.rules_laws.proofs.Steps.{ids-inj}
 use Rattle.table_type.specs.declared.Table.{Table}
 use Rattle.table_type.specs.Table.{idsOf, ringOf}
 use Rattle.table.specs.Settled.{readySet, isSettled}
 use Rattle.table.specs.Valid.{validOf}
-use Rattle.table.proofs.Sound.{sound}
+use Rattle.table_laws.proofs.Sound.{sound}
 use Rattle.lookup_laws.specs.Claims.{Ready}
 use Rattle.lookup_laws.proofs.Holder.{ready-listed}
 use Rattle.lookup_laws.proofs.Joined.{ready-low, id-in as ready-id-in}

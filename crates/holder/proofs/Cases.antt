@@ -17,9 +17,10 @@ use Rattle.rules.specs.Mail.{allDifferent}
 use Rattle.rules.specs.Pool.{laid}
 use Rattle.table_type.specs.declared.Table.{Table}
 use Rattle.table_type.specs.Table.{nodeAt}
-use Rattle.table_type.specs.Start.{slotIds, slotsTo, startNode, startNodes, startFits, idsRise, listFits, startOf}
+use Rattle.start.specs.Start.{slotIds, slotsTo, startNode, startNodes, startFits, idsRise, listFits}
+use Rattle.table_type.specs.Start.{startOf}
 use Rattle.table.specs.Settled.{readySet, settledAt, isSettled}
-use Rattle.table.specs.Step.{isSound}
+use Rattle.step.specs.Step.{isSound}
 use Rattle.table.specs.Valid.{nodesFit, messagesFit, poolFits, validOf}
 use Rattle.holder.specs.declared.Holding.{Holding}
 use Rattle.holder.specs.declared.Holding.the-variants.{NotAsked, OutOfRange, Unsettled, By}

@@ -19,21 +19,22 @@ use Rattle.rules.specs.Pick.{best}
 use Rattle.rules.specs.Closest.{closest}
 use Rattle.rules.specs.Leaf.{contentOf, seenFrom, leafWith, leafWithOne, overlaps, isFull, isComplete, isEmpty, coversOf}
 use Rattle.rules.specs.Hop.{leafCandidates, routeCandidates, byLeaf, leafHop, routeHop, nextHop}
-use Rattle.rules.specs.Mail.{alike, allDifferent, firstFrom, firstEqual, added, removedAt, sentTo}
+use Rattle.rules.specs.Mail.{alike, allDifferent, firstFrom, firstEqual, added, removedAt, sentTo, waits, joinWaits}
 use Rattle.rules.specs.Fits.{numbersFit, idFits, sideFits, leafFits, othersFit, nodeFits, isBlank, slotFits}
 use Rattle.rules.specs.Fits.{wordFits, flagFits, carriedFits, ownerFits, routingFits, failedFits, fieldsFit, messageFits, fartherThan, hopsFit}
 use Rattle.rules.specs.Plans.{mailed}
-use Rattle.rules.specs.Actions.{waits, joinWaits, planJoin, leasePlan, planRequestLease, isNeighbour}
-use Rattle.rules.specs.Take.{planDeliver, planForward, planTakeJoinRequest, planTakeJoinReply, probes2, probesOf, probePlanOf, planTakeProbe}
-use Rattle.rules.specs.Take.{statusAfterReply, replyPlanOf, planTakeProbeReply, planTakeLeaseRequest, broadcastPlan, planTakeBroadcast, planTake}
+use Rattle.plan.specs.Actions.{planJoin, leasePlan, planRequestLease, isNeighbour}
+use Rattle.take.specs.Take.{planDeliver, planForward, planTakeJoinRequest, planTakeJoinReply, probes2, probesOf, probePlanOf, planTakeProbe}
+use Rattle.take.specs.Take.{statusAfterReply, replyPlanOf, planTakeProbeReply, planTakeLeaseRequest, broadcastPlan, planTakeBroadcast, planTake}
 use Rattle.table_type.specs.declared.Table.{Table}
 use Rattle.table_type.specs.declared.Stepped.{Stepped}
 use Rattle.table_type.specs.Table.{nodeAt}
-use Rattle.table_type.specs.Start.{slotIds, slotsTo, startNode, startNodes, startFits, idsRise, listFits, startOf}
+use Rattle.start.specs.Start.{slotIds, slotsTo, startNode, startNodes, startFits, idsRise, listFits}
+use Rattle.table_type.specs.Start.{startOf}
 use Rattle.table.specs.Valid.{nodesFit, messagesFit, poolFits, validOf}
 use Rattle.table.specs.Settle.{doneOf, carriedOut, settle}
 use Rattle.table.specs.Settled.{readySet, deadSet, settledAt, isSettled}
-use Rattle.table.specs.Step.{isSound, stepOf}
+use Rattle.step.specs.Step.{isSound, stepOf}
 
 -- actions one after the other, as long as each is done
 abbrev after : Answer → Stepped → (Table → Pool → Stepped) → Stepped

@@ -18,23 +18,23 @@ use Rattle.rules.specs.declared.Planned.the-variants.{No, Go}
 use Rattle.rules.specs.declared.Action.{Action}
 use Rattle.rules.specs.declared.Action.the-variants.{Lookup, Join, RequestLease, LeaseExpired, GrantExpired, Take, Deliver, Forward}
 use Rattle.rules.specs.declared.Action.the-variants.{NodeLeft, SuspectFaulty, ProbeTimeOut, DeclareDead, LSRepair, ResignNode, Recover}
-use Rattle.rules.specs.Actions.{waits, joinWaits, planJoin}
+use Rattle.rules.specs.Mail.{waits, joinWaits, replyWaits}
+use Rattle.plan.specs.Actions.{planJoin}
 use Rattle.rules.specs.Fits.{hasLeaf}
-use Rattle.rules.specs.Leave.{replyWaits}
 use Rattle.rules.specs.Letters.{lookup, joinRequest}
 use Rattle.rules.specs.Nodes.{placed}
 use Rattle.rules.specs.Plans.{isWait, withStatus}
 use Rattle.rules.specs.Pool.{waiting, messageAt}
-use Rattle.rules.specs.Take.{planTake}
+use Rattle.take.specs.Take.{planTake}
 use Rattle.table_type.specs.declared.Table.{Table}
 use Rattle.table.specs.Settled.{deadSet, someUp}
-use Rattle.table.specs.Step.{asked, plannedOf}
+use Rattle.step.specs.Step.{asked, plannedOf}
 use Rattle.table_type.specs.Table.{nodeAt, ringOf}
-use Rattle.table.proofs.Nodes.{node-rules}
-use Rattle.table.proofs.Obeys.{Obeys, obeys}
-use Rattle.table.proofs.Sound.{Sound}
-use Rattle.table.proofs.By.{slot-in-range}
-use Rattle.table.proofs.Comes.{Comes, says-no, goes, go-comes, by-take}
+use Rattle.table_laws.proofs.Nodes.{node-rules}
+use Rattle.table_laws.proofs.Obeys.{Obeys, obeys}
+use Rattle.table_laws.proofs.Sound.{Sound}
+use Rattle.table_laws.proofs.By.{slot-in-range}
+use Rattle.table_laws.proofs.Comes.{Comes, says-no, goes, go-comes, by-take}
 use Rattle.join_laws.specs.Clauses.{View, viewOf, Calm, Fair, Clauses}
 use Rattle.join_laws.proofs.Good.{Fitting, Good, sends-one}
 use Rattle.join_laws.specs.Claims.{NoneWaits, keepsTurns}

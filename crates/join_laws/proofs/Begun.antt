@@ -19,14 +19,15 @@ use Rattle.rules.specs.Numbers.{answerNumber}
 use Rattle.rules.specs.Pick.{idAt}
 use Rattle.rules.specs.Plans.{isDead, isWait, isUp}
 use Rattle.rules.specs.Pool.{laid}
-use Rattle.rules.proofs.Leaf.{left-from, right-from}
+use Rattle.rules_laws.proofs.Leaf.{left-from, right-from}
 use Rattle.table_type.specs.declared.Started.{Started}
-use Rattle.table_type.specs.Start.{slotIds, readyNode, deadNode, startNode, startOf}
+use Rattle.start.specs.Start.{slotIds, readyNode, deadNode, startNode}
+use Rattle.table_type.specs.Start.{startOf}
 use Rattle.table_type.proofs.Starts.{StartFits, ListFits, list-fits, start-node-at, start-done}
 use Rattle.table_type.specs.Table.{nodeAt, ringOf}
-use Rattle.table.proofs.Begin.{start-refuses, start-valid}
-use Rattle.table.proofs.Legal.{fits-start, legal-list}
-use Rattle.table.proofs.Started.{node-in, node-out, made, made-ids}
+use Rattle.table_laws.proofs.Begin.{start-refuses, start-valid}
+use Rattle.table_laws.proofs.Legal.{fits-start, legal-list}
+use Rattle.table_laws.proofs.Started.{node-in, node-out, made, made-ids}
 use Rattle.join_laws.specs.Clauses.{Up, Waits, Alive, Guards, GuardsAt, Beside, Calm, Clauses}
 use Rattle.join_laws.proofs.Guarding.{guards-new}
 use Rattle.join_laws.specs.Claims.{StartHeld, StartClauses}

@@ -18,9 +18,9 @@ use Rattle.rules.specs.declared.Planned.the-variants.{Go}
 use Rattle.rules.specs.Leaf.{contentOf, leafWith}
 use Rattle.rules.specs.Nodes.{sidesOf, carriedOf}
 use Rattle.rules.specs.Plans.{isUp, quietPlan}
-use Rattle.rules.specs.Take.{bothLeased, sameNeighbours, leaseAfter, statusAfterLease, leasedNode, broadcastPlan, planTakeBroadcast}
-use Rattle.rules.proofs.Leaf.{content-owner, left-from, right-from}
-use Rattle.table.proofs.Nodes.{both}
+use Rattle.take.specs.Take.{bothLeased, sameNeighbours, leaseAfter, statusAfterLease, leasedNode, broadcastPlan, planTakeBroadcast}
+use Rattle.rules_laws.proofs.Leaf.{content-owner, left-from, right-from}
+use Rattle.table_laws.proofs.Nodes.{both}
 use Rattle.join_laws.specs.Clauses.{View, Up, Alive, Guards, GuardsAt, Beside, Carries, Calm}
 use Rattle.join_laws.proofs.Good.{Fitting, Good, sends-none, put-calm, put-stays}
 use Rattle.join_laws.proofs.Guarding.{guards-filled, guards-new, guards-add}

@@ -14,13 +14,12 @@ use Rattle.rules.specs.declared.Node.{Node}
 use Rattle.rules.specs.declared.Plan.{Plan}
 use Rattle.rules.specs.declared.Planned.the-variants.{Go}
 use Rattle.rules.specs.Leaf.{isEmpty}
-use Rattle.rules.specs.Leave.{emptied, probingPlan, isBare, lacksSide}
-use Rattle.rules.specs.Leave.{planSuspectFaulty, planDeclareDead, planLSRepair, planResignNode, planRecover}
+use Rattle.plan.specs.Leave.{emptied, probingPlan, isBare, lacksSide, planSuspectFaulty, planDeclareDead, planLSRepair, planResignNode, planRecover}
 use Rattle.rules.specs.Letters.{noSides, joinRequest}
 use Rattle.rules.specs.Nodes.{sidesOf, placed}
 use Rattle.rules.specs.Plans.{withProbing, sendPlan}
 use Rattle.rules.specs.Pool.{blank}
-use Rattle.table.proofs.Plans.{none-to}
+use Rattle.table_laws.proofs.Plans.{none-to}
 use Rattle.join_laws.specs.Clauses.{View, Up, Waits, Alive, GuardsAt, Calm, Fair}
 use Rattle.join_laws.proofs.Good.{Fitting, Good, sends-one, probe-fair, quiet-put, put-calm, put-stays}
 use Rattle.join_laws.proofs.Guarding.{guards-filled}

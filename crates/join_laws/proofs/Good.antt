@@ -18,9 +18,9 @@ use Rattle.rules.specs.Nodes.{placed}
 use Rattle.rules.specs.declared.Via.{Via}
 use Rattle.rules.specs.Plans.{isDead, isWait, isUp, withLeases, quietPlan, sendBy}
 use Rattle.rules.specs.Pool.{blank}
-use Rattle.pool.proofs.Laws.{Fine}
-use Rattle.table.proofs.Nodes.{NodeRules}
-use Rattle.table.proofs.Plans.{none-sent, none-to, one-to}
+use Rattle.pool_laws.proofs.Laws.{Fine}
+use Rattle.table_laws.proofs.Nodes.{NodeRules}
+use Rattle.table_laws.proofs.Plans.{none-sent, none-to, one-to}
 use Rattle.join_laws.specs.Clauses.{View, Alive, Calm, Fair}
 use Rattle.join_laws.proofs.Moves.{Quiet, Here, quiet-passes, quiet-calm}
 use Rattle.join_laws.proofs.Written.{put, Passes, passes-fair, put-written}

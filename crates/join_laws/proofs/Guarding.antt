@@ -19,9 +19,9 @@ use Rattle.rules.specs.declared.Sides.{Sides}
 use Rattle.rules.specs.InnerAsks.{Listed}
 use Rattle.rules.specs.Closest.{closest}
 use Rattle.rules.specs.Leaf.{contentOf, leafWith, leafWithOne, isEmpty, wayUp, wayDown, joinedWith, leftNeighbour, rightNeighbour}
-use Rattle.rules.proofs.Closest.{closest-some}
-use Rattle.rules.proofs.Leaf.{has-content, left-from, right-from, seen-up, seen-down, seen-member, empty-sides}
-use Rattle.table.proofs.Nodes.{LeafRules}
+use Rattle.rules_laws.proofs.Closest.{closest-some}
+use Rattle.rules_laws.proofs.Leaf.{has-content, left-from, right-from, seen-up, seen-down, seen-member, empty-sides}
+use Rattle.table_laws.proofs.Nodes.{LeafRules}
 use Rattle.join_laws.specs.Clauses.{Within, Guards}
 
 -- ---- one side

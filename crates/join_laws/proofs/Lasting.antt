@@ -16,15 +16,15 @@ use Rattle.rules.specs.declared.Status.the-variants as status
 use Rattle.rules.specs.declared.Message.{Message}
 use Rattle.rules.specs.declared.Plan.{Plan}
 use Rattle.rules.specs.declared.Planned.the-variants.{Go}
-use Rattle.rules.specs.Actions.{isNeighbour, leasePlan, planLookup, planRequestLease, planLeaseExpired, planGrantExpired}
+use Rattle.plan.specs.Actions.{isNeighbour, leasePlan, planLookup, planRequestLease, planLeaseExpired, planGrantExpired}
 use Rattle.rules.specs.Hop.{nextHop}
 use Rattle.rules.specs.Leaf.{contentOf}
 use Rattle.rules.specs.Letters.{lookup, lookupAfter, joinRequest, noLegalRoute, leaseRequest, broadcastLSet}
 use Rattle.rules.specs.Nodes.{sidesOf, placed}
 use Rattle.rules.specs.Plans.{isDead, isWait, isReady, isUp, withLeases, quietPlan}
-use Rattle.rules.specs.Take.{forwardPlan, grantPlan, planDeliver, planForward, planTakeLeaseRequest}
-use Rattle.rules.proofs.Leaf.{has-content}
-use Rattle.table.proofs.Plans.{unless-to}
+use Rattle.take.specs.Take.{forwardPlan, grantPlan, planDeliver, planForward, planTakeLeaseRequest}
+use Rattle.rules_laws.proofs.Leaf.{has-content}
+use Rattle.table_laws.proofs.Plans.{unless-to}
 use Rattle.join_laws.specs.Clauses.{View, Alive, Joining, Calm, Fair}
 use Rattle.join_laws.proofs.Written.{put, up-alive}
 use Rattle.join_laws.proofs.Told.{told-lookup, told-request-lease, told-lease-expired, told-grant-expired, told-deliver, told-forward}

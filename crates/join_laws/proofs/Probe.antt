@@ -25,10 +25,10 @@ use Rattle.rules.specs.Nodes.{sidesOf, placed}
 use Rattle.rules.specs.declared.Via.the-variants.{Unrouted}
 use Rattle.rules.specs.Plans.{isWait, withStatus}
 use Rattle.rules.specs.Pool.{blank}
-use Rattle.rules.specs.Take.{failedWithout, probesOf, learntNode, waitsEmpty, probePlanOf, planTakeProbe}
-use Rattle.rules.specs.Take.{stillProbing, statusAfterReply, replyPlanOf, planTakeProbeReply}
-use Rattle.table.proofs.Nodes.{both}
-use Rattle.table.proofs.Plans.{none-to, one-to}
+use Rattle.take.specs.Take.{failedWithout, probesOf, learntNode, waitsEmpty, probePlanOf, planTakeProbe}
+use Rattle.take.specs.Take.{stillProbing, statusAfterReply, replyPlanOf, planTakeProbeReply}
+use Rattle.table_laws.proofs.Nodes.{both}
+use Rattle.table_laws.proofs.Plans.{none-to, one-to}
 use Rattle.join_laws.specs.Clauses.{View, Up, Waits, Alive, Filled, Guards, GuardsAt, Beside, Calm, Fair}
 use Rattle.join_laws.proofs.Good.{Fitting, Good, probe-fair, quiet-put, put-calm, put-stays}
 use Rattle.join_laws.proofs.Guarding.{guards-filled, guards-one, guards-that, one-left, one-right}

@@ -20,9 +20,9 @@ use Rattle.rules.specs.Leaf.{contentOf, leafWith}
 use Rattle.rules.specs.Nodes.{sidesOf, carriedOf}
 use Rattle.rules.specs.Pick.{idAt}
 use Rattle.rules.specs.Pool.{blank}
-use Rattle.rules.specs.Take.{joinedNode, joinReplyPlan, planTakeJoinReply}
-use Rattle.rules.proofs.Leaf.{has-content, left-from, right-from}
-use Rattle.table.proofs.Plans.{none-to}
+use Rattle.take.specs.Take.{joinedNode, joinReplyPlan, planTakeJoinReply}
+use Rattle.rules_laws.proofs.Leaf.{has-content, left-from, right-from}
+use Rattle.table_laws.proofs.Plans.{none-to}
 use Rattle.join_laws.proofs.Beyond.{beyond-up, beyond-down}
 use Rattle.join_laws.specs.Clauses.{View, Up, Alive, Joining, Blank, Guards, GuardsAt, Beside, Calm, Introduces, Fair}
 use Rattle.join_laws.proofs.Good.{Fitting, Good, probe-fair, quiet-put, put-calm, put-stays}

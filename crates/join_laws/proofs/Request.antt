@@ -18,9 +18,9 @@ use Rattle.rules.specs.Leaf.{contentOf, coversOf, leftNeighbour, rightNeighbour
 use Rattle.rules.specs.Letters.{joinReply}
 use Rattle.rules.specs.Nodes.{sidesOf, placed}
 use Rattle.rules.specs.Pick.{idAt}
-use Rattle.rules.specs.Take.{planTakeJoinRequest}
-use Rattle.rules.proofs.Leaf.{has-content, content-owner, seen-listed}
-use Rattle.rules.proofs.Steps.{ids-inj}
+use Rattle.take.specs.Take.{planTakeJoinRequest}
+use Rattle.rules_laws.proofs.Leaf.{has-content, content-owner, seen-listed}
+use Rattle.rules_laws.proofs.Steps.{ids-inj}
 use Rattle.join_laws.proofs.Beyond.{First, covered-beside}
 use Rattle.join_laws.specs.Clauses.{View, Up, Joining, Blank, Calm, Fair}
 use Rattle.join_laws.proofs.Good.{Fitting, Good, sends-one, kept-passes, kept-good}

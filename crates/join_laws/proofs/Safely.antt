@@ -20,8 +20,8 @@ use Rattle.rules.specs.Plans.{isDead, isWait, isUp}
 use Rattle.rules.specs.Pool.{messageAt, laid}
 use Rattle.table_type.specs.declared.Table.{Table}
 use Rattle.table_type.specs.Start.{startOf}
-use Rattle.table.proofs.Nodes.{both}
-use Rattle.table.proofs.Begin.{start-valid}
+use Rattle.table_laws.proofs.Nodes.{both}
+use Rattle.table_laws.proofs.Begin.{start-valid}
 use Rattle.join_laws.specs.Clauses.{View, viewOf, Alive, Joining, Blank, Within, Guards, GuardsAt, Calm, Introduces, Fair, Clauses}
 use Rattle.join_laws.specs.Claims.{NoneWaits, SafeExactly, SafeHeld, StartSafe}
 use Rattle.join_laws.specs.Safe.{implies, someTo, joins, within, guards, guardsIn, carries, pairOf, isCalm, blankIn, introducesTo}

@@ -25,19 +25,19 @@ use Rattle.rules.specs.Nodes.{noNode}
 use Rattle.rules.specs.Pick.{idAt}
 use Rattle.rules.specs.Plans.{isDead, mailed}
 use Rattle.rules.specs.Pool.{waiting, messageAt}
-use Rattle.pool.proofs.Probes.{all-left}
-use Rattle.pool.proofs.Laws.{All, all-map, all-at, all-index, all-removed, all-mailed, waiting-at, waiting-short, laid-at}
-use Rattle.rules.proofs.Steps.{ids-rise}
+use Rattle.pool_laws.proofs.Probes.{all-left}
+use Rattle.pool_laws.proofs.Laws.{All, all-map, all-at, all-index, all-removed, all-mailed, waiting-at, waiting-short, laid-at}
+use Rattle.rules_laws.proofs.Steps.{ids-rise}
 use Rattle.table_type.specs.declared.Table.{Table}
 use Rattle.table_type.proofs.IdLaws.{ids-at}
 use Rattle.table.specs.Settled.{readySet}
-use Rattle.table.specs.Step.{Gone, all-stay, one-goes, probes-go, asked, remaining, stepOf}
+use Rattle.step.specs.Step.{Gone, all-stay, one-goes, probes-go, asked, remaining, stepOf}
 use Rattle.table_type.specs.Table.{nodeAt, withNode, idsOf, ringOf}
 use Rattle.table.specs.Valid.{validOf}
-use Rattle.table.proofs.Nodes.{both}
-use Rattle.table.proofs.Sound.{Sound, sound}
-use Rattle.table.proofs.By.{DoneWith, leavesOf, step-refused, step-done}
-use Rattle.table.proofs.Proved.{done-fine, written-ids, keeps-valid}
+use Rattle.table_laws.proofs.Nodes.{both}
+use Rattle.table_laws.proofs.Sound.{Sound, sound}
+use Rattle.table_laws.proofs.By.{DoneWith, leavesOf, step-refused, step-done}
+use Rattle.table_laws.proofs.Proved.{done-fine, written-ids, keeps-valid}
 use Rattle.lookup_laws.specs.Claims.{Ready}
 use Rattle.lookup_laws.proofs.Holder.{ready-listed}
 use Rattle.lookup_laws.specs.Joining.{AsClose, NotItsOwn, Flanked}

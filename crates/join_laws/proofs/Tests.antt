@@ -16,9 +16,9 @@ use Rattle.rules.specs.declared.Pool.{Pool}
 use Rattle.rules.specs.Plans.{isWait}
 use Rattle.table_type.specs.declared.Table.{Table}
 use Rattle.table_type.specs.declared.Stepped.{Stepped}
-use Rattle.table.specs.Step.{stepOf}
+use Rattle.step.specs.Step.{stepOf}
 use Rattle.table_type.specs.Table.{nodeAt}
-use Rattle.table.proofs.Nodes.{both}
+use Rattle.table_laws.proofs.Nodes.{both}
 use Rattle.join_laws.specs.Safe.{nobodyWaits}
 use Rattle.join_laws.specs.Claims.{NoneWaits, keepsTurns, InTurn, Patient, Throughout}
 

@@ -17,20 +17,20 @@ use Rattle.rules.specs.declared.Refusal.{Refusal}
 use Rattle.rules.specs.declared.Plan.{Plan}
 use Rattle.rules.specs.declared.Planned.{Planned}
 use Rattle.rules.specs.declared.Planned.the-variants.{No, Go}
-use Rattle.rules.specs.Actions.{isNeighbour, leasePlan, planLookup, planJoin, planRequestLease, planLeaseExpired, planGrantExpired}
+use Rattle.plan.specs.Actions.{isNeighbour, leasePlan, planLookup, planJoin, planRequestLease, planLeaseExpired, planGrantExpired}
 use Rattle.rules.specs.Hop.{nextHop}
 use Rattle.rules.specs.Leaf.{contentOf, leafWith, isComplete, isEmpty, coversOf}
-use Rattle.rules.specs.Leave.{emptied, probingPlan, endsToProbe, lastEnd, lacksSide, lacksBoth}
-use Rattle.rules.specs.Leave.{planSuspectFaulty, planDeclareDead, planLSRepair, planResignNode, planRecover}
+use Rattle.plan.specs.Leave.{emptied, probingPlan, endsToProbe, lastEnd, lacksSide, lacksBoth}
+use Rattle.plan.specs.Leave.{planSuspectFaulty, planDeclareDead, planLSRepair, planResignNode, planRecover}
 use Rattle.rules.specs.Letters.{lookup, lookupAfter, joinRequest, joinReply}
 use Rattle.rules.specs.Nodes.{sidesOf, carriedOf}
 use Rattle.rules.specs.Pick.{idAt}
 use Rattle.rules.specs.Plans.{isDead, isWait, isReady, isOk, isUp, withStatus, withLeases, quietPlan, sendPlan}
-use Rattle.rules.specs.Take.{forwardPlan, joinReplyPlan, waitsEmpty, probePlanOf, replyPlanOf, grantPlan, broadcastPlan}
-use Rattle.rules.specs.Take.{planDeliver, planForward, planTakeJoinRequest, planTakeJoinReply, planTakeProbe, planTakeProbeReply}
-use Rattle.rules.specs.Take.{planTakeLeaseRequest, planTakeBroadcast}
-use Rattle.table.proofs.Nodes.{both}
-use Rattle.table.proofs.By.{go-same, never-go}
+use Rattle.take.specs.Take.{forwardPlan, joinReplyPlan, waitsEmpty, probePlanOf, replyPlanOf, grantPlan, broadcastPlan}
+use Rattle.take.specs.Take.{planDeliver, planForward, planTakeJoinRequest, planTakeJoinReply, planTakeProbe, planTakeProbeReply}
+use Rattle.take.specs.Take.{planTakeLeaseRequest, planTakeBroadcast}
+use Rattle.table_laws.proofs.Nodes.{both}
+use Rattle.table_laws.proofs.By.{go-same, never-go}
 
 -- a test that would have refused fails
 passed : (b : Bool) (why : Refusal) (rest : Planned) {x : Plan} → cond b (No why) rest ≡ Go x → (b ≡ false) × (rest ≡ Go x)

@@ -19,7 +19,7 @@ use Rattle.rules.specs.declared.Status.the-variants as status
 use Rattle.rules.specs.Leaf.{isEmpty}
 use Rattle.rules.specs.Nodes.{sidesOf}
 use Rattle.rules.specs.Plans.{isDead, isWait, isUp}
-use Rattle.rules.proofs.Leaf.{empty-sides}
+use Rattle.rules_laws.proofs.Leaf.{empty-sides}
 use Rattle.join_laws.specs.Clauses.{View, Up, Waits, Alive, Joining, Blank, Guards, GuardsAt, Beside, Calm, Introduces, Fair}
 
 -- ---- statuses

@@ -1,4 +1,4 @@
--- Join in turn, and there is one holder. From every start, and from every valid table that satisfies the clauses, through every list of
+-- Beside 01: join in turn, and there is one holder. From every start, and from every valid table that satisfies the clauses, through every list of
 -- actions of the real step: if no node leaves, no probe times out, and no Join is done while some node is wait, then after every action no two ready
 -- nodes cover one key. Only statements: the proofs are named in Proved. Assumes nothing.
 use mathlib.Core.Path.{_≡_}
@@ -6,6 +6,7 @@ use mathlib.Core.Bool.{Bool, true, false}
 use mathlib.Core.List.{List, [], _∷_}
 use mathlib.Core.Logic.{_↔_}
 use Prim.Native.Nat.{ℕ, _^_, _<_}
+use Rattle.rules.specs.Names.{Slot, Marks, Ids, Key}
 use Rattle.rules.specs.declared.Pool.{Pool}
 use Rattle.rules.specs.declared.Action.{Action}
 use Rattle.rules.specs.declared.Action.the-variants.{Lookup, Join, RequestLease, LeaseExpired, GrantExpired, Take, Deliver, Forward}
@@ -15,7 +16,7 @@ use Rattle.rules.specs.Plans.{isWait, isUp}
 use Rattle.rules.specs.Pool.{laid}
 use Rattle.table_type.specs.declared.Table.{Table}
 use Rattle.table_type.specs.Start.{startOf}
-use Rattle.table.specs.Step.{stepOf}
+use Rattle.step.specs.Step.{stepOf}
 use Rattle.table_type.specs.Table.{nodeAt}
 use Rattle.table.specs.Valid.{validOf}
 use Rattle.lookup_laws.specs.Claims.{Nearer, Ready}
@@ -26,7 +27,7 @@ use Rattle.join_laws.specs.Safe.{nobodyWaits, safeToJoin}
 
 -- no node is wait
 abbrev pub NoneWaits : Table → Type 0
-NoneWaits t = (i : ℕ) → i < t .n → isWait (nodeAt t i .status) ≡ false
+NoneWaits t = (i : Slot) → i < t .n → isWait (nodeAt t i .status) ≡ false
 
 -- the action is neither NodeLeft nor ProbeTimeOut, of which nothing is said here
 abbrev pub keepsTurns : Action → Bool
@@ -48,9 +49,8 @@ keepsTurns (Recover i) = true
 
 -- if the action is done, it is neither NodeLeft nor ProbeTimeOut; and if it is a Join, no node was wait. One that is refused changes nothing
 abbrev pub InTurn : Table → Pool → Action → Type 0
-InTurn t p a =
-    (stepOf t p 256 a .answer ≡ Done → keepsTurns a ≡ true)
-    × ((i seed : ℕ) → a ≡ Join i seed → stepOf t p 256 a .answer ≡ Done → NoneWaits t)
+InTurn t p a = (stepOf t p 256 a .answer ≡ Done → keepsTurns a ≡ true)
+    × ((i seed : Slot) → a ≡ Join i seed → stepOf t p 256 a .answer ≡ Done → NoneWaits t)
 
 -- no NodeLeft and no ProbeTimeOut of the list is done, and no Join of it while some node is wait
 abbrev pub Patient : Table → Pool → List Action → Type 0
@@ -63,7 +63,7 @@ Throughout C t p [] = C t p
 Throughout C t p (a ∷ acts) = C t p × Throughout C (stepOf t p 256 a .table) (stepOf t p 256 a .pool) acts
 
 -- slot i is ok or ready
-abbrev pub IsUp : Table → ℕ → Type 0
+abbrev pub IsUp : Table → Slot → Type 0
 IsUp t i = (i < t .n) × (isUp (nodeAt t i .status) ≡ true)
 
 -- what is promised of a table and its pool
@@ -72,33 +72,30 @@ pub record Held (t : Table) (p : Pool) : Type 0 where
   pub valid : validOf t p ≡ true
   -- of every two different nodes that are ok or ready: each one's neighbours are at least as close, in their own directions, as the
   -- other, and it is its own neighbour on neither side
-  pub up : (i j : ℕ) → IsUp t i → IsUp t j → (i ≡ j → ⊥) → AsClose t i j × NotItsOwn t i
+  pub up : (i j : Slot) → IsUp t i → IsUp t j → (i ≡ j → ⊥) → AsClose t i j × NotItsOwn t i
   -- T-08's condition, of the ready nodes
   pub flanked : Flanked t
   -- no two ready nodes cover one key
-  pub one : (k i j : ℕ) → k < 2 ^ t .m → Ready t i → Ready t j → coversAt t i k ≡ true → coversAt t j k ≡ true → i ≡ j
+  pub one : (k : Key) (i j : Slot) → k < 2 ^ t .m → Ready t i → Ready t j → coversAt t i k ≡ true → coversAt t j k ≡ true → i ≡ j
   -- a ready node that covers a key is nearer to it than every other ready node
-  pub nearest : (k i j : ℕ) → k < 2 ^ t .m → Ready t i → Ready t j → (j ≡ i → ⊥) → coversAt t i k ≡ true → Nearer t k i j
+  pub nearest : (k : Key) (i j : Slot) → k < 2 ^ t .m → Ready t i → Ready t j → (j ≡ i → ⊥) → coversAt t i k ≡ true → Nearer t k i j
 
 -- from every start
 abbrev pub StartHeld : Type 0
-StartHeld =
-    (m l : ℕ) (ids : List ℕ) (a : ℕ) (acts : List Action) → startOf m l ids a .answer ≡ Done
+StartHeld = (m l : ℕ) (ids : Ids) (a : Marks) (acts : List Action) → startOf m l ids a .answer ≡ Done
     → Patient (startOf m l ids a .table) (laid []) acts → Throughout Held (startOf m l ids a .table) (laid []) acts
 
 -- from every valid table that satisfies the clauses
 abbrev pub ClausesHeld : Type 0
-ClausesHeld =
-    (t : Table) (p : Pool) (acts : List Action) → validOf t p ≡ true → Clauses t p → Patient t p acts → Throughout Held t p acts
+ClausesHeld = (t : Table) (p : Pool) (acts : List Action) → validOf t p ≡ true → Clauses t p → Patient t p acts → Throughout Held t p acts
 
 -- where the clauses hold after every action too
 abbrev pub ClausesStay : Type 0
-ClausesStay =
-    (t : Table) (p : Pool) (acts : List Action) → validOf t p ≡ true → Clauses t p → Patient t p acts → Throughout Clauses t p acts
+ClausesStay = (t : Table) (p : Pool) (acts : List Action) → validOf t p ≡ true → Clauses t p → Patient t p acts → Throughout Clauses t p acts
 
 -- every start satisfies them
 abbrev pub StartClauses : Type 0
-StartClauses = (m l : ℕ) (ids : List ℕ) (a : ℕ) → startOf m l ids a .answer ≡ Done → Clauses (startOf m l ids a .table) (laid [])
+StartClauses = (m l : ℕ) (ids : Ids) (a : Marks) → startOf m l ids a .answer ≡ Done → Clauses (startOf m l ids a .table) (laid [])
 
 -- A fitter asks before a node joins: safeToJoin passes exactly where nobody is wait and the clauses hold
 abbrev pub SafeExactly : Type 0
@@ -106,12 +103,10 @@ SafeExactly = (t : Table) (p : Pool) → (safeToJoin t p ≡ true) ↔ (NoneWait
 
 -- from every valid table that passes
 abbrev pub SafeHeld : Type 0
-SafeHeld =
-    (t : Table) (p : Pool) (acts : List Action) → validOf t p ≡ true → safeToJoin t p ≡ true → Patient t p acts → Throughout Held t p acts
+SafeHeld = (t : Table) (p : Pool) (acts : List Action) → validOf t p ≡ true → safeToJoin t p ≡ true → Patient t p acts → Throughout Held t p acts
 
 -- and from a start, in turn, it passes exactly while nobody is wait
 abbrev pub StartSafe : Type 0
-StartSafe =
-    (m l : ℕ) (ids : List ℕ) (a : ℕ) (acts : List Action) → startOf m l ids a .answer ≡ Done
+StartSafe = (m l : ℕ) (ids : Ids) (a : Marks) (acts : List Action) → startOf m l ids a .answer ≡ Done
     → Patient (startOf m l ids a .table) (laid []) acts
     → Throughout (λ t p. safeToJoin t p ≡ nobodyWaits t) (startOf m l ids a .table) (laid []) acts

@@ -25,15 +25,15 @@ use Rattle.rules.specs.Mail.{fieldsOf, alike, firstEqual, removedAt}
 use Rattle.rules.specs.Nodes.{placed}
 use Rattle.rules.specs.Pick.{idAt}
 use Rattle.rules.specs.Pool.{blank, waiting, messageAt, laid}
-use Rattle.pool.proofs.Laws.{alike-same, first-equal-none, waiting-laid, waiting-at, removed-length, removed-low, removed-high}
+use Rattle.pool_laws.proofs.Laws.{alike-same, first-equal-none, waiting-laid, waiting-at, removed-length, removed-low, removed-high}
 use Rattle.table_type.specs.declared.Table.{Table}
 use Rattle.table_type.specs.declared.Stepped.{Stepped}
 use Rattle.table_type.specs.Table.{idsOf}
 use Rattle.table.specs.Settled.{readySet, isSettled}
 use Rattle.table.specs.Valid.{validOf}
-use Rattle.table.proofs.Sound.{Sound, sound}
-use Rattle.table.proofs.By.{step-done}
-use Rattle.table.proofs.Proved.{keeps-valid}
+use Rattle.table_laws.proofs.Sound.{Sound, sound}
+use Rattle.table_laws.proofs.By.{step-done}
+use Rattle.table_laws.proofs.Proved.{keeps-valid}
 use Rattle.lookup_laws.specs.Journey.{stepped, hopsAt, LookupAt, delivered, routed, fateOf, Delivers, here, on}
 use Rattle.lookup_laws.specs.Claims.{Nearer, Ready, Alone, SettledArrives}
 use Rattle.lookup_laws.proofs.Stands.{count-is}

@@ -1,39 +1,36 @@
 -- The hop number of a Lookup is the number of its routings since issue, where it met no equal (T-07). A lookup that stays is the same message, and one that is routed has one hop
 -- more (Tracks), so the number grows as `routings` counts. A Lookup is issued only where none equal waits, so it stands at the end, with 0. Assumes nothing.
 use mathlib.Core.Path.{_≡_, refl, _∙_, ap, subst}
-use mathlib.Core.List.{List, [], _∷_, _++_}
-use Prim.Native.Nat.{ℕ, _+_, _-_, _<_, _≤_}
+use mathlib.Core.List.{[], _∷_, _++_}
+use Prim.Native.Nat.{ℕ, _+_}
 use native.Mathlib.Omega.{arith}
-use lib.ListN.{length}
 use Rattle.marks.specs.declared.Found.{Found}
 use Rattle.marks.specs.declared.Found.the-variants.{At, Nothing}
 use Rattle.rules.specs.declared.Message.{Message}
 use Rattle.rules.specs.declared.Pool.{Pool}
 use Rattle.rules.specs.declared.Plan.{Plan}
-use Rattle.rules.specs.declared.Action.{Action}
 use Rattle.rules.specs.declared.Action.the-variants.{Lookup}
 use Rattle.rules.specs.declared.Via.the-variants.{Unrouted}
-use Rattle.rules.specs.Actions.{waits, planLookup}
+use Rattle.rules.specs.Mail.{waits, firstEqual}
+use Rattle.plan.specs.Actions.{planLookup}
 use Rattle.rules.specs.Letters.{lookup}
-use Rattle.rules.specs.Mail.{firstEqual}
 use Rattle.rules.specs.Nodes.{placed}
 use Rattle.rules.specs.Plans.{sendPlan, mailed}
 use Rattle.rules.specs.Pool.{waiting, laid, messageAt}
-use Rattle.pool.proofs.Laws.{mailed-send, added-nothing}
+use Rattle.pool_laws.proofs.Laws.{mailed-send, added-nothing}
 use Rattle.table_type.specs.declared.Stepped.{Stepped}
 use Rattle.table_type.specs.declared.Table.{Table}
 use Rattle.table_type.specs.Table.{nodeAt, idsOf, ringOf}
-use Rattle.table.specs.Valid.{validOf}
-use Rattle.table.proofs.Sound.{sound}
-use Rattle.table.proofs.By.{go-same, never-go, DoneWith, step-done}
-use Rattle.table.proofs.Hops.{within-lookup}
-use Rattle.rules.proofs.Capped.{farther-low}
-use Rattle.table.proofs.Proved.{keeps-valid}
+use Rattle.table_laws.proofs.Sound.{sound}
+use Rattle.table_laws.proofs.By.{go-same, never-go, DoneWith, step-done}
+use Rattle.table_laws.proofs.Hops.{within-lookup}
+use Rattle.rules_laws.proofs.Capped.{farther-low}
+use Rattle.table_laws.proofs.Proved.{keeps-valid}
 use Rattle.lookup_laws.specs.Journey.{stepped, hopsAt, LookupAt, Fate, stays, routed, met, delivered, unroutable, fateOf, counted, routings}
 use Rattle.lookup_laws.specs.Fates.{Tracked}
 use Rattle.lookup_laws.specs.Pair.{poolAfter}
 use Rattle.lookup_laws.specs.Carried.{waitingBy, placeAfter, CountsRoutings, IssuedAtNone, SinceIssue, FewCarried}
-use Rattle.lookup_laws.proofs.Stands.{Stands, stands-last, stands-is, looks, count-is}
+use Rattle.lookup_laws.proofs.Stands.{stands-last, stands-is, looks, count-is}
 use Rattle.lookup_laws.proofs.Tracks.{tracked, dest-in}
 use Rattle.lookup_laws.proofs.Routings.{step-valid}
 

@@ -23,14 +23,14 @@ use Rattle.rules.specs.declared.Pool.{Pool}
 use Rattle.rules.specs.Leaf.{coversOf, seenFrom, wayUp, wayDown}
 use Rattle.rules.specs.Pick.{idAt}
 use Rattle.rules.specs.Plans.{isDead, isReady}
-use Rattle.rules.proofs.Closest.{Most, nearest}
-use Rattle.rules.proofs.Leaf.{seen-in, seen-leads, seen-up, seen-down}
-use Rattle.rules.proofs.Steps.{ids-inj}
+use Rattle.rules_laws.proofs.Closest.{Most, nearest}
+use Rattle.rules_laws.proofs.Leaf.{seen-in, seen-leads, seen-up, seen-down}
+use Rattle.rules_laws.proofs.Steps.{ids-inj}
 use Rattle.table_type.specs.declared.Table.{Table}
 use Rattle.table_type.specs.Table.{nodeAt, idsOf, ringOf}
 use Rattle.table.specs.Settled.{readySet, settledAt, isSettled}
-use Rattle.table.proofs.Nodes.{both}
-use Rattle.table.proofs.Sound.{Sound, sound}
+use Rattle.table_laws.proofs.Nodes.{both}
+use Rattle.table_laws.proofs.Sound.{Sound, sound}
 use Rattle.lookup_laws.specs.Claims.{Nearer, Ready, NearestReady, TieBelow, CoversNearest}
 use Rattle.lookup_laws.specs.Fates.{coversAt}
 use Rattle.lookup_laws.proofs.Joined.{restOf, ReadyId, around, ready-low, id-in, ready-below, rest-has, flanks, covers-first}

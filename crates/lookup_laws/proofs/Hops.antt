@@ -18,12 +18,12 @@ use Rattle.rules.specs.Leaf.{contentOf, seenFrom}
 use Rattle.rules.specs.Nodes.{sidesOf}
 use Rattle.rules.specs.Pick.{idAt}
 use Rattle.rules.specs.Plans.{isDead, isReady}
-use Rattle.rules.proofs.Hops.{content-candidate, hop-some, hop-to}
-use Rattle.rules.proofs.Leaf.{has-content, seen-in}
+use Rattle.rules_laws.proofs.Hops.{content-candidate, hop-some, hop-to}
+use Rattle.rules_laws.proofs.Leaf.{has-content, seen-in}
 use Rattle.table_type.specs.declared.Table.{Table}
 use Rattle.table_type.specs.Table.{nodeAt, idsOf, ringOf}
 use Rattle.table.specs.Settled.{readySet, deadSet, isSettled}
-use Rattle.table.proofs.Sound.{Sound}
+use Rattle.table_laws.proofs.Sound.{Sound}
 use Rattle.lookup_laws.specs.Claims.{Nearer, Ready}
 use Rattle.lookup_laws.specs.Fates.{coversAt, hopAt}
 use Rattle.lookup_laws.proofs.Tracks.{ready-is}

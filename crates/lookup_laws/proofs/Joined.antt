@@ -19,13 +19,13 @@ use Rattle.rules.specs.declared.Pool.{Pool}
 use Rattle.rules.specs.Leaf.{coversOf, seenFrom}
 use Rattle.rules.specs.Nodes.{sidesOf}
 use Rattle.rules.specs.Pick.{idAt}
-use Rattle.rules.proofs.Leaf.{seen-in}
-use Rattle.rules.proofs.Steps.{ids-inj}
+use Rattle.rules_laws.proofs.Leaf.{seen-in}
+use Rattle.rules_laws.proofs.Steps.{ids-inj}
 use Rattle.table_type.specs.declared.Table.{Table}
 use Rattle.table_type.specs.Table.{nodeAt, idsOf, ringOf}
 use Rattle.table.specs.Settled.{readySet}
-use Rattle.table.proofs.Nodes.{LeafRules, node-rules}
-use Rattle.table.proofs.Sound.{Sound, sound}
+use Rattle.table_laws.proofs.Nodes.{LeafRules, node-rules}
+use Rattle.table_laws.proofs.Sound.{Sound, sound}
 use Rattle.lookup_laws.specs.Claims.{Nearer, Ready}
 use Rattle.lookup_laws.specs.Fates.{coversAt}
 use Rattle.lookup_laws.specs.Joining.{leftAt, rightAt, NotItsOwn, Flanked, OneHolder, HolderNearest}

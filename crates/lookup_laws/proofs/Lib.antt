@@ -6,8 +6,6 @@ pub mod Holder
 pub mod Taking
 pub mod Hops
 pub mod Arrives
-pub mod Limits
-pub mod Unheld
 pub mod Pair
 pub mod Carried
 pub mod Proved

@@ -1,7 +1,7 @@
 -- The pair is 01's taking of a Lookup, and a gateway that only delivers. The idea: with a sound table and a place in range all steps come to
 -- `settle` of what is planned, so the steps agree where the plans do, and the plans differ in their tests alone; at a ready node one of the
 -- two has a plan, which is done (Taking). Along a run a lookup leaves a node by Deliver or Forward only (Tracks). Assumes nothing.
-use mathlib.Core.Path.{_≡_, refl, sym, _∙_, ap}
+use mathlib.Core.Path.{_≡_, refl, sym, _∙_, ap, subst}
 use mathlib.Core.Bool.{Bool, true, false, cond, not}
 use mathlib.Core.List.{List, [], _∷_}
 use mathlib.Core.Logic.{_⊎_, inl, inr}
@@ -19,15 +19,15 @@ use Rattle.rules.specs.declared.Planned.the-variants.{No}
 use Rattle.rules.specs.declared.Pool.{Pool}
 use Rattle.rules.specs.declared.Refusal.the-variants as no
 use Rattle.rules.specs.Pool.{messageAt}
-use Rattle.rules.specs.Take.{planDeliver, planForward, planTake}
+use Rattle.take.specs.Take.{planDeliver, planForward, planTake}
 use Rattle.table_type.specs.declared.Stepped.{Stepped}
 use Rattle.table_type.specs.declared.Table.{Table}
 use Rattle.table.specs.Settle.{refusedOf, settle}
 use Rattle.table.specs.Settled.{deadSet}
-use Rattle.table.specs.Step.{takes, takenOf, deliveredOf, forwardedOf, remaining, actOf, isSound, stepOf}
+use Rattle.step.specs.Step.{takes, takenOf, deliveredOf, forwardedOf, remaining, actOf, isSound, stepOf}
 use Rattle.table_type.specs.Table.{nodeAt, idsOf, ringOf}
 use Rattle.table.specs.Valid.{validOf}
-use Rattle.table.proofs.Sound.{sound, is-valid}
+use Rattle.table_laws.proofs.Sound.{sound, is-valid}
 use Rattle.lookup_laws.specs.Claims.{Ready}
 use Rattle.lookup_laws.specs.Fates.{coversAt, Tracked}
 use Rattle.lookup_laws.specs.Journey.{stepped, LookupAt, Fate, stays, routed, met, delivered, unroutable, fateOf}
@@ -180,12 +180,12 @@ unjudged t p len place none = go (isSound t p len) (ltb place (p .count)) refl r
 -- ---- the gateway
 
 -- it waits still in the pool, or was delivered
-abbrev Held : Pool → ℕ → ℕ → Fate → Type 0
-Held after k d x = (x ≡ delivered) ⊎ ((r : ℕ) × (x ≡ stays r) × LookupAt after r k d)
+abbrev Held : Pool → ℕ → ℕ → Message → Fate → Type 0
+Held after k d m x = (x ≡ delivered) ⊎ ((r : ℕ) × (x ≡ stays r) × LookupAt after r k d × (messageAt after r ≡ m))
 
 pub gateway-holds : GatewayHolds
 unfolding NoForwardAt endOf poolAfter
-gateway-holds t p q k d [] e l f = inr (q, refl, l)
+gateway-holds t p q k d [] e l f = inr (q, refl, l, refl)
 gateway-holds t p q k d (a ∷ acts) e l f =
     go (fateOf t p q a) (tracked t p q k d a e l)
     (λ r w. gateway-holds (stepped t p a .table) (stepped t p a .pool) r k d acts (step-valid t p a e) w (f .1))
@@ -201,9 +201,9 @@ gateway-holds t p q k d (a ∷ acts) e l f =
     not-forwarded b =
         opposed (ap (λ (x : Action). forwardsAt p x d) b ∙ eq-eqb (messageAt p q .dest) d (ap (λ (m : Message). m .dest) (l .is))) (f .0)
 
-    go : (x : Fate) → Tracked t p q k d a x → ((r : ℕ) → LookupAt (stepped t p a .pool) r k d → Held after k d (rest r))
-        → Held after k d (endBy x rest)
-    go (stays r) w on = on r (w .now)
+    go : (x : Fate) → Tracked t p q k d a x → ((r : ℕ) → LookupAt (stepped t p a .pool) r k d → Held after k d (messageAt (stepped t p a .pool) r) (rest r))
+        → Held after k d (messageAt p q) (endBy x rest)
+    go (stays r) w on = subst (λ (m : Message). Held after k d m (rest r)) (w .same) (on r (w .now))
     go (routed h r) w on = absurd (not-forwarded (w .took .act))
     go (met h r) w on = absurd (not-forwarded (w .took .act))
     go delivered w on = inl refl

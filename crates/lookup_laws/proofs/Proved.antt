@@ -1,9 +1,9 @@
--- Proved, by name: each statement of Demand (demand 3), then each of Pair (T-05), each of Carried (T-07), and each of Joining (one holder while others are joining). Assumes nothing.
-use Rattle.table.proofs.Sound.{sound}
+-- Proved, by name: each statement of Claims (demand 3), then each of Pair (T-05), each of Carried (T-07), and each of Joining (T-08). Assumes nothing.
+use Rattle.table_laws.proofs.Sound.{sound}
 use Rattle.lookup_laws.specs.Claims.{EveryLookup, FatesHold, GoesNearer, FewRoutings, SettledArrives, TieBelow, CoversNearest}
 use Rattle.lookup_laws.specs.Pair.{ReadyOne, OthersTwo, TakeFive, OtherKinds, Unjudged, GatewayHolds}
 use Rattle.lookup_laws.specs.Carried.{CountsRoutings, IssuedAtNone, SinceIssue, FewCarried}
-use Rattle.lookup_laws.specs.Joining.{OneHolder, HolderNearest, SettledFlanked, SomeUnheld, SettledHeld, SettledBeside}
+use Rattle.lookup_laws.specs.Joining.{OneHolder, HolderNearest, SettledFlanked, SettledHeld, SettledBeside}
 use Rattle.lookup_laws.proofs.Stands as stands
 use Rattle.lookup_laws.proofs.Tracks as tracks
 use Rattle.lookup_laws.proofs.Routings as routings
@@ -12,7 +12,6 @@ use Rattle.lookup_laws.proofs.Pair as pair
 use Rattle.lookup_laws.proofs.Carried as carried
 use Rattle.lookup_laws.proofs.Joined as joined
 use Rattle.lookup_laws.proofs.Holder as holder
-use Rattle.lookup_laws.proofs.Unheld as unheld
 
 pub every-lookup : EveryLookup
 every-lookup t p q e h one = stands.lookup-at (sound t p e) q h one
@@ -73,9 +72,6 @@ holder-nearest = joined.holder-nearest
 
 pub settled-flanked : SettledFlanked
 settled-flanked = holder.settled-flanked
-
-pub some-unheld : SomeUnheld
-some-unheld = unheld.some-unheld
 
 pub settled-held : SettledHeld
 settled-held = holder.settled-held

@@ -17,16 +17,16 @@ use Rattle.rules.specs.declared.Answer.{Answer}
 use Rattle.rules.specs.declared.Answer.the-variants.{Done, Refused}
 use Rattle.rules.specs.declared.Hop.the-variants.{To}
 use Rattle.rules.specs.Pick.{idAt}
-use Rattle.rules.proofs.Hops.{hop-to, hop-listed}
+use Rattle.rules_laws.proofs.Hops.{hop-to, hop-listed}
 use Rattle.table_type.specs.declared.Table.{Table}
 use Rattle.table_type.specs.Table.{nodeAt, idsOf, ringOf}
 use Rattle.table.specs.Settled.{deadSet}
 use Rattle.table.specs.Valid.{validOf}
-use Rattle.table.proofs.Nodes.{node-rules}
-use Rattle.table.proofs.Sound.{Sound, sound}
-use Rattle.table.specs.Claims.{SameRing}
-use Rattle.table.proofs.By.{step-refused}
-use Rattle.table.proofs.Proved.{keeps-valid, keeps-ring}
+use Rattle.table_laws.proofs.Nodes.{node-rules}
+use Rattle.table_laws.proofs.Sound.{Sound, sound}
+use Rattle.table_laws.specs.Claims.{SameRing}
+use Rattle.table_laws.proofs.By.{step-refused}
+use Rattle.table_laws.proofs.Proved.{keeps-valid, keeps-ring}
 use Rattle.lookup_laws.specs.Journey.{stepped, LookupAt, Fate, stays, routed, met, delivered, unroutable, fateOf, counted, routings}
 use Rattle.lookup_laws.specs.Journey.{RoutesTo, waits-there, ends-there}
 use Rattle.lookup_laws.specs.Claims.{Nearer, GoesNearer, FewRoutings}

@@ -20,21 +20,20 @@ use Rattle.rules.specs.declared.Message.{Message}
 use Rattle.rules.specs.declared.Pool.{Pool}
 use Rattle.rules.specs.declared.Plan.{Plan}
 use Rattle.rules.specs.Fits.{isKind, hasFlag, hasRouting, hasFailed, wordFits, flagFits, carriedFits, fieldsFit, messageFits}
-use Rattle.rules.specs.Leave.{isProbeFrom, withoutProbes}
+use Rattle.rules.specs.Mail.{isProbeFrom, withoutProbes, fieldsOf, alike, firstFrom, firstEqual, removedAt}
 use Rattle.rules.specs.Letters.{lookupAfter}
-use Rattle.rules.specs.Mail.{fieldsOf, alike, firstFrom, firstEqual, removedAt}
 use Rattle.rules.specs.Nodes.{carriedOf, placed}
 use Rattle.rules.specs.Plans.{mailed}
 use Rattle.rules.specs.Pool.{blank, messageAt, waiting, laid}
-use Rattle.pool.proofs.Laws.{All, all-at, alike-same, waiting-at, laid-at, removed-length, removed-low, removed-high, mailed-after}
-use Rattle.pool.proofs.Probes as probes
-use Rattle.pool.proofs.Probes.{goneBefore}
+use Rattle.pool_laws.proofs.Laws.{All, all-at, alike-same, waiting-at, laid-at, removed-length, removed-low, removed-high, mailed-after}
+use Rattle.pool_laws.proofs.Probes as probes
+use Rattle.pool_laws.proofs.Probes.{goneBefore}
 use Rattle.table_type.specs.declared.Table.{Table}
 use Rattle.table_type.specs.Table.{ringOf}
-use Rattle.table.proofs.Nodes.{both}
-use Rattle.table.proofs.Obeys.{obeys}
-use Rattle.table.proofs.Sound.{Sound}
-use Rattle.table.proofs.Hops.{Within, no-hops}
+use Rattle.table_laws.proofs.Nodes.{both}
+use Rattle.table_laws.proofs.Obeys.{obeys}
+use Rattle.table_laws.proofs.Sound.{Sound}
+use Rattle.table_laws.proofs.Hops.{Within, no-hops}
 use Rattle.lookup_laws.specs.Journey.{hopsAt, LookupAt, probesBefore}
 
 -- message m stands at place r of a list

@@ -24,14 +24,14 @@ use Rattle.rules.specs.declared.Answer.the-variants.{Done, Refused}
 use Rattle.rules.specs.Letters.{lookupAfter}
 use Rattle.rules.specs.Plans.{isReady, mailed, quietPlan}
 use Rattle.rules.specs.Pool.{waiting}
-use Rattle.rules.specs.Take.{forwardPlan, planDeliver, planForward}
-use Rattle.pool.proofs.Laws.{removed-length, mailed-length}
+use Rattle.take.specs.Take.{forwardPlan, planDeliver, planForward}
+use Rattle.pool_laws.proofs.Laws.{removed-length, mailed-length}
 use Rattle.table_type.specs.declared.Table.{Table}
 use Rattle.table_type.specs.Table.{nodeAt}
-use Rattle.table.specs.Step.{one-goes, asked, plannedOf, isSound}
+use Rattle.step.specs.Step.{one-goes, asked, plannedOf, isSound}
 use Rattle.table.specs.Valid.{validOf}
-use Rattle.table.proofs.Sound.{sound}
-use Rattle.table.proofs.By.{goes, go-same, never-go, RefusedFor, invalid, out-of-range, forbidden, full, step-refused}
+use Rattle.table_laws.proofs.Sound.{sound}
+use Rattle.table_laws.proofs.By.{goes, go-same, never-go, RefusedFor, invalid, out-of-range, forbidden, full, step-refused}
 use Rattle.lookup_laws.specs.Journey.{stepped, hopsAt, LookupAt, delivered, onward, fateOf}
 use Rattle.lookup_laws.specs.Claims.{Ready}
 use Rattle.lookup_laws.proofs.Stands.{count-is}

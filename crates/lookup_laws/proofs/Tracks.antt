@@ -36,20 +36,19 @@ use Rattle.rules.specs.Mail.{firstEqual, added}
 use Rattle.rules.specs.Nodes.{noNode, placed}
 use Rattle.rules.specs.Plans.{isReady, quietPlan, sendBy, sendPlan, mailed}
 use Rattle.rules.specs.Pool.{waiting, messageAt, laid}
-use Rattle.rules.specs.Take.{forwardPlan, planDeliver, planForward, planTake}
-use Rattle.pool.proofs.Laws.{laid-at, All, all-index, all-removed, added-at, added-nothing, mailed-quiet, mailed-send, waiting-at}
+use Rattle.take.specs.Take.{forwardPlan, planDeliver, planForward, planTake}
+use Rattle.pool_laws.proofs.Laws.{laid-at, All, all-index, all-removed, added-at, added-nothing, mailed-quiet, mailed-send, waiting-at}
 use Rattle.table_type.specs.declared.Table.{Table}
 use Rattle.table_type.specs.declared.Stepped.{Stepped}
 use Rattle.table_type.specs.Table.{nodeAt, withNode, idsOf, ringOf}
 use Rattle.table.specs.Settle.{doneBy}
 use Rattle.table.specs.Settled.{readySet, deadSet}
 use Rattle.table.specs.Valid.{validOf}
-use Rattle.table.proofs.Obeys.{obeys}
-use Rattle.table.proofs.Sound.{Sound, sound}
-use Rattle.table.proofs.Hops.{Within}
-use Rattle.table.proofs.By.{goes, go-same, never-go, DoneWith, leavesOf, step-refused, step-done}
-use Rattle.table.specs.Step.{Gone, all-stay, one-goes, probes-go}
-use Rattle.table.specs.Step.{takenOf, deliveredOf, forwardedOf, asked, remaining, plannedOf}
+use Rattle.table_laws.proofs.Obeys.{obeys}
+use Rattle.table_laws.proofs.Sound.{Sound, sound}
+use Rattle.table_laws.proofs.Hops.{Within}
+use Rattle.table_laws.proofs.By.{goes, go-same, never-go, DoneWith, leavesOf, step-refused, step-done}
+use Rattle.step.specs.Step.{Gone, all-stay, one-goes, probes-go, takenOf, deliveredOf, forwardedOf, asked, remaining, plannedOf}
 use Rattle.lookup_laws.specs.Fates.{others, coversAt, hopAt, viaAt, Took, Stays, Ends, Tracked}
 use Rattle.lookup_laws.specs.Journey.{stepped, hopsAt, LookupAt, stays, landing, onward, fateTaken, probesBefore, fateDone}
 use Rattle.lookup_laws.specs.Journey.{fateBy, fateOf}

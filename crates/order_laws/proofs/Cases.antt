@@ -1,5 +1,5 @@
 -- Small cases, computed by the checker: the same messages in two orders, and a Take of the same one; that the places are to be named accordingly, and
--- that the pools afterwards are in two orders too; and what is not the same: a message more or less often, one with another sixth word, and a count
+-- that the pools afterwards are in two orders too; and what is not the same: a message more or less often, one with other hops, and a count
 -- that says another number of places. Assumes nothing.
 use mathlib.Core.Path.{_≡_, refl}
 use mathlib.Core.Bool.{true, false}
@@ -24,12 +24,13 @@ use Rattle.rules.specs.Numbers.{answerNumber}
 use Rattle.rules.specs.Pick.{best}
 use Rattle.rules.specs.Plans.{mailed}
 use Rattle.rules.specs.Pool.{laid}
-use Rattle.rules.specs.Take.{planTakeJoinRequest, planTake}
+use Rattle.take.specs.Take.{planTakeJoinRequest, planTake}
 use Rattle.table_type.specs.declared.Table.{Table}
-use Rattle.table_type.specs.Start.{slotIds, slotsTo, startNode, startNodes, startFits, idsRise, listFits, startOf}
+use Rattle.start.specs.Start.{slotIds, slotsTo, startNode, startNodes, startFits, idsRise, listFits}
+use Rattle.table_type.specs.Start.{startOf}
 use Rattle.table.specs.Settle.{carriedOut, settle}
 use Rattle.table.specs.Settled.{deadSet}
-use Rattle.table.specs.Step.{isSound, stepOf}
+use Rattle.step.specs.Step.{isSound, stepOf}
 use Rattle.table.specs.Valid.{nodesFit, messagesFit, poolFits, validOf}
 use Rattle.order_laws.specs.Order.{passing, SameMail, behind, exchanged, again, SamePool, one-waits, SameAction, takes}
 use Rattle.order_laws.proofs.Found.{same-exactly}
@@ -108,7 +109,7 @@ pub how-often : SameMail (asks ∷ asks ∷ key 0 ∷ []) (asks ∷ key 0 ∷ ke
 unfolding passing
 how-often h = let e : _≡_ {A = ℕ} 2 1 = h .tested (λ m. eqb (m .kind) 2) in omega arith
 
--- equal as 01 has it, but for the sixth word
+-- equal messages with other hops (T-07)
 abbrev further : Message
 further = record { kind = 1; dest = 0; word = 0; flag = 0; owner = 0; hops = 1; routing = 0; left = 0; right = 0; failed = 0 }
 

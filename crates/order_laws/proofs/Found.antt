@@ -17,7 +17,7 @@ use Rattle.rules.specs.declared.Message.{Message}
 use Rattle.rules.specs.declared.Pool.{Pool}
 use Rattle.rules.specs.Mail.{alike, removedAt}
 use Rattle.rules.specs.Pool.{blank, waiting}
-use Rattle.pool.proofs.Laws.{alike-same, alike-refl, waiting-at, waiting-short}
+use Rattle.pool_laws.proofs.Laws.{alike-same, alike-refl, waiting-at, waiting-short}
 use Rattle.order_laws.specs.Claims.{SameExactly, ActionFound}
 use Rattle.order_laws.specs.Order.{passing, SameMail, Rearranged, nothing, behind, exchanged, again, SamePool}
 use Rattle.order_laws.specs.Order.{SamePlace, one-waits, none-waits, takes, delivers, forwards, other}

@@ -18,18 +18,16 @@ use Rattle.marks.proofs.Laws.{each, all-of}
 use Rattle.rules.specs.declared.Message.{Message}
 use Rattle.rules.specs.declared.Plan.{Plan}
 use Rattle.rules.specs.declared.Pool.{Pool}
-use Rattle.rules.specs.Actions.{waits, joinWaits}
+use Rattle.rules.specs.Mail.{waits, joinWaits, isProbeFrom, withoutProbes, replyWaits, alike, allDifferent, added, removedAt, sentTo}
 use Rattle.rules.specs.Fits.{messageFits, hopsFit}
-use Rattle.rules.specs.Leave.{isProbeFrom, withoutProbes, replyWaits}
-use Rattle.rules.specs.Mail.{alike, allDifferent, added, removedAt, sentTo}
 use Rattle.rules.specs.Nodes.{placed}
 use Rattle.rules.specs.Plans.{addedTo, mailed}
 use Rattle.rules.specs.Pool.{blank, messageAt, waiting, laid}
 use Rattle.table_type.specs.declared.Table.{Table}
 use Rattle.table_type.specs.Table.{idsOf, ringOf}
-use Rattle.table.specs.Step.{isSound}
+use Rattle.step.specs.Step.{isSound}
 use Rattle.table.specs.Valid.{messagesFit, poolFits, validOf}
-use Rattle.pool.proofs.Laws.{All, all-at, all-map, apart-different, waits-nil, waits-cons, added-is, waiting-at, waiting-all, waiting-laid}
+use Rattle.pool_laws.proofs.Laws.{All, all-at, all-map, apart-different, waits-nil, waits-cons, added-is, waiting-at, waiting-all, waiting-laid}
 use Rattle.order_laws.specs.Order.{passing, SameMail, SamePool}
 use Rattle.order_laws.proofs.Passing.{one, passing-append, passing-removed, passing-every, none-pass, pass-none, some-passes}
 use Rattle.order_laws.proofs.Passing.{apart-few, few-apart}

@@ -12,7 +12,7 @@ use Rattle.rules.specs.declared.Message.{Message}
 use Rattle.rules.specs.Mail.{alike, removedAt}
 use Rattle.rules.specs.Pool.{blank}
 use Rattle.marks.proofs.Bools.{bool-false, opposed}
-use Rattle.pool.proofs.Laws.{All, all-nil, all-cons, all-map, Apart, apart-nil, apart-cons, alike-sym, alike-refl, alike-trans}
+use Rattle.pool_laws.proofs.Laws.{All, all-nil, all-cons, all-map, Apart, apart-nil, apart-cons, alike-sym, alike-refl, alike-trans}
 use Rattle.order_laws.specs.Order.{passing}
 
 -- one more

@@ -24,11 +24,11 @@ use Rattle.table_type.specs.declared.Stepped.{Stepped}
 use Rattle.table_type.specs.declared.Table.{Table}
 use Rattle.table_type.specs.Table.{withNode}
 use Rattle.table.specs.Settle.{refusedOf, doneBy, carriedOut, settle}
-use Rattle.table.specs.Step.{Asked, all-stay, takes, takenOf, deliveredOf, forwardedOf, asked, remaining, plannedOf, actOf, isSound, stepOf}
-use Rattle.table.proofs.Numbers.{taken-waits}
-use Rattle.table.proofs.Proved.{refusal-keeps}
-use Rattle.table.proofs.Sound.{Sound, sound, is-valid}
-use Rattle.pool.proofs.Laws.{waiting-at}
+use Rattle.step.specs.Step.{Asked, all-stay, takes, takenOf, deliveredOf, forwardedOf, asked, remaining, plannedOf, actOf, isSound, stepOf}
+use Rattle.table_laws.proofs.Numbers.{taken-waits}
+use Rattle.table_laws.proofs.Proved.{refusal-keeps}
+use Rattle.table_laws.proofs.Sound.{Sound, sound, is-valid}
+use Rattle.pool_laws.proofs.Laws.{waiting-at}
 use Rattle.order_laws.specs.Order.{SameMail, SamePool, SamePlace, one-waits, none-waits, placeless, SameAction, SameStep, stepsOf, SameSteps, Met}
 use Rattle.order_laws.specs.Order as order
 use Rattle.order_laws.specs.Claims.{OrderNoAccount, BothLeft, AlongActions, ActionsFound, SearchesAgree}

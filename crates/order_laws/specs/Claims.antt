@@ -1,4 +1,4 @@
--- The order of the pool is of no account. Only statements: the proofs are in the other files. Assumes nothing.
+-- Beside 01: the order of the pool is of no account. Only statements: the proofs are in the other files. Assumes nothing.
 use mathlib.Core.Path.{_≡_}
 use mathlib.Core.List.{List}
 use mathlib.Core.Logic.{_↔_}
@@ -9,7 +9,7 @@ use Rattle.rules.specs.declared.Message.{Message}
 use Rattle.rules.specs.declared.Pool.{Pool}
 use Rattle.rules.specs.declared.Refusal.{Refusal}
 use Rattle.table_type.specs.declared.Table.{Table}
-use Rattle.table.specs.Step.{stepOf}
+use Rattle.step.specs.Step.{stepOf}
 use Rattle.table.specs.Valid.{validOf}
 use Rattle.order_laws.specs.Order.{SameMail, Rearranged, SamePool, SameAction, SameStep, stepsOf, SameSteps, SameActions, Met}
 
@@ -24,8 +24,7 @@ ValidBoth = (t : Table) (p q : Pool) → SamePool p q → validOf t p ≡ validO
 -- a step on two pools with the same messages gives the same answer and table, and pools with the same messages (places named accordingly); for every
 -- table, valid or not, every length of the lent list and every action
 abbrev pub OrderNoAccount : Type 0
-OrderNoAccount =
-    (t : Table) (p q : Pool) (len : ℕ) (a b : Action) → SamePool p q → SameAction p q a b → SameStep (stepOf t p len a) (stepOf t q len b)
+OrderNoAccount = (t : Table) (p q : Pool) (len : ℕ) (a b : Action) → SamePool p q → SameAction p q a b → SameStep (stepOf t p len a) (stepOf t q len b)
 
 -- where it is refused both pools are as they were
 abbrev pub BothLeft : Type 0
@@ -39,8 +38,7 @@ ActionFound = (p q : Pool) (a : Action) → SamePool p q → (b : Action) × Sam
 
 -- after any actions, named accordingly, the same answers and tables, and pools with the same messages
 abbrev pub AlongActions : Type 0
-AlongActions =
-    (len : ℕ) (t : Table) (p q : Pool) (acts others : List Action) → SamePool p q → SameActions len t p q acts others
+AlongActions = (len : ℕ) (t : Table) (p q : Pool) (acts others : List Action) → SamePool p q → SameActions len t p q acts others
     → SameSteps (stepsOf t p len acts) (stepsOf t q len others)
 
 -- and for any actions from p there are such from q

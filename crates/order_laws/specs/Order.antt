@@ -1,9 +1,10 @@
--- When two pools hold the same messages, when two actions on them name the same message, and when two steps come to the same. Definitions only.
+-- Beside 01: when two pools hold the same messages, when two actions on them name the same message, and when two steps come to the same. Definitions only.
 -- Assumes nothing.
 use mathlib.Core.Path.{_≡_}
 use mathlib.Core.Bool.{Bool, true, false, cond}
 use mathlib.Core.List.{List, [], _∷_}
 use Prim.Native.Nat.{ℕ, _+_, _<_, _≤_}
+use Rattle.rules.specs.Names.{Place}
 use Rattle.rules.specs.declared.Action.{Action}
 use Rattle.rules.specs.declared.Action.the-variants.{Lookup, Join, RequestLease, LeaseExpired, GrantExpired, Take, Deliver, Forward}
 use Rattle.rules.specs.declared.Action.the-variants.{NodeLeft, SuspectFaulty, ProbeTimeOut, DeclareDead, LSRepair, ResignNode, Recover}
@@ -12,7 +13,7 @@ use Rattle.rules.specs.declared.Pool.{Pool}
 use Rattle.rules.specs.Pool.{messageAt, waiting}
 use Rattle.table_type.specs.declared.Stepped.{Stepped}
 use Rattle.table_type.specs.declared.Table.{Table}
-use Rattle.table.specs.Step.{stepOf}
+use Rattle.step.specs.Step.{stepOf}
 
 -- ---- the same messages
 
@@ -40,7 +41,7 @@ pub record SamePool (p q : Pool) : Type 0 where
 -- ---- the same action, its place named accordingly
 
 -- at place r of p and place s of q the same message waits, every field the same, or none waits at either
-pub data SamePlace (p q : Pool) (r s : ℕ) : Type 0 where
+pub data SamePlace (p q : Pool) (r s : Place) : Type 0 where
   one-waits : r < p .count → s < q .count → messageAt p r ≡ messageAt q s → SamePlace p q r s
   none-waits : p .count ≤ r → q .count ≤ s → SamePlace p q r s
 
@@ -64,9 +65,9 @@ placeless (Recover i) = true
 
 -- of two actions, one on p and one on q, each asks for the same; where they name a place, the same message waits there
 pub data SameAction (p q : Pool) : Action → Action → Type 0 where
-  takes : {r s : ℕ} → SamePlace p q r s → SameAction p q (Take r) (Take s)
-  delivers : {r s : ℕ} → SamePlace p q r s → SameAction p q (Deliver r) (Deliver s)
-  forwards : {r s : ℕ} → SamePlace p q r s → SameAction p q (Forward r) (Forward s)
+  takes : {r s : Place} → SamePlace p q r s → SameAction p q (Take r) (Take s)
+  delivers : {r s : Place} → SamePlace p q r s → SameAction p q (Deliver r) (Deliver s)
+  forwards : {r s : Place} → SamePlace p q r s → SameAction p q (Forward r) (Forward s)
   other : {a : Action} → placeless a ≡ true → SameAction p q a a
 
 -- ---- the same steps

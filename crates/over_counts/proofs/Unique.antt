@@ -6,7 +6,7 @@ use Prim.Native.Nat.{ℕ}
 use Rattle.rules.specs.declared.Action.{Action}
 use Rattle.rules.specs.declared.Pool.{Pool}
 use Rattle.file.specs.declared.Wrote.{Wrote}
-use Rattle.face_table.specs.declared.Rest.{Rest}
+use Rattle.face.specs.declared.Rest.{Rest}
 use Rattle.counts.specs.declared.Counted.{Counted}
 use Rattle.counts.specs.declared.After.{After}
 use Rattle.counts.specs.declared.Has.{Has}

@@ -1,4 +1,4 @@
--- What each public function promises of its reply, one predicate each, named as the function: its `ensures` cites it, and Unique says that one
+-- T-06: what each public function promises of its reply, one predicate each, named as the function: its `ensures` cites it, and Unique says that one
 -- reply meets it. Definitions only. Assumes nothing.
 use mathlib.Core.Path.{_≡_}
 use mathlib.Core.Bool.{Bool}
@@ -7,7 +7,7 @@ use Prim.Native.Nat.{ℕ}
 use Rattle.rules.specs.declared.Action.{Action}
 use Rattle.rules.specs.declared.Pool.{Pool}
 use Rattle.file.specs.declared.Wrote.{Wrote}
-use Rattle.face_table.specs.declared.Rest.{Rest}
+use Rattle.face.specs.declared.Rest.{Rest}
 use Rattle.counts.specs.declared.Counted.{Counted}
 use Rattle.counts.specs.declared.After.{After}
 use Rattle.counts.specs.declared.Has.{Has}

@@ -15,7 +15,7 @@ use counts::Counted;
 use counts::First;
 use counts::Has;
 use counts::Polled;
-use face_table::Rest;
+use face::Rest;
 use file::Wrote;
 use marks::Found;
 use rules::Action;

@@ -1,4 +1,4 @@
--- What each public function promises of its reply, one predicate each, named as the function: its `ensures` cites it, and Unique says that one
+-- T-13: what each public function promises of its reply, one predicate each, named as the function: its `ensures` cites it, and Unique says that one
 -- reply meets it. Definitions only. Assumes nothing.
 use mathlib.Core.Path.{_≡_}
 use Prim.Native.Nat.{ℕ}

@@ -9,7 +9,7 @@ ghost use Rattle.rules.specs.Plans.{isReady};
 ghost use Rattle.table_type.specs.Table.{ringOf, idsOf};
 ghost use Rattle.holder.specs.Holder.{coveredBy, copiesOf, heldAt, holdingIn};
 ghost use Rattle.over_holder.specs.Contract.{HeldBy, Number};
-use face_table::Rest;
+use face::Rest;
 use holder::Holding;
 use marks::Found;
 use rules::Answer;

@@ -14,7 +14,7 @@ use Rattle.marks.proofs.Bools.{opposed}
 use Rattle.rules.specs.declared.Pool.{Pool}
 use Rattle.table_type.specs.declared.Table.{Table}
 use Rattle.table.specs.Valid.{validOf}
-use Rattle.table.proofs.Sound.{sound, is-sound}
+use Rattle.table_laws.proofs.Sound.{sound, is-sound}
 use Rattle.file.proofs.File.{file-long}
 use Rattle.file.specs.Format.{totalOf, fileOf}
 use Rattle.file.specs.Held.{Held}

@@ -12,7 +12,7 @@ use Rattle.marks.proofs.Laws.{First, has-remove, lowest-found, lowest-none, has
 use Rattle.marks.specs.declared.Found.{Found}
 use Rattle.marks.specs.declared.Found.the-variants.{At, Nothing}
 use Rattle.rules.specs.Pick.{betterOf, best}
-use Rattle.rules.proofs.Best.{best-took, best-skip}
+use Rattle.rules_laws.proofs.Best.{best-took, best-skip}
 
 pub record Looked (ahead : ℕ → ℕ → Bool) (set : ℕ) (found : Found) (rest : ℕ) : Type 0 where
   pub fits : rest < 2 ^ 64

@@ -5,25 +5,17 @@ ghost use mathlib.Core.Bool.{true};
 ghost use mathlib.Core.List.{_++_};
 ghost use Prim.Native.Nat.{_≤_, _<_};
 ghost use Rattle.rules.specs.Mail.{fieldsOf, firstEqual};
-ghost use Rattle.rules.specs.Mail.{alike as alikeOf};
-ghost use Rattle.rules.specs.Actions.{joinWaits};
-ghost use Rattle.rules.specs.Actions.{waits as waitsOf};
-ghost use Rattle.rules.specs.Leave.{isProbeFrom, withoutProbes, replyWaits};
+ghost use Rattle.rules.specs.Mail.{alike as alikeOf, joinWaits, waits as waitsOf, isProbeFrom, withoutProbes, replyWaits};
 ghost use Rattle.rules.specs.Pool.{waiting, laid};
 ghost use Rattle.marks.specs.Marks.{without};
-ghost use Rattle.pool.specs.InnerSending.{leftOf, leftCount, placeOf, slotted, heldOf, heldWith, copyTo};
-ghost use Rattle.pool.specs.InnerSending.{newTo, newsOf, sendsOf, firstNew, roomOf};
-ghost use Rattle.pool.specs.InnerMix.{mixOf, bucketOf};
+ghost use Rattle.pool_laws.specs.InnerSending.{leftOf, leftCount, placeOf, slotted, heldOf, heldWith, copyTo};
+ghost use Rattle.pool_laws.specs.InnerSending.{newTo, newsOf, sendsOf, firstNew, roomOf};
+ghost use Rattle.pool_laws.specs.InnerMix.{mixOf, bucketOf};
 use marks::Found;
+use pool_laws::New;
 use rules::Message;
 use rules::Plan;
 use rules::Pool;
-
-// Which of a plan's messages are new: the slot of the first one if it is, and the slots to which the other is.
-pub struct New {
-    pub one: Found,
-    pub all: u64,
-}
 
 // A message's fields in a row, but for its hops.
 fn fields(m: Message) -> [u64; 9]

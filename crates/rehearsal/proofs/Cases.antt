@@ -10,25 +10,25 @@ use Rattle.ring.specs.Distance.{fallOf, leftCoverOf, rightCoverOf, coversKey}
 use Rattle.marks.specs.Marks.{has, tally, allTo, sizeOf, listed}
 use Rattle.rules.specs.declared.Action.the-variants.{Lookup, Take, Deliver}
 use Rattle.rules.specs.declared.Refusal.the-variants as no
-use Rattle.rules.specs.Actions.{waits, planLookup}
+use Rattle.rules.specs.Mail.{waits, alike, allDifferent, firstFrom, firstEqual, added, removedAt, sentTo}
+use Rattle.plan.specs.Actions.{planLookup}
 use Rattle.rules.specs.Fits.{numbersFit, idFits, sideFits, leafFits, othersFit, nodeFits, isBlank, slotFits}
 use Rattle.rules.specs.Fits.{wordFits, flagFits, carriedFits, ownerFits, routingFits, failedFits, fieldsFit, messageFits, fartherThan, hopsFit}
 use Rattle.rules.specs.Leaf.{seenFrom, coversOf}
-use Rattle.rules.specs.Mail.{alike, allDifferent, firstFrom, firstEqual, added, removedAt, sentTo}
 use Rattle.rules.specs.Pick.{best}
 use Rattle.rules.specs.Plans.{mailed}
 use Rattle.rules.specs.Pool.{laid}
-use Rattle.rules.specs.Take.{planDeliver, planTake}
+use Rattle.take.specs.Take.{planDeliver, planTake}
 use Rattle.table_type.specs.declared.Stepped.{Stepped}
 use Rattle.table_type.specs.declared.Table.{Table}
 use Rattle.table_type.specs.Start.{noTable}
 use Rattle.table.specs.Settle.{carriedOut, settle, doneOf, refusedOf}
-use Rattle.table.specs.Step.{isSound, stepOf}
+use Rattle.step.specs.Step.{isSound, stepOf}
 use Rattle.table.specs.Valid.{nodesFit, messagesFit, poolFits, validOf}
 use Rattle.words.specs.Bytes.{bytesOf, numberOf, encode, decode, encodeAll, decodeAll}
 use Rattle.file.specs.Format.{fileOf}
 use Rattle.file.specs.Load.{headerFits, offsetsFit, statusesFit, fileTable, partPool, filePool, loadOf}
-use Rattle.face_file.specs.Calls.{loadedOf}
+use Rattle.face.specs.Calls.{loadedOf}
 use Rattle.rehearsal.specs.declared.Checker.{Checker}
 use Rattle.rehearsal.specs.declared.Verdict.the-variants.{Accepted, Bad}
 use Rattle.rehearsal.specs.declared.Reply.the-variants.{LookedAt, Over}

@@ -11,7 +11,7 @@ use Rattle.marks.proofs.Bools.{lt-or-le}
 use Rattle.rules.specs.declared.Action.{Action}
 use Rattle.rules.specs.declared.Pool.{Pool}
 use Rattle.table_type.specs.declared.Table.{Table}
-use Rattle.table.specs.Step.{stepOf}
+use Rattle.step.specs.Step.{stepOf}
 use Rattle.rehearsal.specs.declared.Verdict.{Verdict}
 use Rattle.rehearsal.specs.declared.Verdict.the-variants.{Accepted, Bad}
 use Rattle.rehearsal.specs.declared.Checker.{Checker}

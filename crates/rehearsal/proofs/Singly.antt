@@ -17,13 +17,12 @@ use Rattle.table_type.specs.declared.Table.{Table}
 use Rattle.table_type.specs.declared.Stepped.{Stepped}
 use Rattle.table.specs.Settle.{doneOf}
 use Rattle.table_type.specs.Start.{noTable}
-use Rattle.table.proofs.Proved.{keeps-valid}
+use Rattle.table_laws.proofs.Proved.{keeps-valid}
 use Rattle.file.specs.Held.{Held}
 use Rattle.file.proofs.Exactly.{load-makes}
 use Rattle.file.proofs.Theorems.{load-of-file}
-use Rattle.face_table.proofs.Laid.{step-neat}
-use Rattle.face_file.proofs.Kept.{not-done}
-use Rattle.face_file.specs.Calls.{loadedOf, nextOf}
+use Rattle.face.proofs.Laid.{step-neat, not-done}
+use Rattle.face.specs.Calls.{loadedOf, nextOf}
 use Rattle.rehearsal.specs.declared.Verdict.the-variants.{Accepted, Bad}
 use Rattle.rehearsal.specs.declared.Checker.{Checker}
 use Rattle.rehearsal.specs.Rehearsal.{Claim, mostSteps, verdictFrom, verdictOf, beginOf}

@@ -13,8 +13,8 @@ use Rattle.rules.specs.declared.Answer.{Answer}
 use Rattle.rules.specs.declared.Answer.the-variants.{Done, Refused}
 use Rattle.rules.specs.declared.Pool.{Pool}
 use Rattle.table_type.specs.declared.Table.{Table}
-use Rattle.face_file.proofs.Kept.{not-done}
-use Rattle.face_file.specs.Calls.{loadedOf}
+use Rattle.face.proofs.Laid.{not-done}
+use Rattle.face.specs.Calls.{loadedOf}
 use Rattle.rehearsal.specs.declared.Verdict.the-variants.{Accepted, Bad}
 use Rattle.rehearsal.specs.Rehearsal.{Claim, verdictFrom, verdictOf}
 use Rattle.rehearsal.specs.Claims.{Loads, made, Agrees, Holds, AcceptedExactly, FirstBadAt, FirstBad, StartBad}

@@ -1,4 +1,4 @@
--- Change request T-09, sentence by sentence. Only statements: the proofs are in Proved. Assumes nothing: Held is what the machine's types
+-- T-09: sentence by sentence. Only statements: the proofs are in Proved. Assumes nothing: Held is what the machine's types
 -- hold of every value.
 use mathlib.Core.Path.{_≡_}
 use mathlib.Core.List.{List, [], _∷_}
@@ -11,10 +11,10 @@ use Rattle.rules.specs.declared.Pool.{Pool}
 use Rattle.table_type.specs.declared.Table.{Table}
 use Rattle.table_type.specs.declared.Stepped.{Stepped}
 use Rattle.table.specs.Settle.{doneOf}
-use Rattle.table.specs.Step.{stepOf}
+use Rattle.step.specs.Step.{stepOf}
 use Rattle.file.specs.Format.{fileOf}
 use Rattle.file.specs.Held.{Held}
-use Rattle.face_file.specs.Calls.{loadedOf, nextOf}
+use Rattle.face.specs.Calls.{loadedOf, nextOf}
 use Rattle.rehearsal.specs.declared.Verdict.{Verdict}
 use Rattle.rehearsal.specs.declared.Verdict.the-variants.{Accepted, Bad}
 use Rattle.rehearsal.specs.declared.Checker.{Checker}
@@ -43,8 +43,7 @@ Holds t p (c ∷ cs) = Agrees t p c × Holds (made t p c .table) (made t p c .po
 -- a rehearsal is accepted exactly if the start loads and every action, made on the previous table, is done and gives precisely the
 -- stated file; said of any number of steps, of which the checker looks at 1,000 at most
 abbrev pub AcceptedExactly : Type 0
-AcceptedExactly =
-    (start : List ℕ) (cs : List Claim)
+AcceptedExactly = (start : List ℕ) (cs : List Claim)
     → (verdictOf start cs ≡ Accepted) ↔ (Loads start × Holds (loadedOf start .table) (loadedOf start .pool) cs)
 
 -- the claim after the first k is the first bad one: there is one, those before it hold, and with it they do not
@@ -55,8 +54,7 @@ pub record FirstBadAt (t : Table) (p : Pool) (cs : List Claim) (k : ℕ) : Type 
 
 -- otherwise the number of the first bad step, from 1
 abbrev pub FirstBad : Type 0
-FirstBad =
-    (start : List ℕ) (cs : List Claim) (k : ℕ)
+FirstBad = (start : List ℕ) (cs : List Claim) (k : ℕ)
     → (verdictOf start cs ≡ Bad (suc k)) ↔ (Loads start × FirstBadAt (loadedOf start .table) (loadedOf start .pool) cs k)
 
 -- or 0 for the start
@@ -96,20 +94,17 @@ answered start cs x = replyNumber (handedOf (checkerOf start cs) (x .action) (x 
 
 -- 12 for a further step after an end or beyond 1,000
 abbrev pub OverExactly : Type 0
-OverExactly =
-    (start : List ℕ) (cs : List Claim) (x : Claim)
+OverExactly = (start : List ℕ) (cs : List Claim) (x : Claim)
     → (answered start cs x ≡ 12) ↔ (Ended (checkerOf start cs .verdict) ⊎ (1000 ≤ length cs))
 
 -- 0 for every other
 abbrev pub LookedAtExactly : Type 0
-LookedAtExactly =
-    (start : List ℕ) (cs : List Claim) (x : Claim)
+LookedAtExactly = (start : List ℕ) (cs : List Claim) (x : Claim)
     → (answered start cs x ≡ 0) ↔ ((checkerOf start cs .verdict ≡ Accepted) × (length cs < 1000))
 
 -- so of every checker, whatever it holds and however it came about
 abbrev pub OverAlways : Type 0
-OverAlways =
-    (c : Checker) (a : Action) (file : List ℕ)
+OverAlways = (c : Checker) (a : Action) (file : List ℕ)
     → (replyNumber (handedOf c a file .reply) ≡ 12) ↔ (Ended (c .verdict) ⊎ (1000 ≤ c .steps))
 
 -- the checker's state is unchanged
@@ -123,15 +118,13 @@ lastFile file (c ∷ cs) = lastFile (c .file) cs
 
 -- the previous table: between two steps the checker holds one, which is precisely what the file stated last holds
 abbrev pub LastTable : Type 0
-LastTable =
-    (start : List ℕ) (cs : List Claim) → length cs ≤ 1000
+LastTable = (start : List ℕ) (cs : List Claim) → length cs ≤ 1000
     → let c : Checker = checkerOf start cs in
     c .verdict ≡ Accepted → Held (c .table) (c .pool) → loadedOf (lastFile start cs) ≡ doneOf (c .table) (c .pool)
 
 -- so the next action is made on the file stated last
 abbrev pub OnLastFile : Type 0
-OnLastFile =
-    (start : List ℕ) (cs : List Claim) → length cs ≤ 1000
+OnLastFile = (start : List ℕ) (cs : List Claim) → length cs ≤ 1000
     → let c : Checker = checkerOf start cs in
     c .verdict ≡ Accepted → Held (c .table) (c .pool)
     → (a : Action) → stepOf (c .table) (c .pool) 256 a ≡ nextOf (loadedOf (lastFile start cs)) a

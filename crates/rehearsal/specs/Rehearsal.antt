@@ -1,4 +1,4 @@
--- Change request T-09: a contractor's rehearsal, and the checker to which it is handed over singly. Definitions only, each under the request's words.
+-- T-09: a contractor's rehearsal, and the checker to which it is handed over singly. Definitions only, each under the request's words.
 -- Assumes nothing.
 use mathlib.Core.Bool.{Bool, true, false, cond, _&&_}
 use mathlib.Core.List.{List, [], _∷_}
@@ -10,9 +10,9 @@ use Rattle.rules.specs.declared.Answer.the-variants.{Done, Refused}
 use Rattle.rules.specs.declared.Pool.{Pool}
 use Rattle.table_type.specs.declared.Table.{Table}
 use Rattle.table_type.specs.declared.Stepped.{Stepped}
-use Rattle.table.specs.Step.{stepOf}
+use Rattle.step.specs.Step.{stepOf}
 use Rattle.file.specs.Format.{fileOf}
-use Rattle.face_file.specs.Calls.{loadedOf}
+use Rattle.face.specs.Calls.{loadedOf}
 use Rattle.rehearsal.specs.declared.Verdict.{Verdict}
 use Rattle.rehearsal.specs.declared.Verdict.the-variants.{Accepted, Bad}
 use Rattle.rehearsal.specs.declared.Checker.{Checker}
@@ -87,8 +87,7 @@ checkedOf c s file =
 
 -- 12 for a further step after an end or beyond 1,000; the checker's state is unchanged
 unfoldable pub handedOf : Checker → Action → List ℕ → Handed
-handedOf c a file =
-    cond (isOpen (c .verdict) (c .steps))
+handedOf c a file = cond (isOpen (c .verdict) (c .steps))
     (record { reply = LookedAt; checker = checkedOf c (stepOf (c .table) (c .pool) 256 a) file })
     (record { reply = Over; checker = c })
 

@@ -1,7 +1,7 @@
 -- Next hops computed by the checker, beside those of Cases: who is a candidate in each branch, the tie, no legal route, and where the hop
 -- came from. Assumes nothing.
 use mathlib.Core.Path.{_≡_, refl}
-use mathlib.Core.Bool.{Bool, true, false}
+use mathlib.Core.Bool.{true, false}
 use mathlib.Core.List.{List, [], _∷_}
 use Prim.Native.Nat.{ℕ}
 use Rattle.rules.specs.declared.Status.the-variants.{Ready}

@@ -1,6 +1,6 @@
 -- Leaf sets computed by the checker: content, neighbours, ends, adding, overlap, complete, empty, cover. Assumes nothing.
 use mathlib.Core.Path.{_≡_, refl}
-use mathlib.Core.Bool.{Bool, true, false}
+use mathlib.Core.Bool.{true, false}
 use mathlib.Core.List.{List, [], _∷_}
 use Prim.Native.Nat.{ℕ}
 use Rattle.marks.specs.Marks.{gather}

@@ -1,7 +1,7 @@
 -- The waiting messages computed by the checker: which are equal, which is the first equal, adding, removing, sending, and the places. Assumes nothing.
 use mathlib.Core.Path.{_≡_, refl}
-use mathlib.Core.Bool.{Bool, true, false}
-use mathlib.Core.List.{List, [], _∷_}
+use mathlib.Core.Bool.{true, false}
+use mathlib.Core.List.{[], _∷_}
 use Prim.Native.Nat.{ℕ}
 use lib.ListN.{length, getD}
 use Rattle.marks.specs.declared.Found.{Found}

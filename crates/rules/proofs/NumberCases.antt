@@ -1,4 +1,4 @@
--- 01's limits and numbers, T-01's letters, and the fields of each message, one by one. Assumes nothing.
+-- 01's limits and numbers, the tests of a status, T-01's letters, and the fields of each message, one by one. Assumes nothing.
 use mathlib.Core.Path.{_≡_, refl}
 use mathlib.Core.List.{List, [], _∷_}
 use Prim.Native.Nat.{ℕ}
@@ -13,6 +13,9 @@ use Rattle.rules.specs.Numbers.{statusNumber, answerNumber, viaNumber}
 use Rattle.rules.specs.Nodes.{placed}
 use Rattle.rules.specs.Letters.{lookup, lookupAfter, joinRequest, joinReply, lsProbe, lsProbeReply, noLegalRoute, leaseRequest, broadcastLSet}
 use Rattle.rules.proofs.Small.{sides}
+use mathlib.Core.Bool.{Bool, true, false}
+use Rattle.rules.specs.declared.Status.{Status}
+use Rattle.rules.specs.Plans.{isDead, isWait, isOk, isReady, isUp}
 
 pub record Numbers : Type 0 where
   -- M from 2 to 32, L from 1 to 8, n to 64 nodes, at most 256 messages
@@ -107,3 +110,18 @@ letters =
       all-kept = refl;
       flag-kept = refl;
     }
+
+-- a test at each status: dead, wait, ok, ready
+abbrev atAll : (Status → Bool) → List Bool
+atAll f = f status.Dead ∷ f status.Wait ∷ f status.Ok ∷ f status.Ready ∷ []
+
+pub record Tests : Type 0 where
+  pub dead : atAll isDead ≡ true ∷ false ∷ false ∷ false ∷ []
+  pub wait : atAll isWait ≡ false ∷ true ∷ false ∷ false ∷ []
+  pub ok : atAll isOk ≡ false ∷ false ∷ true ∷ false ∷ []
+  pub ready : atAll isReady ≡ false ∷ false ∷ false ∷ true ∷ []
+  -- ok or ready
+  pub up : atAll isUp ≡ false ∷ false ∷ true ∷ true ∷ []
+
+pub tests : Tests
+tests = record { dead = refl; wait = refl; ok = refl; ready = refl; up = refl }

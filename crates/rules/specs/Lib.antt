@@ -1,3 +1,4 @@
+pub mod Names
 pub mod Limits
 pub mod Numbers
 pub mod Pick
@@ -10,8 +11,5 @@ pub mod Mail
 pub mod Fits
 pub mod Letters
 pub mod Plans
-pub mod Actions
-pub mod Take
-pub mod Leave
 pub mod InnerAsks
 pub mod InnerSteps

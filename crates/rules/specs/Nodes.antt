@@ -1,5 +1,5 @@
 -- Nodes and messages as they stand in slots. Assumes nothing.
-use Prim.Native.Nat.{ℕ}
+use Rattle.rules.specs.Names.{Slot}
 use Rattle.rules.specs.declared.Status.the-variants as status
 use Rattle.rules.specs.declared.Node.{Node}
 use Rattle.rules.specs.declared.Sides.{Sides}
@@ -16,17 +16,6 @@ abbrev pub carriedOf : Message → Sides
 carriedOf m = record { left = m .left; right = m .right }
 
 -- the same message for another destination
-abbrev pub placed : Message → ℕ → Message
-placed m s =
-    record {
-      kind = m .kind;
-      dest = s;
-      word = m .word;
-      flag = m .flag;
-      owner = m .owner;
-      hops = m .hops;
-      routing = m .routing;
-      left = m .left;
-      right = m .right;
-      failed = m .failed;
-    }
+abbrev pub placed : Message → Slot → Message
+placed m s = record
+    { kind = m .kind; dest = s; word = m .word; flag = m .flag; owner = m .owner; hops = m .hops; routing = m .routing; left = m .left; right = m .right; failed = m .failed }

@@ -9,12 +9,16 @@ use Rattle.rules.specs.declared.Answer.the-variants.{Done, Refused}
 use Rattle.rules.specs.declared.Via.{Via}
 use Rattle.rules.specs.declared.Via.the-variants as via
 
+-- one of four, for dead, wait, ok and ready
+abbrev pub byStatus : {A : Type 0} → A → A → A → A → Status → A
+byStatus dead wait ok ready status.Dead = dead
+byStatus dead wait ok ready status.Wait = wait
+byStatus dead wait ok ready status.Ok = ok
+byStatus dead wait ok ready status.Ready = ready
+
 -- status (0 dead, 1 wait, 2 ok, 3 ready)
 abbrev pub statusNumber : Status → ℕ
-statusNumber status.Dead = 0
-statusNumber status.Wait = 1
-statusNumber status.Ok = 2
-statusNumber status.Ready = 3
+statusNumber s = byStatus 0 1 2 3 s
 
 -- 1 slot, place or key out of range; 2 status forbids it; 3 the same request already waits; 4 leaf set empty, not empty or incomplete, as named;
 -- 5 sender or partner not allowed; 6 the pool after the step would exceed 256; 7 file shorter than 32 bytes;
@@ -38,7 +42,7 @@ abbrev pub answerNumber : Answer → ℕ
 answerNumber Done = 0
 answerNumber (Refused why) = refusalNumber why
 
--- one letter for each routing, `l` or `r`; 0 where there is none
+-- T-01: one letter for each routing, `l` or `r`; 0 where there is none
 abbrev pub viaNumber : Via → ℕ
 viaNumber via.Unrouted = 0
 viaNumber via.Leaf = 108

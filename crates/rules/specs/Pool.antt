@@ -1,7 +1,8 @@
 -- The pool as its list of waiting messages, oldest first, and the messages that stand in it. Assumes nothing.
 use mathlib.Core.List.{List, _++_}
-use Prim.Native.Nat.{ℕ, _-_}
+use Prim.Native.Nat.{_-_}
 use lib.ListN.{getD, take, length, replicate}
+use Rattle.rules.specs.Names.{Place}
 use Rattle.rules.specs.declared.Message.{Message}
 use Rattle.rules.specs.declared.Pool.{Pool}
 
@@ -9,7 +10,7 @@ use Rattle.rules.specs.declared.Pool.{Pool}
 abbrev pub blank : Message
 blank = record { kind = 0; dest = 0; word = 0; flag = 0; owner = 0; hops = 0; routing = 0; left = 0; right = 0; failed = 0 }
 
-abbrev pub messageAt : Pool → ℕ → Message
+abbrev pub messageAt : Pool → Place → Message
 messageAt p place = getD (p .places) place blank
 
 -- the messages that wait; places past the count are no part of the table

@@ -10,11 +10,11 @@ use lib.Dec.{ltb}
 use lib.ListN.{length, take, drop, length-drop}
 use lib.Seq.{take-all}
 use Rattle.words.specs.Bytes.{bytesOf}
-use Rattle.face_table.specs.declared.Rest.{Rest}
+use Rattle.face.specs.declared.Rest.{Rest}
 use Rattle.counts.specs.declared.First.{First}
 use Rattle.rehearsal.specs.declared.Verdict.{Verdict}
 use Rattle.file.specs.declared.Wrote.{Wrote}
-use Rattle.face_file.specs.Calls.{begunOf, wroteBy, leftBy}
+use Rattle.face.specs.Calls.{begunOf, wroteBy, leftBy}
 use Rattle.face_c.specs.Words.{askedOf, stepWord, viaWord, stepLeft}
 use Rattle.run_driver.specs.declared.told.Reply.{Reply}
 use Rattle.run_driver.specs.declared.told.Led.{Led}

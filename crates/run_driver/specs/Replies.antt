@@ -1,4 +1,4 @@
--- A reply: a number, and the bytes of a result, which stand first in a buffer. Definitions only, each under docs/DRIVER.md's words. Assumes nothing.
+-- Beside 01: a reply: a number, and the bytes of a result, which stand first in a buffer. Definitions only, each under docs/DRIVER.md's words. Assumes nothing.
 use mathlib.Core.Path.{_≡_}
 use mathlib.Core.Bool.{cond}
 use mathlib.Core.List.{List, [], _∷_, _++_}
@@ -8,8 +8,8 @@ use lib.ListN.{length, drop}
 use Rattle.words.specs.Bytes.{bytesOf}
 use Rattle.rules.specs.Numbers.{refusalNumber, answerNumber}
 use Rattle.file.specs.declared.Wrote.{Wrote}
-use Rattle.face_table.specs.declared.Rest.{Rest}
-use Rattle.face_table.specs.declared.Rest.the-variants.{Settled, Unsettled, NotAsked}
+use Rattle.face.specs.declared.Rest.{Rest}
+use Rattle.face.specs.declared.Rest.the-variants.{Settled, Unsettled, NotAsked}
 use Rattle.counts.specs.declared.First.{First}
 use Rattle.counts.specs.declared.First.the-variants as first
 use Rattle.rehearsal.specs.declared.Verdict.{Verdict}
@@ -61,8 +61,7 @@ ledIn x = record { reply = record { number = x % 4294967296; count = x / 4294967
 
 -- the bytes of a result, where there is room for them
 unfoldable pub result : List ℕ → List ℕ → Said
-result bs out =
-    cond (ltb (length out) (length bs)) (noResult 11 out)
+result bs out = cond (ltb (length out) (length bs)) (noResult 11 out)
     (record { reply = record { number = 0; count = length bs }; left = bs ++ drop (length bs) out })
 
 -- one byte, 0 or 1

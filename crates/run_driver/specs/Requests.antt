@@ -1,4 +1,4 @@
--- What a request says: its kind, its arguments, and what is made of them. Definitions only, each under docs/DRIVER.md's words. Assumes nothing.
+-- Beside 01: what a request says: its kind, its arguments, and what is made of them. Definitions only, each under docs/DRIVER.md's words. Assumes nothing.
 use mathlib.Core.Bool.{cond}
 use mathlib.Core.List.{List}
 use Prim.Native.Nat.{ℕ, _-_, _/_}

@@ -1,7 +1,7 @@
 // Requests of one table file: load, step, start, settled and list, and the step with its letter.
 ghost use Prim.Native.Nat.{_≤_};
 ghost use lib.ListN.{length, take};
-ghost use Rattle.face_file.specs.Calls.{begunOf};
+ghost use Rattle.face.specs.Calls.{begunOf};
 ghost use Rattle.run_driver.specs.Requests.{wordAt};
 ghost use Rattle.run_driver.specs.Replies.{Says, LeadsTo};
 ghost use Rattle.run_driver.specs.Kinds.{loadSaid, stepSaid, stepViaSaid, begunSaid, startSaid, settledSaid, listSaid};
@@ -47,7 +47,8 @@ pub fn make_step_via(rest: &[u8], out: &mut [u8]) -> Led
 // A start of the first n ids.
 fn start_of(rest: &[u8], ids: &[u32], n: usize, out: &mut [u8]) -> Reply
     requires { ⌜ (24 ≤ length (now rest)) × (n ≤ length (now ids)) ⌝ }
-    ensures { λ r. ⌜ Says (begunSaid (begunOf (wordAt 0 (now (rest .entry))) (wordAt 8 (now (rest .entry))) (wordAt 16 (now (rest .entry))) (take n (now (ids .entry)))) (now (out .entry))) r (now (out .exit)) ⌝ }
+    ensures { λ r. ⌜ Says (begunSaid (begunOf (wordAt 0 (now (rest .entry))) (wordAt 8 (now (rest .entry))) (wordAt 16 (now (rest .entry)))
+        (take n (now (ids .entry)))) (now (out .entry))) r (now (out .exit)) ⌝ }
 {
     let m = words::read64(rest, 0);
     let l = words::read64(rest, 8);

@@ -9,7 +9,7 @@ ghost use Rattle.words.specs.Bytes.{bytesOf};
 ghost use Rattle.run_driver.specs.Replies.{Says, numbered, noRequest, replyBy, replyIn, ledIn, result};
 ghost use Rattle.run_driver.specs.Replies.{restSaid, firstSaid, verdictSaid};
 use counts::First;
-use face_table::Rest;
+use face::Rest;
 use file::Wrote;
 use rehearsal::Verdict;
 use rules::Answer;

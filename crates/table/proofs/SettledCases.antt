@@ -11,7 +11,7 @@ use Rattle.rules.specs.declared.Node.{Node}
 use Rattle.rules.specs.Pick.{best}
 use Rattle.rules.specs.Leaf.{seenFrom}
 use Rattle.table_type.specs.declared.Table.{Table}
-use Rattle.table.specs.Settled.{readySet, deadSet, settledAt, isSettled}
+use Rattle.table.specs.Settled.{readySet, deadSet, settledAt, isSettled, okSet, someUp}
 
 -- a node by id, status, left, right and failed
 abbrev node : ℕ → Status → ℕ → ℕ → ℕ → Node
@@ -52,6 +52,9 @@ dead id = node id Dead 8 2 5
 pub record SettledCases : Type 0 where
   pub sets : (readySet (table (dead 17) (node 18 Wait 0 0 0) (node 65 Ok 0 0 0) d) ≡ 8)
       × (deadSet (table (dead 17) (node 18 Wait 0 0 0) (node 65 Ok 0 0 0) d) ≡ 1)
+  -- a node at all is ok or ready
+  pub some-up : (someUp (table (dead 17) (node 18 Wait 0 0 0) (node 65 Ok 0 0 0) (dead 95)) ≡ true) × (someUp (table (dead 17) (dead 18) (dead 65) d) ≡ true)
+      × (someUp (table (dead 17) (node 18 Wait 0 0 0) (dead 65) (dead 95)) ≡ false)
   pub all-ready : settled a b c d ≡ true
   -- the next ready ids, though others stand between
   pub two-ready : settled a2 (dead 18) c2 (dead 95) ≡ true
@@ -76,10 +79,11 @@ pub record SettledCases : Type 0 where
   pub failed-dead : settled (node 17 Ready 4 4 10) (dead 18) c2 (dead 95) ≡ true
 
 pub settled-cases : SettledCases
-unfolding fallOf has gather allTo meet removeOf best seenFrom readySet deadSet settledAt isSettled
+unfolding fallOf has gather allTo meet removeOf best seenFrom readySet deadSet okSet settledAt isSettled
 settled-cases =
     record {
       sets = (refl, refl);
+      some-up = (refl, refl, refl);
       all-ready = refl;
       two-ready = refl;
       a-dead-neighbour = refl;

@@ -70,12 +70,14 @@ pub record ValidCases : Type 0 where
   pub first-message : validOf (table 8 a b blanks) (laid (k 256 ∷ k 90 ∷ [])) ≡ false
   pub last-message : validOf (table 8 a b blanks) (laid (k 80 ∷ k 256 ∷ [])) ≡ false
   -- places past the count are not looked at
-  pub past-the-count : validOf (table 8 a b blanks) (record { count = 1; places = k 80 ∷ k 256 ∷ k 80 ∷ [] }) ≡ true
+  pub past-the-count : validOf (table 8 a b blanks) (record { count = 1; places = k 80 ∷ k 256 ∷ k1 10 ∷ k 80 ∷ [] }) ≡ true
   -- no two messages are equal
   pub equal : validOf (table 8 a b blanks) (laid (k 80 ∷ k 90 ∷ k 80 ∷ [])) ≡ false
   -- T-07: of the two ids, 17 is farther from 80 than 18; and from 10 none is. The ids are the table's own
   pub hops-met : validOf (table 8 a b blanks) (laid (k 90 ∷ k1 80 ∷ [])) ≡ true
   pub hops-past : validOf (table 8 a b blanks) (laid (k 90 ∷ k1 10 ∷ [])) ≡ false
+  -- every listed node counts, the dead too
+  pub hops-of-the-dead : validOf (table 8 (node 17 Dead 0 0) b blanks) (laid (k1 80 ∷ [])) ≡ true
   pub equal-but-for-hops : validOf (table 8 a b blanks) (laid (k 80 ∷ k 90 ∷ k1 80 ∷ [])) ≡ false
 
 pub valid-cases : ValidCases
@@ -96,6 +98,7 @@ valid-cases =
       equal = refl;
       hops-met = refl;
       hops-past = refl;
+      hops-of-the-dead = refl;
       equal-but-for-hops = refl;
     }
 
@@ -121,6 +124,11 @@ module _ (t : Table) (p : Pool) (ys : List Message) (i : ℕ) where
   pub refused : (why : Refusal) → settle t p ys i (No why) ≡ refusedOf t p why
   unfolding settle
   refused why = refl
+
+  -- all 256 places, those past the count too
+  pub kept : (why : Refusal) → (settle t p ys i (No why) .table ≡ t) × (settle t p ys i (No why) .pool ≡ p)
+  unfolding settle
+  kept why = (refl, refl)
 
   -- 6 if the pool after the step would exceed 256
   pub full : (x : Plan) → length (mailed x ys) ≡ 257 → settle t p ys i (Go x) ≡ refusedOf t p no.Full

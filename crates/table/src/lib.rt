@@ -1,1 +1,1 @@
-// Valid, settled and the step, as definitions (specs/), and their laws (proofs/). No code.
+// Valid, settled, and what is left when a plan is carried out, as definitions (specs/) with their cases (proofs/). No code.

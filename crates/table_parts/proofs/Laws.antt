@@ -9,9 +9,9 @@ use Rattle.rules.specs.declared.Plan.{Plan}
 use Rattle.rules.specs.declared.Refusal.the-variants as no
 use Rattle.rules.specs.Plans.{mailed}
 use Rattle.rules.specs.Pool.{waiting, laid}
-use Rattle.pool.specs.declared.New.{New}
-use Rattle.pool.proofs.NewOnes.{news-room}
-use Rattle.pool.specs.InnerSending.{leftOf, newsOf, roomOf}
+use Rattle.pool_laws.specs.declared.New.{New}
+use Rattle.pool_laws.proofs.NewOnes.{news-room}
+use Rattle.pool_laws.specs.InnerSending.{leftOf, newsOf, roomOf}
 use Rattle.table_type.specs.declared.Table.{Table}
 use Rattle.table_type.specs.Table.{withNode}
 use Rattle.table.specs.Settle.{refusedOf, doneBy, carriedOut}

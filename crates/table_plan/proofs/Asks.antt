@@ -18,23 +18,23 @@ use Rattle.rules.specs.declared.Planned.the-variants.{No, Go}
 use Rattle.rules.specs.declared.Pool.{Pool}
 use Rattle.rules.specs.declared.Refusal.the-variants as no
 use Rattle.rules.specs.declared.Status.the-variants as status
-use Rattle.rules.specs.Actions.{waits, joinWaits, planLookup, planJoin}
+use Rattle.rules.specs.Mail.{waits, joinWaits, removedAt}
+use Rattle.plan.specs.Actions.{planLookup, planJoin}
 use Rattle.rules.specs.Leaf.{isEmpty}
-use Rattle.rules.specs.Leave.{planProbeTimeOut}
+use Rattle.plan.specs.Leave.{planProbeTimeOut}
 use Rattle.rules.specs.Letters.{lookup, joinRequest}
-use Rattle.rules.specs.Mail.{removedAt}
 use Rattle.rules.specs.Nodes.{placed, sidesOf}
 use Rattle.rules.specs.Plans.{isDead, isReady, withStatus, sendPlan, mailed}
 use Rattle.rules.specs.Pool.{waiting}
-use Rattle.pool.specs.InnerSending.{leftOf, newsOf, firstNew}
-use Rattle.pool.proofs.Equal.{no-join-waits}
-use Rattle.pool.proofs.Fresh.{news-one}
-use Rattle.pool.proofs.Laws.{removed-none, waiting-short, mailed-quiet}
+use Rattle.pool_laws.specs.InnerSending.{leftOf, newsOf, firstNew}
+use Rattle.pool_laws.proofs.Equal.{no-join-waits}
+use Rattle.pool_laws.proofs.Fresh.{news-one}
+use Rattle.pool_laws.proofs.Laws.{removed-none, waiting-short, mailed-quiet}
 use Rattle.table_type.specs.declared.Table.{Table}
 use Rattle.table_type.specs.Table.{nodeAt}
-use Rattle.table.specs.Step.{requests, acts, takes, asked, plannedOf}
-use Rattle.table.proofs.By.{go-same, never-go}
-use Rattle.table.proofs.Comes.{go-comes, by-probe-time-out}
+use Rattle.step.specs.Step.{requests, acts, takes, asked, plannedOf}
+use Rattle.table_laws.proofs.By.{go-same, never-go}
+use Rattle.table_laws.proofs.Comes.{go-comes, by-probe-time-out}
 use Rattle.table_plan.specs.InnerAsked.{Asks, requestsOf, actsOf, timesOf, takesOf}
 
 pub nothing-gone : (p : Pool) → p .count ≤ 256 → removedAt (waiting p) 256 ≡ waiting p

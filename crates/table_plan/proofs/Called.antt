@@ -18,11 +18,11 @@ use Rattle.rules.specs.InnerAsks.{Listed}
 use Rattle.rules.specs.Pool.{messageAt}
 use Rattle.table_type.specs.declared.Table.{Table}
 use Rattle.table_type.specs.Table.{idsOf, ringOf}
-use Rattle.table.specs.Step.{one-goes, asked}
-use Rattle.table.proofs.By.{goes, slot-in-range}
-use Rattle.table.proofs.Obeys.{obeys}
-use Rattle.table.proofs.Hops.{within-low}
-use Rattle.table.proofs.Sound.{Sound, sound}
+use Rattle.step.specs.Step.{one-goes, asked}
+use Rattle.table_laws.proofs.By.{goes, slot-in-range}
+use Rattle.table_laws.proofs.Obeys.{obeys}
+use Rattle.table_laws.proofs.Hops.{within-low}
+use Rattle.table_laws.proofs.Sound.{Sound, sound}
 use Rattle.table_plan.specs.InnerAsked.{Called}
 
 module _ {t : Table} {p : Pool} {a : Action} (c : Called t p a) where

@@ -11,9 +11,9 @@ use Rattle.rules.specs.declared.Planned.the-variants.{Go}
 use Rattle.rules.specs.declared.Pool.{Pool}
 use Rattle.rules.specs.Plans.{mailed}
 use Rattle.rules.specs.Pool.{messageAt}
-use Rattle.pool.specs.InnerSending.{leftOf, newsOf, firstNew}
+use Rattle.pool_laws.specs.InnerSending.{leftOf, newsOf, firstNew}
 use Rattle.table_type.specs.declared.Table.{Table}
-use Rattle.table.specs.Step.{Gone, all-stay, one-goes, probes-go, asked, plannedOf}
+use Rattle.step.specs.Step.{Gone, all-stay, one-goes, probes-go, asked, plannedOf}
 use Rattle.table.specs.Valid.{validOf}
 use Rattle.table_plan.specs.declared.Asking.{Asking}
 

@@ -4,16 +4,15 @@ ghost use mathlib.Core.Path.{_≡_};
 ghost use mathlib.Core.Bool.{true};
 ghost use Prim.Native.Nat.{_^_, _<_, _≤_};
 ghost use Rattle.rules.specs.declared.Pool.{Pool};
-ghost use Rattle.rules.specs.Actions.{planLookup, planJoin, planRequestLease, planLeaseExpired, planGrantExpired};
+ghost use Rattle.plan.specs.Actions.{planLookup, planJoin, planRequestLease, planLeaseExpired, planGrantExpired};
 ghost use Rattle.rules.specs.InnerAsks.{Listed};
 ghost use Rattle.rules.specs.Fits.{messageFits};
-ghost use Rattle.rules.specs.Leave.{planNodeLeft, planSuspectFaulty, planProbeTimeOut, planDeclareDead, planLSRepair, planResignNode, planRecover};
-ghost use Rattle.rules.specs.Take.{planTake};
+ghost use Rattle.plan.specs.Leave.{planNodeLeft, planSuspectFaulty, planProbeTimeOut, planDeclareDead, planLSRepair, planResignNode, planRecover};
+ghost use Rattle.take.specs.Take.{planTake};
 ghost use Rattle.table_type.specs.declared.Table.{Table};
 ghost use Rattle.table_type.specs.Table.{idsOf, nodeAt, ringOf};
-ghost use Rattle.table.specs.Step.{takenOf, deliveredOf, forwardedOf};
+ghost use Rattle.step.specs.Step.{takenOf, deliveredOf, forwardedOf, asked as askedOf};
 ghost use Rattle.table.specs.Settled.{someUp};
-ghost use Rattle.table.specs.Step.{asked as askedOf};
 ghost use Rattle.table_plan.specs.InnerAsked.{Called, Read, Asks, requestsOf, actsOf, timesOf, takesOf, slotWith};
 use rules::Action;
 use rules::Message;
@@ -83,7 +82,16 @@ fn plan_of_forward(t: Table, m: Message) -> Planned
     let v = table_type::node_at(t, i);
     let ids = table_type::ids(t);
     let dead = table_settled::dead_set(t);
-    plan_route::plan_forward(m.kind, table_type::ring_of(t), &ids, dead, i, v, m.word, m.hops)
+    plan_route::plan_forward(
+        m.kind,
+        table_type::ring_of(t),
+        &ids,
+        dead,
+        i,
+        v,
+        m.word,
+        m.hops,
+    )
 }
 
 fn plan_of_lookup(t: Table, there: bool, i: usize, k: u64) -> Planned

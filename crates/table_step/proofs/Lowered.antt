@@ -9,7 +9,7 @@ use Rattle.marks.proofs.Bools.{bool-false}
 use Rattle.rules.specs.declared.Pool.{Pool}
 use Rattle.table_type.specs.declared.Table.{Table}
 use Rattle.table.specs.Valid.{validOf}
-use Rattle.table.proofs.Sound.{sound}
+use Rattle.table_laws.proofs.Sound.{sound}
 use Rattle.table_step.specs.InnerLowered.{atMost}
 
 abbrev pub loweredTable : Table → Table

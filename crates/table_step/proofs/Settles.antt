@@ -20,23 +20,23 @@ use Rattle.rules.specs.declared.Planned.the-variants.{No, Go}
 use Rattle.rules.specs.declared.Pool.{Pool}
 use Rattle.rules.specs.declared.Refusal.{Refusal}
 use Rattle.rules.specs.declared.Refusal.the-variants as no
-use Rattle.rules.specs.Leave.{withoutProbes}
+use Rattle.rules.specs.Mail.{withoutProbes}
 use Rattle.rules.specs.Plans.{mailed}
 use Rattle.rules.specs.Pool.{messageAt, waiting, laid}
-use Rattle.pool.specs.InnerSending.{leftOf, newsOf, sendsOf, firstNew, slotted}
-use Rattle.pool.proofs.Fresh.{news-quiet}
-use Rattle.pool.proofs.Laws.{waiting-short}
-use Rattle.pool.proofs.Probes.{left-short}
+use Rattle.pool_laws.specs.InnerSending.{leftOf, newsOf, sendsOf, firstNew, slotted}
+use Rattle.pool_laws.proofs.Fresh.{news-quiet}
+use Rattle.pool_laws.proofs.Laws.{waiting-short}
+use Rattle.pool_laws.proofs.Probes.{left-short}
 use Rattle.table_type.specs.declared.Table.{Table}
 use Rattle.table_type.specs.Table.{withNode}
 use Rattle.table.specs.Settle.{refusedOf, doneBy, carriedOut, settle}
-use Rattle.table.specs.Step.{Gone, all-stay, one-goes, probes-go, asked, remaining, plannedOf, isSound, stepOf}
+use Rattle.step.specs.Step.{Gone, all-stay, one-goes, probes-go, asked, remaining, plannedOf, isSound, stepOf}
 use Rattle.table.specs.Valid.{validOf}
-use Rattle.table.proofs.By.{goes}
-use Rattle.table.proofs.Comes.{go-comes}
-use Rattle.table.proofs.Obeys.{obeys}
-use Rattle.table.proofs.Proved.{planned-fine}
-use Rattle.table.proofs.Sound.{is-valid}
+use Rattle.table_laws.proofs.By.{goes}
+use Rattle.table_laws.proofs.Comes.{go-comes}
+use Rattle.table_laws.proofs.Obeys.{obeys}
+use Rattle.table_laws.proofs.Proved.{planned-fine}
+use Rattle.table_laws.proofs.Sound.{is-valid}
 use Rattle.table_parts.specs.InnerAnswers.{whyOf}
 use Rattle.table_plan.specs.declared.Asking.{Asking}
 use Rattle.table_plan.specs.InnerAsked.{Called, Read, Asks, goneAt, isOne, areProbes, slotWith}

@@ -1,6 +1,6 @@
 // The step: an action on a table and a pool by value. What the action asks of its node is planned first, reading only; then the plan is carried out in place.
 ghost use mathlib.Core.Path.{_≡_};
-ghost use Rattle.table.specs.Step.{stepOf};
+ghost use Rattle.step.specs.Step.{stepOf};
 ghost use Rattle.table_step.specs.InnerLowered.{atMost};
 use marks::Found;
 use rules::Action;

@@ -14,7 +14,8 @@ use Rattle.rules.specs.Nodes.{noNode}
 use Rattle.rules.specs.Numbers.{answerNumber}
 use Rattle.table_type.specs.declared.Table.{Table}
 use Rattle.table_type.specs.Table.{nodeAt, withNode, idsOf, ringOf}
-use Rattle.table_type.specs.Start.{slotIds, slotsTo, startNode, startNodes, startFits, idsRise, listFits, startOf}
+use Rattle.start.specs.Start.{slotIds, slotsTo, startNode, startNodes, startFits, idsRise, listFits}
+use Rattle.table_type.specs.Start.{startOf}
 
 abbrev worked : List ℕ
 worked = 17 ∷ 18 ∷ 65 ∷ 95 ∷ []

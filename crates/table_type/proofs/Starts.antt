@@ -22,7 +22,8 @@ use Rattle.rules.specs.Nodes.{noNode}
 use Rattle.rules.specs.Pick.{idAt}
 use Rattle.rules.specs.declared.Refusal.the-variants as no
 use Rattle.rules.specs.declared.Answer.the-variants.{Done}
-use Rattle.table_type.specs.Start.{slotIds, slotsTo, startNode, startNodes, startFits, idsRise, listFits, startTable, notStarted, startOf, idRises}
+use Rattle.start.specs.Start.{slotIds, slotsTo, startNode, startNodes, startFits, idsRise, listFits, idRises}
+use Rattle.table_type.specs.Start.{startTable, notStarted, startOf}
 
 -- ---- the ids in their slots
 

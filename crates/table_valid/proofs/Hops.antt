@@ -19,8 +19,8 @@ use Rattle.rules.specs.InnerAsks.{Inside, Listed}
 use Rattle.rules.specs.InnerSteps.{stepsOf}
 use Rattle.rules.specs.Pick.{idAt}
 use Rattle.rules.specs.Fits.{wordFits, fieldsFit, messageFits, fartherThan, hopsFit}
-use Rattle.rules.proofs.Steps.{steps-self, ids-inj}
-use Rattle.rules.proofs.Capped.{farther-up, farther-down, farther-low}
+use Rattle.rules_laws.proofs.Steps.{steps-self, ids-inj}
+use Rattle.rules_laws.proofs.Capped.{farther-up, farther-down, farther-low}
 
 not-leb : (x y : ℕ) → not (leb x y) ≡ ltb y x
 not-leb x y = go (lt-or-le y x)

@@ -20,7 +20,7 @@ use Rattle.table_type.specs.declared.Table.{Table}
 use Rattle.table_type.specs.Table.{nodeAt, idsOf, ringOf}
 use Rattle.table_type.proofs.IdLaws.{ids-at}
 use Rattle.table.specs.Valid.{nodesFit, messagesFit, poolFits, validOf}
-use Rattle.table.proofs.Sound.{sound}
+use Rattle.table_laws.proofs.Sound.{sound}
 
 unfoldable pub lowAt : List ℕ → ℕ → ℕ
 lowAt ids zero = 0

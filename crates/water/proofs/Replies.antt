@@ -12,7 +12,7 @@ use Rattle.marks.proofs.Bools.{bool-cases, opposed}
 use Rattle.rules.specs.declared.Pool.{Pool}
 use Rattle.table_type.specs.declared.Table.{Table}
 use Rattle.table.specs.Settled.{isSettled}
-use Rattle.table.specs.Step.{isSound}
+use Rattle.step.specs.Step.{isSound}
 use Rattle.holder.specs.declared.Holding.{Holding}
 use Rattle.holder.specs.declared.Holding.the-variants as held
 use Rattle.holder.specs.Holder.{holdingOf}

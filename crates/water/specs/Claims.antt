@@ -1,14 +1,15 @@
--- Change request T-13, sentence by sentence, in plain equations. Only statements: the proofs are named in Proved. Assumes nothing.
+-- T-13: sentence by sentence, in plain equations. Only statements: the proofs are named in Proved. Assumes nothing.
 use mathlib.Core.Path.{_≡_}
 use mathlib.Core.Bool.{true, false}
 use mathlib.Core.List.{List, _∷_, _++_, map}
 use mathlib.Core.Logic.{_⊎_, _↔_}
 use Prim.Native.Nat.{ℕ, _^_, _<_, _≤_}
 use lib.ListN.{length, getD}
+use Rattle.rules.specs.Names.{Marks, Key}
 use Rattle.rules.specs.declared.Pool.{Pool}
 use Rattle.table_type.specs.declared.Table.{Table}
 use Rattle.table.specs.Settled.{isSettled}
-use Rattle.table.specs.Step.{isSound}
+use Rattle.step.specs.Step.{isSound}
 use Rattle.holder.specs.Claims.{Holds, Copies}
 use Rattle.water.specs.declared.Record.{Record}
 use Rattle.water.specs.declared.Held.{Held}
@@ -54,32 +55,27 @@ InvalidExactly = (t : Table) (p : Pool) (len : ℕ) (s : Store) (r : Record) →
 
 -- 14 number out of range
 abbrev pub OutOfRangeExactly : Type 0
-OutOfRangeExactly =
-    (t : Table) (p : Pool) (len : ℕ) (s : Store) (r : Record)
+OutOfRangeExactly = (t : Table) (p : Pool) (len : ℕ) (s : Store) (r : Record)
     → (answered t p len s r ≡ 14) ↔ ((isSound t p len ≡ true) × (AllInRange t r → ⊥))
 
 -- 15 table not settled
 abbrev pub UnsettledExactly : Type 0
-UnsettledExactly =
-    (t : Table) (p : Pool) (len : ℕ) (s : Store) (r : Record)
+UnsettledExactly = (t : Table) (p : Pool) (len : ℕ) (s : Store) (r : Record)
     → (answered t p len s r ≡ 15) ↔ ((isSound t p len ≡ true) × AllInRange t r × (isSettled t ≡ false))
 
 -- 16 no room for a new key and month
 abbrev pub NoRoomExactly : Type 0
-NoRoomExactly =
-    (t : Table) (p : Pool) (len : ℕ) (s : Store) (r : Record)
+NoRoomExactly = (t : Table) (p : Pool) (len : ℕ) (s : Store) (r : Record)
     → (answered t p len s r ≡ 16) ↔ ((isSound t p len ≡ true) × AllInRange t r × (isSettled t ≡ true) × (Room s r → ⊥))
 
 -- accepted, with 0, in every other case
 abbrev pub AcceptedExactly : Type 0
-AcceptedExactly =
-    (t : Table) (p : Pool) (len : ℕ) (s : Store) (r : Record)
+AcceptedExactly = (t : Table) (p : Pool) (len : ℕ) (s : Store) (r : Record)
     → (answered t p len s r ≡ 0) ↔ ((isSound t p len ≡ true) × AllInRange t r × (isSettled t ≡ true) × Room s r)
 
 -- a refusal changes nothing
 abbrev pub RefusedKeeps : Type 0
-RefusedKeeps =
-    (t : Table) (p : Pool) (len : ℕ) (s : Store) (r : Record) (why : Why)
+RefusedKeeps = (t : Table) (p : Pool) (len : ℕ) (s : Store) (r : Record) (why : Why)
     → placeOf t p len s r .reply ≡ Refused why → placeOf t p len s r .store ≡ s
 
 -- an accepted record goes to the node that covers its key, and copies to that node's left and right neighbours
@@ -93,8 +89,7 @@ GoesToCover = (s : Store) (c : Call) → placing s c .reply ≡ Accepted → Wen
 
 -- and is held so, in every store of 512 places
 abbrev pub AcceptedHeld : Type 0
-AcceptedHeld =
-    (s : Store) (c : Call) → length (s .places) ≡ 512 → placing s c .reply ≡ Accepted → In (wentOf c) (heldOf (placing s c .store))
+AcceptedHeld = (s : Store) (c : Call) → length (s .places) ≡ 512 → placing s c .reply ≡ Accepted → In (wentOf c) (heldOf (placing s c .store))
 
 -- ---- records one after another, from an empty store, whatever is done to the ring between
 
@@ -108,8 +103,7 @@ pub record LastOf (h : Held) (hs : List Held) : Type 0 where
 -- what is held is the last accepted record of each key and month, as it went: the same key and month again replaces the earlier one,
 -- whose original and copies go, and nothing else moves a record already placed
 abbrev pub HeldExactly : Type 0
-HeldExactly =
-    (cs : List Call) (h : Held) → In h (heldOf (storeAfter emptyStore cs)) ↔ LastOf h (acceptedOf emptyStore cs)
+HeldExactly = (cs : List Call) (h : Held) → In h (heldOf (storeAfter emptyStore cs)) ↔ LastOf h (acceptedOf emptyStore cs)
 
 -- no two of these are of the same key and month
 abbrev pub EachOnce : List Held → Type 0
@@ -120,15 +114,13 @@ OneEach = (cs : List Call) → EachOnce (heldOf (storeAfter emptyStore cs))
 
 -- so what is held of a key and month is that one, or nothing
 abbrev pub LooksUp : Type 0
-LooksUp =
-    (cs : List Call) (key month : ℕ) (h : Held)
+LooksUp = (cs : List Call) (key : Key) (month : ℕ) (h : Held)
     → let s : Store = storeAfter emptyStore cs in
     (lookedUp s key month ≡ At h) ↔ (In h (heldOf s) × (h .original .key ≡ key) × (h .original .month ≡ month))
 
 -- at most 512 records, and the count is how many
 abbrev pub AtMost : Type 0
-AtMost =
-    (cs : List Call)
+AtMost = (cs : List Call)
     → let s : Store = storeAfter emptyStore cs in
     (s .count ≤ 512) × (s .count ≡ length (heldOf s))
 
@@ -142,6 +134,5 @@ LastEachIs = (hs : List Held) → ((h : Held) → In h (lastEach hs) ↔ LastOf 
 
 -- copies never count: with any others the sum is the same
 abbrev pub CopiesNever : Type 0
-CopiesNever =
-    (hs : List Held) (other : Held → ℕ)
+CopiesNever = (hs : List Held) (other : Held → Marks)
     → totalOf (map (λ (h : Held). record { original = h .original; holder = h .holder; copies = other h }) hs) ≡ totalOf hs

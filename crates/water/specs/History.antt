@@ -1,4 +1,4 @@
--- Records handed in one after another. Each call brings a table of its own, so whatever is done to the ring between two calls is in it.
+-- T-13: records handed in one after another. Each call brings a table of its own, so whatever is done to the ring between two calls is in it.
 -- Definitions only. Assumes nothing.
 use mathlib.Core.Bool.{Bool, false, cond, _||_}
 use mathlib.Core.List.{List, [], _∷_}

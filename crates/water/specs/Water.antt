@@ -1,4 +1,4 @@
--- Change request T-13: water records on top of the ring, which is seen through what it publishes of who holds a key (Holder of crate
+-- T-13: water records on top of the ring, which is seen through what it publishes of who holds a key (Holder of crate
 -- holder). Definitions only, each under the request's words. Assumes nothing.
 use mathlib.Core.Bool.{Bool, cond, _&&_}
 use mathlib.Core.List.{List, [], _∷_}
@@ -6,6 +6,7 @@ use Prim.Native.Nat.{ℕ, suc}
 use lib.Dec.{eqb, leb, ltb}
 use lib.IntN.{ℤ, pos, _+ℤ_, _-ℤ_}
 use lib.ListN.{take, set, replicate}
+use Rattle.rules.specs.Names.{Slot, Marks, Key}
 use Rattle.rules.specs.declared.Pool.{Pool}
 use Rattle.table_type.specs.declared.Table.{Table}
 use Rattle.holder.specs.declared.Holding.{Holding}
@@ -32,8 +33,7 @@ mostTenths = 100000
 
 -- month 1 to 12, and rain, evapotranspiration and runoff; the key is looked at by the table's M
 abbrev pub inRange : Record → Bool
-inRange r =
-    leb 1 (r .month)
+inRange r = leb 1 (r .month)
     && (leb (r .month) 12 && (leb (r .rain) mostTenths && (leb (r .evapotranspiration) mostTenths && leb (r .runoff) mostTenths)))
 
 -- its change of stored water is rain - evapotranspiration - runoff, signed
@@ -78,7 +78,7 @@ abbrev pub refusedOf : Store → Why → Placed
 refusedOf s why = record { reply = Refused why; store = s }
 
 -- 16 no room for a new key and month
-unfoldable pub putOf : Store → Record → ℕ → ℕ → Placed
+unfoldable pub putOf : Store → Record → Slot → Marks → Placed
 putOf s r holder copies =
     let i : ℕ = seatOf (heldOf s) r in
     cond (ltb i mostRecords)
@@ -102,7 +102,7 @@ unfoldable pub foundIn : List Held → Record → Looked
 foundIn [] r = Nothing
 foundIn (h ∷ hs) r = cond (alike (h .original) r) (At h) (foundIn hs r)
 
-abbrev pub lookedUp : Store → ℕ → ℕ → Looked
+abbrev pub lookedUp : Store → Key → ℕ → Looked
 lookedUp s key month = foundIn (heldOf s) (record { key = key; month = month; rain = 0; evapotranspiration = 0; runoff = 0 })
 
 -- ---- the sum of changes

@@ -1,6 +1,6 @@
 //! Searches for the tests, and the same searches by the independent model.
 
-use explore::engine::{nearest, room, Engine};
+use explore::engine::{nearest, room, Engine, Words};
 use explore::file;
 use explore::moves::Mover;
 use explore::plan::{Limits, Plan};
@@ -149,26 +149,30 @@ fn outcome(search: Search, end: End) -> Outcome {
     }
 }
 
-/// The states and the depth of a case, by the model's own start, step and file.
-pub fn by_model(case: &Case) -> (States, usize) {
+/// How often each action is done in a search, by its number.
+pub type Done = [usize; 16];
+
+/// The states and the depth of a case, and how often each action is done in them, by the model's own start, step and file.
+pub fn by_model(case: &Case) -> (States, usize, Done) {
     let (mut table, mut pool) = (model::Table::BLANK, model::EMPTY_POOL);
     model::start(case.m, case.l, case.ids, case.ready, &mut table, &mut pool).expect("a start");
     let plan = case.plan(&file::read(&written(&table, &pool)).frame);
     let mut states = States::new();
     let mut level = vec![written(&table, &pool)];
     states.insert(level[0].clone());
-    let mut depth = 0;
+    let (mut depth, mut done) = (0, [0; 16]);
     loop {
         let mut next = Vec::new();
         for state in &level {
-            for after in successors(case, &plan, state) {
+            for (number, after) in successors(case, &plan, state) {
+                done[number] += 1;
                 if states.insert(after.clone()) {
                     next.push(after);
                 }
             }
         }
         if next.is_empty() {
-            return (states, depth);
+            return (states, depth, done);
         }
         level = next;
         depth += 1;
@@ -181,23 +185,21 @@ fn written(table: &model::Table, pool: &model::Pool) -> Vec<u8> {
     sorted(&file[..count])
 }
 
-fn successors(case: &Case, plan: &Plan, state: &[u8]) -> Vec<Vec<u8>> {
+/// What each action that is done in a state leads to, with the action's number.
+fn successors(case: &Case, plan: &Plan, state: &[u8]) -> Vec<(usize, Vec<u8>)> {
     let (mut table, mut pool) = (model::Table::BLANK, model::EMPTY_POOL);
     model::load(state, &mut table, &mut pool).expect("a table file");
-    let handled = |place| {
-        [model::Action::Take { place }, model::Action::Deliver { place }, model::Action::Forward { place }]
-    };
-    let takes = (0..table.count).flat_map(handled);
+    let handled = |place| [[6, place, 0], [7, place, 0], [8, place, 0]];
+    let takes = (0..table.count as u64).flat_map(handled);
     let joins: Vec<usize> =
         plan.actions.iter().filter(|action| action[0] == 2).map(|action| action[1] as usize).collect();
-    let allowed = |action: &&[u64; 3]| action[0] != 2 || may_join(case, &table, &joins, action[1] as usize);
-    let actions = takes.chain(plan.actions.iter().filter(allowed).map(|action| model_action(*action)));
-    let actions: Vec<model::Action> = actions.collect();
-    let made = |action| {
+    let allowed = |action: &Words| action[0] != 2 || may_join(case, &table, &joins, action[1] as usize);
+    let made = |action: Words| {
         let (mut table, mut pool) = (table, pool);
-        model::step(&mut table, &mut pool, action).ok().map(|()| written(&table, &pool))
+        let done = model::step(&mut table, &mut pool, model_action(action)).is_ok();
+        done.then(|| (action[0] as usize, written(&table, &pool)))
     };
-    actions.into_iter().filter_map(made).collect()
+    takes.chain(plan.actions.iter().copied().filter(allowed)).filter_map(made).collect()
 }
 
 fn may_join(case: &Case, table: &model::Table, joins: &[usize], slot: usize) -> bool {
@@ -210,7 +212,7 @@ fn may_join(case: &Case, table: &model::Table, joins: &[usize], slot: usize) -> 
         && case.limits.joining.is_none_or(|most| wait + with(model::Status::Ok) < most)
 }
 
-fn model_action([number, x, y]: [u64; 3]) -> model::Action {
+fn model_action([number, x, y]: Words) -> model::Action {
     let (node, other) = (x as usize, y as usize);
     match number {
         1 => model::Action::Lookup { at: node, key: y },
@@ -218,6 +220,9 @@ fn model_action([number, x, y]: [u64; 3]) -> model::Action {
         3 => model::Action::RequestLease { node },
         4 => model::Action::LeaseExpired { node, partner: other },
         5 => model::Action::GrantExpired { node, partner: other },
+        6 => model::Action::Take { place: node },
+        7 => model::Action::Deliver { place: node },
+        8 => model::Action::Forward { place: node },
         9 => model::Action::NodeLeft { node },
         10 => model::Action::SuspectFaulty { node, partner: other },
         11 => model::Action::ProbeTimeOut { node, partner: other },
@@ -225,6 +230,6 @@ fn model_action([number, x, y]: [u64; 3]) -> model::Action {
         13 => model::Action::LsRepair { node },
         14 => model::Action::ResignNode { node, seed: other },
         15 => model::Action::Recover { node },
-        _ => unreachable!("a plan has no other action"),
+        _ => unreachable!("no other action is asked for"),
     }
 }

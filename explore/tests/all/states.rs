@@ -38,12 +38,74 @@ const CASES: [Case; 11] = [
     Case::new(8, 1, 15, FOUR, "lookup 80 at 17\nlookup 80 at 18\nlookup 80 at 65\n"),
 ];
 
+/// With departures and repairs (T-03).
+const LEAVING: [Case; 4] = [
+    // 18 joins, and its probe of 17, which is ready, may time out.
+    Case::new(5, 2, 3, &[5, 17, 18], "join 18 at 17\nprobe time out 18 17\n"),
+    // 17 joins, leaves and joins again while mail of its first join waits; 5 lets it go.
+    Case::new(
+        5,
+        1,
+        1,
+        &[5, 17],
+        "join 17 at 5
+        node left 17
+        resign node 17 at 5
+        suspect faulty 5 17
+        probe time out 5 17
+        grant expired 5 17
+        declare dead 5 17",
+    ),
+    // 95 leaves and may come back; 18 and 65 let it go and repair.
+    Case::new(
+        8,
+        2,
+        15,
+        FOUR,
+        "node left 95
+        join 95 at 17
+        suspect faulty 18 95
+        probe time out 18 95
+        declare dead 18 95
+        ls repair 18
+        suspect faulty 65 95
+        probe time out 65 95
+        grant expired 65 95
+        declare dead 65 95
+        ls repair 65",
+    ),
+    // 65 leaves and may come back; 17 and 18 let it go, resign while the other is ready, and recover where nobody is.
+    Case::new(
+        8,
+        1,
+        7,
+        THREE,
+        "node left 65
+        join 65 at any
+        suspect faulty 17 65
+        probe time out 17 65
+        grant expired 17 65
+        declare dead 17 65
+        resign node 17 at 18
+        recover 17
+        suspect faulty 18 65
+        probe time out 18 65
+        grant expired 18 65
+        declare dead 18 65
+        resign node 18 at 17
+        recover 18",
+    ),
+];
+
+/// The numbers of T-03's actions.
+const DEPARTURES: std::ops::RangeInclusive<usize> = 9..=15;
+
 /// One state in ten has its steps asked again.
 const AUDITED: How = How { audit: 10, ..How::REMEMBERED };
 
 /// Whether a search comes to the model's states and depth.
 fn agrees(case: &Case, outcome: &Outcome) -> bool {
-    let (states, depth) = by_model(case);
+    let (states, depth, _) = by_model(case);
     outcome.end == End::Searched
         && outcome.count() == states.len()
         && outcome.states() == states
@@ -52,7 +114,7 @@ fn agrees(case: &Case, outcome: &Outcome) -> bool {
 
 #[test]
 fn remembered_steps_lead_to_the_models_states() {
-    for (case, nth) in CASES.iter().zip(1..) {
+    for (case, nth) in CASES.iter().chain(&LEAVING).zip(1..) {
         let outcome = search(case, AUDITED, &[]).expect("a search");
         assert!(agrees(case, &outcome), "case {nth}: {} states", outcome.count());
     }
@@ -60,9 +122,25 @@ fn remembered_steps_lead_to_the_models_states() {
 
 #[test]
 fn steps_asked_every_time_lead_to_the_models_states() {
-    for case in [&CASES[0], &CASES[4], &CASES[5], &CASES[9], &CASES[10]] {
+    let cases = [&CASES[0], &CASES[4], &CASES[5], &CASES[9], &CASES[10]];
+    for case in cases.into_iter().chain(&LEAVING) {
         assert!(agrees(case, &search(case, How::EVERY, &[]).expect("a search")));
     }
+}
+
+#[test]
+fn every_departure_is_done_in_some_state() {
+    let mut all = [0; 16];
+    for (case, nth) in LEAVING.iter().zip(1..) {
+        let (_, _, done) = by_model(case);
+        let plan = case.plan(&file::read(&case.start(engine().as_mut())).frame);
+        for number in DEPARTURES {
+            let planned = plan.actions.iter().any(|action| action[0] == number as u64);
+            assert_eq!(planned, done[number] > 0, "case {nth}: action {number}");
+            all[number] += done[number];
+        }
+    }
+    assert!(all[DEPARTURES].iter().all(|&count| count > 0), "{all:?}");
 }
 
 #[test]
@@ -109,7 +187,8 @@ enum Slip {
 
 impl<F: Fn(&[u8], Words, Option<Message>) -> Slip> Engine for Wrong<F> {
     fn step(&mut self, table: &[u8], action: Words, out: &mut Room) -> Result<Answer, Trouble> {
-        let taken = if action[0] >= 6 { file::messages(table).nth(action[1] as usize) } else { None };
+        let taken =
+            if (6..=8).contains(&action[0]) { file::messages(table).nth(action[1] as usize) } else { None };
         let answer = self.inner.step(table, action, out)?;
         match (self.wrong)(table, action, taken) {
             Slip::Skips => return Ok(Answer { number: 5, count: 0 }),
@@ -141,17 +220,17 @@ impl<F: Fn(&[u8], Words, Option<Message>) -> Slip> Engine for Wrong<F> {
 }
 
 /// Whether the comparison with the model, or the search itself, notices a wrong step.
-fn notices(how: How, wrong: impl Fn(&[u8], Words, Option<Message>) -> Slip) -> bool {
-    let case = &CASES[1];
+fn notices(case: &Case, wrong: impl Fn(&[u8], Words, Option<Message>) -> Slip) -> bool {
     let mut engine = Wrong { inner: engine(), wrong };
     let start = case.start(&mut engine);
     let plan = case.plan(&file::read(&start).frame);
-    search_from(&mut engine, &start, &plan, how, &[]).map_or(true, |outcome| !agrees(case, &outcome))
+    search_from(&mut engine, &start, &plan, How::REMEMBERED, &[])
+        .map_or(true, |outcome| !agrees(case, &outcome))
 }
 
 #[test]
 fn a_right_step_is_not_held_to_be_wrong() {
-    assert!(!notices(How::REMEMBERED, |_, _, _| Slip::Nothing));
+    assert!(!notices(&CASES[1], |_, _, _| Slip::Nothing));
 }
 
 #[test]
@@ -161,14 +240,14 @@ fn a_step_that_skips_a_message_is_noticed() {
             Some(message) if message.kind() == kind => Slip::Skips,
             _ => Slip::Nothing,
         };
-        assert!(notices(How::REMEMBERED, skips), "kind {kind}");
+        assert!(notices(&CASES[1], skips), "kind {kind}");
     }
     // One message alone: the probe of 65 at 17.
     let skips = |_: &[u8], _: Words, taken: Option<Message>| match taken {
         Some(message) if (message.kind(), message.to(), message.word()) == (4, 0, 2) => Slip::Skips,
         _ => Slip::Nothing,
     };
-    assert!(notices(How::REMEMBERED, skips));
+    assert!(notices(&CASES[1], skips));
 }
 
 #[test]
@@ -178,7 +257,18 @@ fn a_step_that_forgets_a_message_is_noticed() {
             true => Slip::Forgets,
             false => Slip::Nothing,
         };
-        assert!(notices(How::REMEMBERED, forgets), "action {action}");
+        assert!(notices(&CASES[1], forgets), "action {action}");
+    }
+}
+
+#[test]
+fn a_departure_that_is_skipped_is_noticed() {
+    for number in DEPARTURES {
+        let skips = |_: &[u8], words: Words, _: Option<Message>| match words[0] == number as u64 {
+            true => Slip::Skips,
+            false => Slip::Nothing,
+        };
+        assert!(LEAVING.iter().any(|case| notices(case, skips)), "action {number}");
     }
 }
 
@@ -223,19 +313,21 @@ fn a_key_that_drops_a_field_is_noticed() {
         node.0[0] &= LOW;
         node
     };
-    let nodes: [(&str, fn(Node) -> Node); 7] = [
+    let nodes: [(&str, fn(Node) -> Node); 8] = [
         ("status", status),
         ("left", less_node::<1>),
         ("right", less_node::<2>),
         ("probing", less_node::<3>),
+        ("failed", less_node::<4>),
         ("routing", less_node::<5>),
         ("lease", less_node::<6>),
         ("grant", less_node::<7>),
     ];
     for (name, node) in nodes {
-        assert!(notices_key(&CASES[1], Key { node, ..Key::WHOLE }), "a node's {name}");
+        let case = if name == "failed" { &LEAVING[2] } else { &CASES[1] };
+        assert!(notices_key(case, Key { node, ..Key::WHOLE }), "a node's {name}");
     }
-    let messages: [(&str, fn(Message) -> Message); 9] = [
+    let messages: [(&str, fn(Message) -> Message); 10] = [
         ("kind", less_message::<0, HIGH>),
         ("destination", less_message::<0, LOW>),
         ("node or key", less_message::<1, HIGH>),
@@ -245,11 +337,13 @@ fn a_key_that_drops_a_field_is_noticed() {
         ("routing", less_message::<3, 0>),
         ("left", less_message::<4, 0>),
         ("right", less_message::<5, 0>),
+        ("failed", less_message::<6, 0>),
     ];
     for (name, message) in messages {
         let case = match name {
             "routing" => &CASES[6],
             "hops" => &CASES[10],
+            "failed" => &LEAVING[2],
             _ => &CASES[1],
         };
         assert!(notices_key(case, Key { message, ..Key::WHOLE }), "a message's {name}");

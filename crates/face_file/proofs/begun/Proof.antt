@@ -11,8 +11,8 @@ use Rattle.rules.specs.Pool.{laid}
 use Rattle.table_type.specs.declared.Table.{Table}
 use Rattle.table.specs.Settle.{refusedOf}
 use Rattle.table_type.specs.Start.{noTable}
-use Rattle.face_table.specs.Asked.{startStep}
-use Rattle.face_file.specs.Calls.{begunOf}
+use Rattle.face.specs.Asked.{startStep}
+use Rattle.face.specs.Calls.{begunOf}
 use Rattle.face_file.proofs.begun.Statement.{statement}
 use Rattle.face_file.proofs.begun.Tie as tie
 

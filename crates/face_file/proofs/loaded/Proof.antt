@@ -8,7 +8,7 @@ use Rattle.rules.specs.Pool.{laid}
 use Rattle.table_type.specs.declared.Table.{Table}
 use Rattle.table_type.specs.Start.{noTable}
 use Rattle.file.specs.Load.{loadOf}
-use Rattle.face_file.specs.Calls.{loadedOf}
+use Rattle.face.specs.Calls.{loadedOf}
 use Rattle.face_file.proofs.loaded.Statement.{statement}
 use Rattle.face_file.proofs.loaded.Tie as tie
 

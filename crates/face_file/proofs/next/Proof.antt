@@ -6,8 +6,8 @@ use Rattle.rules.specs.declared.Answer.the-variants.{Done, Refused}
 use Rattle.rules.specs.declared.Refusal.{Refusal}
 use Rattle.table_type.specs.declared.Stepped.{Stepped}
 use Rattle.table.specs.Settle.{refusedOf}
-use Rattle.table.specs.Step.{stepOf}
-use Rattle.face_file.specs.Calls.{nextOf}
+use Rattle.step.specs.Step.{stepOf}
+use Rattle.face.specs.Calls.{nextOf}
 use Rattle.face_file.proofs.next.Statement.{statement}
 use Rattle.face_file.proofs.next.Tie as tie
 

@@ -4,9 +4,9 @@ use mathlib.Core.Path.{_≡_, _∙_}
 use Rattle.rules.specs.declared.Answer.the-variants.{Done, Refused}
 use Rattle.rules.specs.declared.Refusal.{Refusal}
 use Rattle.table_type.specs.declared.Stepped.{Stepped}
-use Rattle.face_table.specs.declared.Rest.the-variants.{NotAsked}
-use Rattle.face_table.specs.Asked.{restOf}
-use Rattle.face_file.specs.Calls.{restBy}
+use Rattle.face.specs.declared.Rest.the-variants.{NotAsked}
+use Rattle.face.specs.Asked.{restOf}
+use Rattle.face.specs.Calls.{restBy}
 use Rattle.face_file.proofs.settled_file.Statement.{statement}
 use Rattle.face_file.proofs.settled_file.Tie as tie
 

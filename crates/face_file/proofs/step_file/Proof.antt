@@ -5,8 +5,8 @@ use mathlib.Core.List.{List}
 use Prim.Native.Nat.{ℕ}
 use Rattle.table_type.specs.declared.Stepped.{Stepped}
 use Rattle.file.specs.declared.Wrote.{Wrote}
-use Rattle.face_file.specs.declared.Moved.{Moved}
-use Rattle.face_file.specs.Calls.{wroteBy, leftBy, movedOf, movedBy}
+use Rattle.face.specs.declared.Moved.{Moved}
+use Rattle.face.specs.Calls.{wroteBy, leftBy, movedOf, movedBy}
 use Rattle.face_file.proofs.step_file.Statement.{statement}
 use Rattle.face_file.proofs.step_file.Tie as tie
 

@@ -6,8 +6,8 @@ use Rattle.rules.specs.declared.Refusal.{Refusal}
 use Rattle.rules.specs.declared.Via.{Via}
 use Rattle.rules.specs.declared.Via.the-variants.{Unrouted}
 use Rattle.file.specs.declared.Wrote.{Wrote}
-use Rattle.face_file.specs.declared.Moved.{Moved}
-use Rattle.face_file.specs.Calls.{movedOf}
+use Rattle.face.specs.declared.Moved.{Moved}
+use Rattle.face.specs.Calls.{movedOf}
 use Rattle.face_file.proofs.with_via.Statement.{statement}
 use Rattle.face_file.proofs.with_via.Tie as tie
 

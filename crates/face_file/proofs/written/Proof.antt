@@ -8,7 +8,7 @@ use Rattle.rules.specs.declared.Refusal.{Refusal}
 use Rattle.table_type.specs.declared.Stepped.{Stepped}
 use Rattle.file.specs.declared.Wrote.{Wrote}
 use Rattle.file.specs.Write.{notWritten, wroteOf, writtenOf}
-use Rattle.face_file.specs.Calls.{wroteBy, leftBy}
+use Rattle.face.specs.Calls.{wroteBy, leftBy}
 use Rattle.face_file.proofs.written.Statement.{statement}
 use Rattle.face_file.proofs.written.Tie as tie
 

@@ -43,10 +43,10 @@ use Rattle.rules.proofs.Pool.Laws as P′
 use Rattle.table_type.specs.declared.Table.{Table}
 use Rattle.table_type.proofs.Table as B
 use Rattle.table_type.proofs.Table.Laws as B′
-use Rattle.face_table.specs.declared.Rest.{Rest}
-use Rattle.face_table.specs.Asked.{restOf}
-use Rattle.face_table.proofs.Rest as R
-use Rattle.face_table.proofs.Rest.Laws as R′
+use Rattle.face.specs.declared.Rest.{Rest}
+use Rattle.face.specs.Asked.{restOf}
+use Rattle.face.proofs.Rest as R
+use Rattle.face.proofs.Rest.Laws as R′
 use Rattle.face_table.proofs.settled as core
 use Rattle.face_table.proofs.settled.Symbol as core-def
 use Rattle.face_table.proofs.settled.Symbol.{name as #core}

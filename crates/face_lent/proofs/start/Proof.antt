@@ -47,7 +47,7 @@ use Rattle.table_type.proofs.Stepped as G
 use Rattle.table_type.proofs.Stepped.Laws as G′
 use Rattle.table_type.proofs.Table as B
 use Rattle.table_type.proofs.Table.Laws as B′
-use Rattle.face_table.specs.Asked.{startStep}
+use Rattle.face.specs.Asked.{startStep}
 use Rattle.face_table.proofs.start as core
 use Rattle.face_table.proofs.start.Symbol as core-def
 use Rattle.face_table.proofs.start.Symbol.{name as #core}

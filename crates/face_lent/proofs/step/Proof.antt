@@ -47,7 +47,7 @@ use Rattle.rules.proofs.Pool as P
 use Rattle.rules.proofs.Pool.Laws as P′
 use Rattle.table_type.specs.declared.Stepped.{Stepped}
 use Rattle.table_type.specs.declared.Table.{Table}
-use Rattle.table.specs.Step.{stepOf}
+use Rattle.step.specs.Step.{stepOf}
 use Rattle.table_type.proofs.Stepped as G
 use Rattle.table_type.proofs.Stepped.Laws as G′
 use Rattle.table_type.proofs.Table as B

@@ -6,13 +6,13 @@ use mathlib.Core.Bool.{true, false}
 use Prim.Native.Nat.{ℕ}
 use Rattle.rules.specs.declared.Pool.{Pool}
 use Rattle.rules.specs.declared.Refusal.the-variants as no
-use Rattle.table.proofs.Sound.{sound}
+use Rattle.table_laws.proofs.Sound.{sound}
 use Rattle.table_type.specs.declared.Table.{Table}
 use Rattle.table.specs.Settled.{isSettled}
-use Rattle.table.specs.Step.{isSound}
+use Rattle.step.specs.Step.{isSound}
 use Rattle.table.specs.Valid.{validOf}
-use Rattle.face_table.specs.declared.Rest.the-variants.{Settled, Unsettled, NotAsked}
-use Rattle.face_table.specs.Asked.{restOf}
+use Rattle.face.specs.declared.Rest.the-variants.{Settled, Unsettled, NotAsked}
+use Rattle.face.specs.Asked.{restOf}
 use Rattle.face_table.proofs.settled.Statement.{statement}
 use Rattle.face_table.proofs.settled.Tie as tie
 

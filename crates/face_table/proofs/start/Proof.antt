@@ -13,7 +13,7 @@ use Rattle.table_type.specs.declared.Started.{Started}
 use Rattle.table_type.specs.declared.Table.{Table}
 use Rattle.table.specs.Settle.{refusedOf, doneOf}
 use Rattle.table_type.specs.Start.{startOf}
-use Rattle.face_table.specs.Asked.{startStep}
+use Rattle.face.specs.Asked.{startStep}
 use Rattle.face_table.proofs.start.Statement.{statement}
 use Rattle.face_table.proofs.start.Tie as tie
 

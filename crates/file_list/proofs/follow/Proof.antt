@@ -12,11 +12,11 @@ use Rattle.rules.specs.Pool.{messageAt}
 use Rattle.table_type.specs.Table.{ringOf, idsOf}
 use Rattle.table_type.proofs.Laws.{length-mapped}
 use Rattle.table.specs.Settled.{deadSet}
-use Rattle.table.proofs.Sound.{sound}
+use Rattle.table_laws.proofs.Sound.{sound}
 use Rattle.words.proofs.Puts.{put-length, stay}
 use Rattle.file_list.specs.declared.Turn.{Turn}
-use Rattle.file_list.specs.Trip.{ended, followOf}
-use Rattle.file_list.specs.Print.{linesOf}
+use Rattle.listing.specs.Trip.{ended, followOf}
+use Rattle.listing.specs.Print.{linesOf}
 use Rattle.text.specs.InnerPrints.{Prints}
 use Rattle.file_list.proofs.Following.{Lone, lone, lone-listed, lone-slot}
 use Rattle.file_list.specs.InnerFollow.{turnOf}

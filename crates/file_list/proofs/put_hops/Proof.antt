@@ -5,7 +5,7 @@ use native.Mathlib.Omega.{arith}
 use lib.ListN.{length}
 use Rattle.text.specs.Decimal.{decimal}
 use Rattle.text.proofs.Runs.{text-end, field-end}
-use Rattle.file_list.specs.Print.{viaText}
+use Rattle.listing.specs.Print.{viaText}
 use Rattle.file_list.proofs.Runs.{hops-length, hops-run}
 use Rattle.file_list.proofs.put_hops.Statement.{statement}
 use Rattle.file_list.proofs.put_hops.Tie as tie

@@ -6,7 +6,7 @@ use lib.Seq.{length-take-le}
 use lib.ListN.{length, take, getD}
 use Rattle.text.specs.Decimal.{decimal}
 use Rattle.file_list.specs.InnerLine.{endIn}
-use Rattle.file_list.specs.Print.{hopsText}
+use Rattle.listing.specs.Print.{hopsText}
 use Rattle.text.proofs.Runs.{text-end, field-end}
 use Rattle.file_list.proofs.Runs.{fields-length, line-run}
 use Rattle.file_list.proofs.put_line.Statement.{statement}

@@ -3,7 +3,7 @@ use borrow.Author.Needs.{needs}
 use Prim.Native.Nat.{_<_}
 use native.Mathlib.Omega.{arith}
 use Rattle.rules.specs.Hop.{byLeaf}
-use Rattle.rules.proofs.Leaf.{seen-low}
+use Rattle.rules_laws.proofs.Leaf.{seen-low}
 use Rattle.hop.proofs.by_leaf.Statement.{statement}
 use Rattle.hop.proofs.by_leaf.Tie as tie
 

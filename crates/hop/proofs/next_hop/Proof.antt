@@ -15,8 +15,8 @@ use Rattle.marks.specs.declared.Found.the-variants.{At}
 use Rattle.rules.specs.declared.Way.the-variants.{Near}
 use Rattle.rules.specs.InnerAsks.{Below}
 use Rattle.rules.specs.Pick.{best, bestOf}
-use Rattle.rules.proofs.Best.{best-below}
-use Rattle.rules.proofs.Hops.{candidatesOf, nextHop-nearest}
+use Rattle.rules_laws.proofs.Best.{best-below}
+use Rattle.rules_laws.proofs.Hops.{candidatesOf, nextHop-nearest}
 use Rattle.hop.proofs.next_hop.Statement.{statement}
 use Rattle.hop.proofs.next_hop.Tie as tie
 

@@ -3,7 +3,7 @@ use borrow.Author.Needs.{needs}
 use Prim.Native.Nat.{_<_}
 use native.Mathlib.Omega.{arith}
 use Rattle.rules.specs.Leaf.{coversOf}
-use Rattle.rules.proofs.Leaf.{seen-low}
+use Rattle.rules_laws.proofs.Leaf.{seen-low}
 use Rattle.leaf.proofs.covers.Statement.{statement}
 use Rattle.leaf.proofs.covers.Tie as tie
 

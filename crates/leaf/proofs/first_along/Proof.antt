@@ -5,7 +5,7 @@ use mathlib.Core.Path.{sym, _∙_}
 use mathlib.Core.Logic.{⊎-elim}
 use Prim.Native.Nat.{_-_}
 use native.Mathlib.Omega.{arith}
-use Rattle.rules.proofs.Steps.{Walked, walk-begin, walk-took, walk-passed, walk-looks, walk-full, walk-end}
+use Rattle.rules_laws.proofs.Steps.{Walked, walk-begin, walk-took, walk-passed, walk-looks, walk-full, walk-end}
 use Rattle.leaf.proofs.first_along.Statement.{statement}
 use Rattle.leaf.proofs.first_along.Tie as tie
 

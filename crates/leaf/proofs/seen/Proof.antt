@@ -1,7 +1,7 @@
 -- `leaf::seen` meets its contract: what the search finds, or the owner. Assumes nothing.
 use borrow.Author.Needs.{needs}
 use Rattle.rules.specs.Leaf.{seenFrom}
-use Rattle.rules.proofs.Best.{listed-keyed}
+use Rattle.rules_laws.proofs.Best.{listed-keyed}
 use Rattle.leaf.proofs.seen.Statement.{statement}
 use Rattle.leaf.proofs.seen.Tie as tie
 

@@ -10,7 +10,7 @@ use Rattle.rules.specs.declared.Sides.{Sides}
 use Rattle.rules.specs.InnerAsks.{Listed}
 use Rattle.rules.specs.Closest.{closest}
 use Rattle.rules.specs.Leaf.{leafWith}
-use Rattle.rules.proofs.Steps.{side-walk-up, side-walk-down}
+use Rattle.rules_laws.proofs.Steps.{side-walk-up, side-walk-down}
 use Rattle.rules.specs.InnerSteps.{stepsOf, otherThan}
 use Rattle.leaf.proofs.with_set.Statement.{statement}
 use Rattle.leaf.proofs.with_set.Tie as tie

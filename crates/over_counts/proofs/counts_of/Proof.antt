@@ -5,7 +5,7 @@ use Prim.Native.Nat.{ℕ, _-_, _<_, _≤_}
 use native.Mathlib.Omega.{arith}
 use lib.ListN.{length}
 use Rattle.rules.specs.Pool.{waiting}
-use Rattle.pool.proofs.Places.{places-length}
+use Rattle.pool_laws.proofs.Places.{places-length}
 use Rattle.counts.specs.Counts.{countsOf}
 use Rattle.over_counts.proofs.Laws.{Tallied, waits-in, waits-low, waits-at, tallied-none, tallied-low, tallied-more, tallied-end}
 use Rattle.over_counts.proofs.counts_of.Statement.{statement}

@@ -10,7 +10,7 @@ use lib.Seq.{getD-take}
 use Rattle.marks.proofs.Laws.{first-at, first-nothing, NoneBelow, none-more}
 use Rattle.rules.specs.declared.Message.{Message}
 use Rattle.rules.specs.Pool.{blank, messageAt, waiting}
-use Rattle.pool.proofs.Places.{waiting-counted}
+use Rattle.pool_laws.proofs.Places.{waiting-counted}
 use Rattle.counts.specs.Counts.{isFor, firstFor}
 use Rattle.over_counts.proofs.first_for.Statement.{statement}
 use Rattle.over_counts.proofs.first_for.Tie as tie

@@ -4,17 +4,17 @@ use borrow.Author.Needs.{needs}
 use mathlib.Core.Path.{_≡_, refl, sym, _∙_, ap}
 use mathlib.Core.Bool.{Bool, true, false, cond}
 use Prim.Native.Nat.{ℕ}
-use Rattle.face_table.specs.declared.Rest.{Rest}
-use Rattle.face_table.specs.declared.Rest.the-variants.{Settled, Unsettled, NotAsked}
-use Rattle.face_table.specs.Asked.{restOf}
+use Rattle.face.specs.declared.Rest.{Rest}
+use Rattle.face.specs.declared.Rest.the-variants.{Settled, Unsettled, NotAsked}
+use Rattle.face.specs.Asked.{restOf}
 use Rattle.rules.specs.declared.Pool.{Pool}
 use Rattle.rules.specs.declared.Refusal.the-variants as no
 use Rattle.rules.specs.InnerAsks.{Listed}
-use Rattle.table.proofs.Sound.{sound, is-valid}
+use Rattle.table_laws.proofs.Sound.{sound, is-valid}
 use Rattle.table_type.specs.declared.Table.{Table}
 use Rattle.table_type.specs.Table.{ringOf, idsOf}
 use Rattle.table.specs.Settled.{isSettled}
-use Rattle.table.specs.Step.{isSound}
+use Rattle.step.specs.Step.{isSound}
 use Rattle.holder.specs.declared.Holding.{Holding}
 use Rattle.holder.specs.declared.Holding.the-variants as held
 use Rattle.holder.specs.Holder.{holdingIn, holdingOf}

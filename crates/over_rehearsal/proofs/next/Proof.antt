@@ -2,7 +2,7 @@
 use borrow.Author.Needs.{needs}
 use borrow.Author.Tests.{not-true, not-false}
 use mathlib.Core.Path.{sym, _∙_}
-use Rattle.table.proofs.Proved.{keeps-valid}
+use Rattle.table_laws.proofs.Proved.{keeps-valid}
 use Rattle.rehearsal.specs.Rehearsal.{handedOf}
 use Rattle.over_rehearsal.proofs.Laws.{open-low}
 use Rattle.over_rehearsal.proofs.next.Statement.{statement}

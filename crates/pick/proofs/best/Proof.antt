@@ -9,7 +9,7 @@ use Rattle.marks.specs.declared.Found.{Found}
 use Rattle.marks.specs.declared.Found.the-variants.{At, Nothing}
 use Rattle.rules.specs.InnerAsks.{Below}
 use Rattle.rules.specs.Pick.{aheadOf}
-use Rattle.rules.proofs.Best.{best-below, below-le}
+use Rattle.rules_laws.proofs.Best.{best-below, below-le}
 use Rattle.pick.proofs.Laws.{Looked, look-begin, look-end, look-low, look-more, look-less}
 use Rattle.pick.proofs.best.Statement.{statement}
 use Rattle.pick.proofs.best.Tie as tie

@@ -1,6 +1,6 @@
 -- `plan_lease::broadcast_plan` meets its contract. Assumes nothing.
 use borrow.Author.Needs.{needs}
-use Rattle.rules.specs.Take.{broadcastPlan}
+use Rattle.take.specs.Take.{broadcastPlan}
 use Rattle.plan_lease.proofs.broadcast_plan.Statement.{statement}
 use Rattle.plan_lease.proofs.broadcast_plan.Tie as tie
 

@@ -1,6 +1,6 @@
 -- `plan_lease::lease_plan` meets its contract. Assumes nothing.
 use borrow.Author.Needs.{needs}
-use Rattle.rules.specs.Actions.{leasePlan}
+use Rattle.plan.specs.Actions.{leasePlan}
 use Rattle.plan_lease.proofs.lease_plan.Statement.{statement}
 use Rattle.plan_lease.proofs.lease_plan.Tie as tie
 

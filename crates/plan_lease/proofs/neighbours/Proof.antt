@@ -1,6 +1,6 @@
 -- `plan_lease::neighbours` meets its contract. Assumes nothing.
 use borrow.Author.Needs.{needs}
-use Rattle.rules.specs.Actions.{isNeighbour}
+use Rattle.plan.specs.Actions.{isNeighbour}
 use Rattle.plan_lease.proofs.neighbours.Statement.{statement}
 use Rattle.plan_lease.proofs.neighbours.Tie as tie
 

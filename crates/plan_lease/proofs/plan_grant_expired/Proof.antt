@@ -1,6 +1,6 @@
 -- `plan_lease::plan_grant_expired` meets its contract: its tests are the definition's, in the same order. Assumes nothing.
 use borrow.Author.Needs.{needs}
-use Rattle.rules.specs.Actions.{planGrantExpired}
+use Rattle.plan.specs.Actions.{planGrantExpired}
 use Rattle.plan_lease.proofs.plan_grant_expired.Statement.{statement}
 use Rattle.plan_lease.proofs.plan_grant_expired.Tie as tie
 

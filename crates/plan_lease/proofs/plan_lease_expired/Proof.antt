@@ -4,7 +4,7 @@ use borrow.Author.Needs.{needs}
 use mathlib.Core.Path.{_≡_}
 use mathlib.Core.Bool.{cond, _&&_}
 use mathlib.Core.Logic.{⊎-elim}
-use Rattle.rules.specs.Actions.{planLeaseExpired, isNeighbour}
+use Rattle.plan.specs.Actions.{planLeaseExpired, isNeighbour}
 use Rattle.rules.specs.declared.Status.the-variants as status
 use Rattle.rules.specs.Plans.{isReady}
 use Rattle.plan_lease.proofs.plan_lease_expired.Statement.{statement}

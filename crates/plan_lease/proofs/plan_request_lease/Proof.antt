@@ -1,6 +1,6 @@
 -- `plan_lease::plan_request_lease` meets its contract: its tests are the definition's, in the same order. Assumes nothing.
 use borrow.Author.Needs.{needs}
-use Rattle.rules.specs.Actions.{planRequestLease}
+use Rattle.plan.specs.Actions.{planRequestLease}
 use Rattle.plan_lease.proofs.plan_request_lease.Statement.{statement}
 use Rattle.plan_lease.proofs.plan_request_lease.Tie as tie
 

@@ -1,7 +1,7 @@
 -- `plan_lease::plan_take_broadcast` meets its contract: its tests are the definition's, in the same order. Assumes nothing.
 use borrow.Author.Needs.{needs}
 use borrow.Author.Tests.{eq-eqb, ne-eqb}
-use Rattle.rules.specs.Take.{planTakeBroadcast}
+use Rattle.take.specs.Take.{planTakeBroadcast}
 use Rattle.plan_lease.proofs.plan_take_broadcast.Statement.{statement}
 use Rattle.plan_lease.proofs.plan_take_broadcast.Tie as tie
 

@@ -1,6 +1,6 @@
 -- `plan_lease::plan_take_lease_request` meets its contract: its tests are the definition's, in the same order. Assumes nothing.
 use borrow.Author.Needs.{needs}
-use Rattle.rules.specs.Take.{planTakeLeaseRequest}
+use Rattle.take.specs.Take.{planTakeLeaseRequest}
 use Rattle.plan_lease.proofs.plan_take_lease_request.Statement.{statement}
 use Rattle.plan_lease.proofs.plan_take_lease_request.Tie as tie
 

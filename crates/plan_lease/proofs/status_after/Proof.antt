@@ -4,7 +4,7 @@ use mathlib.Core.Path.{_≡_}
 use mathlib.Core.Bool.{_&&_}
 use lib.Dec.{eqb}
 use Rattle.rules.specs.Nodes.{sidesOf}
-use Rattle.rules.specs.Take.{bothLeased, sameNeighbours}
+use Rattle.take.specs.Take.{bothLeased, sameNeighbours}
 use Rattle.plan_lease.proofs.status_after.Statement.{statement}
 use Rattle.plan_lease.proofs.status_after.Tie as tie
 

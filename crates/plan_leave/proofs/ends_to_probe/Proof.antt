@@ -1,6 +1,6 @@
 -- `plan_leave::ends_to_probe` meets its contract: its tests are the definition's, in the same order. Assumes nothing.
 use borrow.Author.Needs.{needs}
-use Rattle.rules.specs.Leave.{endsToProbe}
+use Rattle.plan.specs.Leave.{endsToProbe}
 use Rattle.plan_leave.proofs.ends_to_probe.Statement.{statement}
 use Rattle.plan_leave.proofs.ends_to_probe.Tie as tie
 

@@ -1,7 +1,7 @@
 -- `plan_leave::last_end` meets its contract. Assumes nothing.
 use borrow.Author.Needs.{needs}
 use borrow.Author.Tests.{eq-eqb, ne-eqb}
-use Rattle.rules.specs.Leave.{lastEnd}
+use Rattle.plan.specs.Leave.{lastEnd}
 use Rattle.plan_leave.proofs.last_end.Statement.{statement}
 use Rattle.plan_leave.proofs.last_end.Tie as tie
 

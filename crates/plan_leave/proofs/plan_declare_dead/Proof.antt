@@ -1,6 +1,6 @@
 -- `plan_leave::plan_declare_dead` meets its contract: its tests are the definition's, in the same order. Assumes nothing.
 use borrow.Author.Needs.{needs}
-use Rattle.rules.specs.Leave.{planDeclareDead}
+use Rattle.plan.specs.Leave.{planDeclareDead}
 use Rattle.plan_leave.proofs.plan_declare_dead.Statement.{statement}
 use Rattle.plan_leave.proofs.plan_declare_dead.Tie as tie
 

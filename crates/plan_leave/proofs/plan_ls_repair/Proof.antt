@@ -1,7 +1,7 @@
 -- `plan_leave::plan_ls_repair` meets its contract: its tests are the definition's, in the same order. Assumes nothing.
 use borrow.Author.Needs.{needs}
 use borrow.Author.Tests.{eq-eqb, ne-eqb}
-use Rattle.rules.specs.Leave.{planLSRepair}
+use Rattle.plan.specs.Leave.{planLSRepair}
 use Rattle.plan_leave.proofs.plan_ls_repair.Statement.{statement}
 use Rattle.plan_leave.proofs.plan_ls_repair.Tie as tie
 

@@ -1,6 +1,6 @@
 -- `plan_leave::plan_node_left` meets its contract: its test is the definition's. Assumes nothing.
 use borrow.Author.Needs.{needs}
-use Rattle.rules.specs.Leave.{planNodeLeft}
+use Rattle.plan.specs.Leave.{planNodeLeft}
 use Rattle.plan_leave.proofs.plan_node_left.Statement.{statement}
 use Rattle.plan_leave.proofs.plan_node_left.Tie as tie
 

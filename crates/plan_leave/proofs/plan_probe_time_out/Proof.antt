@@ -1,6 +1,6 @@
 -- `plan_leave::plan_probe_time_out` meets its contract: its tests are the definition's, in the same order. Assumes nothing.
 use borrow.Author.Needs.{needs}
-use Rattle.rules.specs.Leave.{planProbeTimeOut}
+use Rattle.plan.specs.Leave.{planProbeTimeOut}
 use Rattle.plan_leave.proofs.plan_probe_time_out.Statement.{statement}
 use Rattle.plan_leave.proofs.plan_probe_time_out.Tie as tie
 

@@ -1,7 +1,7 @@
 -- `plan_leave::plan_recover` meets its contract: its tests are the definition's, in the same order. Assumes nothing.
 use borrow.Author.Needs.{needs}
 use borrow.Author.Tests.{eq-eqb, ne-eqb}
-use Rattle.rules.specs.Leave.{planRecover}
+use Rattle.plan.specs.Leave.{planRecover}
 use Rattle.plan_leave.proofs.plan_recover.Statement.{statement}
 use Rattle.plan_leave.proofs.plan_recover.Tie as tie
 

@@ -1,7 +1,7 @@
 -- `plan_leave::plan_resign_node` meets its contract: its tests are the definition's, in the same order. Assumes nothing.
 use borrow.Author.Needs.{needs}
 use borrow.Author.Tests.{eq-eqb, ne-eqb}
-use Rattle.rules.specs.Leave.{planResignNode}
+use Rattle.plan.specs.Leave.{planResignNode}
 use Rattle.plan_leave.proofs.plan_resign_node.Statement.{statement}
 use Rattle.plan_leave.proofs.plan_resign_node.Tie as tie
 

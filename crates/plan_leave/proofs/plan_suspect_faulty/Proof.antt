@@ -1,6 +1,6 @@
 -- `plan_leave::plan_suspect_faulty` meets its contract: its tests are the definition's, in the same order. Assumes nothing.
 use borrow.Author.Needs.{needs}
-use Rattle.rules.specs.Leave.{planSuspectFaulty}
+use Rattle.plan.specs.Leave.{planSuspectFaulty}
 use Rattle.plan_leave.proofs.plan_suspect_faulty.Statement.{statement}
 use Rattle.plan_leave.proofs.plan_suspect_faulty.Tie as tie
 

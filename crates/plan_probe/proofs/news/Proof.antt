@@ -1,6 +1,6 @@
 -- `plan_probe::news` meets its contract. Assumes nothing.
 use borrow.Author.Needs.{needs}
-use Rattle.rules.specs.Take.{probes2}
+use Rattle.take.specs.Take.{probes2}
 use Rattle.plan_probe.proofs.news.Statement.{statement}
 use Rattle.plan_probe.proofs.news.Tie as tie
 

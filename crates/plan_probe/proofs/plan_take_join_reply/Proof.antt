@@ -1,7 +1,7 @@
 -- `plan_probe::plan_take_join_reply` meets its contract: its tests are the definition's, in the same order. Assumes nothing.
 use borrow.Author.Needs.{needs}
 use borrow.Author.Tests.{eq-eqb, ne-eqb}
-use Rattle.rules.specs.Take.{planTakeJoinReply}
+use Rattle.take.specs.Take.{planTakeJoinReply}
 use Rattle.plan_probe.proofs.plan_take_join_reply.Statement.{statement}
 use Rattle.plan_probe.proofs.plan_take_join_reply.Tie as tie
 

@@ -1,6 +1,6 @@
 -- `plan_probe::plan_take_probe_reply` meets its contract: its tests are the definition's, in the same order. Assumes nothing.
 use borrow.Author.Needs.{needs}
-use Rattle.rules.specs.Take.{planTakeProbeReply}
+use Rattle.take.specs.Take.{planTakeProbeReply}
 use Rattle.plan_probe.proofs.plan_take_probe_reply.Statement.{statement}
 use Rattle.plan_probe.proofs.plan_take_probe_reply.Tie as tie
 

@@ -1,6 +1,6 @@
 -- `plan_probe::probe_plan` meets its contract. Assumes nothing.
 use borrow.Author.Needs.{needs}
-use Rattle.rules.specs.Take.{probePlanOf}
+use Rattle.take.specs.Take.{probePlanOf}
 use Rattle.plan_probe.proofs.probe_plan.Statement.{statement}
 use Rattle.plan_probe.proofs.probe_plan.Tie as tie
 

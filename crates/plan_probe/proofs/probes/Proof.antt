@@ -1,6 +1,6 @@
 -- `plan_probe::probes` meets its contract. Assumes nothing.
 use borrow.Author.Needs.{needs}
-use Rattle.rules.specs.Take.{probesOf}
+use Rattle.take.specs.Take.{probesOf}
 use Rattle.plan_probe.proofs.probes.Statement.{statement}
 use Rattle.plan_probe.proofs.probes.Tie as tie
 

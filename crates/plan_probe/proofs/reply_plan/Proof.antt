@@ -1,6 +1,6 @@
 -- `plan_probe::reply_plan` meets its contract. Assumes nothing.
 use borrow.Author.Needs.{needs}
-use Rattle.rules.specs.Take.{replyPlanOf}
+use Rattle.take.specs.Take.{replyPlanOf}
 use Rattle.plan_probe.proofs.reply_plan.Statement.{statement}
 use Rattle.plan_probe.proofs.reply_plan.Tie as tie
 

@@ -1,6 +1,6 @@
 -- `plan_probe::status_after` meets its contract: the test of the code is the definition's. Assumes nothing.
 use borrow.Author.Needs.{needs}
-use Rattle.rules.specs.Take.{statusAfterReply}
+use Rattle.take.specs.Take.{statusAfterReply}
 use Rattle.plan_probe.proofs.status_after.Statement.{statement}
 use Rattle.plan_probe.proofs.status_after.Tie as tie
 

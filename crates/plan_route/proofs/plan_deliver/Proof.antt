@@ -1,7 +1,7 @@
 -- `plan_route::plan_deliver` meets its contract: its tests are the definition's, in the same order. Assumes nothing.
 use borrow.Author.Needs.{needs}
 use borrow.Author.Tests.{eqb-true, not-false}
-use Rattle.rules.specs.Take.{planDeliver}
+use Rattle.take.specs.Take.{planDeliver}
 use Rattle.plan_route.proofs.plan_deliver.Statement.{statement}
 use Rattle.plan_route.proofs.plan_deliver.Tie as tie
 

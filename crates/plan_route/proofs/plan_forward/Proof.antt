@@ -2,7 +2,7 @@
 use native.Mathlib.Omega.{arith}
 use borrow.Author.Needs.{needs}
 use borrow.Author.Tests.{eqb-true, not-false}
-use Rattle.rules.specs.Take.{planForward}
+use Rattle.take.specs.Take.{planForward}
 use Rattle.plan_route.proofs.plan_forward.Statement.{statement}
 use Rattle.plan_route.proofs.plan_forward.Tie as tie
 

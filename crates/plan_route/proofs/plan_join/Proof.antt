@@ -1,6 +1,6 @@
 -- `plan_route::plan_join` meets its contract: its tests are the definition's, in the same order. Assumes nothing.
 use borrow.Author.Needs.{needs}
-use Rattle.rules.specs.Actions.{planJoin}
+use Rattle.plan.specs.Actions.{planJoin}
 use Rattle.plan_route.proofs.plan_join.Statement.{statement}
 use Rattle.plan_route.proofs.plan_join.Tie as tie
 

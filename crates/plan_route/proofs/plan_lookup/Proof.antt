@@ -1,6 +1,6 @@
 -- `plan_route::plan_lookup` meets its contract. Assumes nothing.
 use borrow.Author.Needs.{needs}
-use Rattle.rules.specs.Actions.{planLookup}
+use Rattle.plan.specs.Actions.{planLookup}
 use Rattle.plan_route.proofs.plan_lookup.Statement.{statement}
 use Rattle.plan_route.proofs.plan_lookup.Tie as tie
 

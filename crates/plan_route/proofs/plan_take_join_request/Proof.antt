@@ -1,6 +1,6 @@
 -- `plan_route::plan_take_join_request` meets its contract: its tests are the definition's, in the same order. Assumes nothing.
 use borrow.Author.Needs.{needs}
-use Rattle.rules.specs.Take.{planTakeJoinRequest}
+use Rattle.take.specs.Take.{planTakeJoinRequest}
 use Rattle.plan_route.proofs.plan_take_join_request.Statement.{statement}
 use Rattle.plan_route.proofs.plan_take_join_request.Tie as tie
 

@@ -8,10 +8,10 @@ use lib.Dec.{lit≤}
 use lib.ListN.{getD, length}
 use Rattle.rules.specs.Mail.{fieldsOf}
 use Rattle.rules.specs.Pool.{blank, waiting}
-use Rattle.pool.specs.InnerSending.{leftOf}
-use Rattle.pool.proofs.Laid.{left-length}
-use Rattle.pool.proofs.Places.{waiting-counted, left-few, left-low-at, left-read}
-use Rattle.pool.proofs.Places.{Same, none-same, same-more, Passed, none-passed, passed-more, missed, met}
+use Rattle.pool_laws.specs.InnerSending.{leftOf}
+use Rattle.pool_laws.proofs.Laid.{left-length}
+use Rattle.pool_laws.proofs.Places.{waiting-counted, left-few, left-low-at, left-read}
+use Rattle.pool_laws.proofs.Places.{Same, none-same, same-more, Passed, none-passed, passed-more, missed, met}
 use Rattle.pool.proofs.first_equal.Statement.{statement}
 use Rattle.pool.proofs.first_equal.Tie as tie
 

@@ -7,10 +7,10 @@ use native.Mathlib.Omega.{arith}
 use lib.ListN.{take, length}
 use lib.Seq.{take-all}
 use Rattle.rules.specs.Pool.{messageAt, waiting}
-use Rattle.pool.specs.InnerSending.{leftOf, heldOf, heldWith}
-use Rattle.pool.proofs.Laid.{left-length}
-use Rattle.pool.proofs.Sending.{held-nil, held-last}
-use Rattle.pool.proofs.Places.{waiting-counted, left-few, left-low-at, left-read, taken-more}
+use Rattle.pool_laws.specs.InnerSending.{leftOf, heldOf, heldWith}
+use Rattle.pool_laws.proofs.Laid.{left-length}
+use Rattle.pool_laws.proofs.Sending.{held-nil, held-last}
+use Rattle.pool_laws.proofs.Places.{waiting-counted, left-few, left-low-at, left-read, taken-more}
 use Rattle.pool.proofs.held.Statement.{statement}
 use Rattle.pool.proofs.held.Tie as tie
 

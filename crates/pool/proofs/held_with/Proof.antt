@@ -2,7 +2,7 @@
 use borrow.Author.Needs.{needs}
 use mathlib.Core.Path.{sym, _∙_, ap}
 use Rattle.rules.specs.Mail.{alike}
-use Rattle.pool.proofs.Sending.{held-with-yes, held-with-no}
+use Rattle.pool_laws.proofs.Sending.{held-with-yes, held-with-no}
 use Rattle.pool.proofs.held_with.Statement.{statement}
 use Rattle.pool.proofs.held_with.Tie as tie
 

@@ -1,7 +1,7 @@
 -- `pool::left_count` meets its contract. Assumes nothing.
 use borrow.Author.Needs.{needs}
 use borrow.Author.Tests.{lt-ltb, le-ltb}
-use Rattle.pool.specs.InnerSending.{leftCount}
+use Rattle.pool_laws.specs.InnerSending.{leftCount}
 use Rattle.pool.proofs.left_count.Statement.{statement}
 use Rattle.pool.proofs.left_count.Tie as tie
 

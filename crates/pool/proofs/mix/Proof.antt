@@ -1,7 +1,7 @@
 -- `pool::mix` meets its contract. Assumes nothing.
 use mathlib.Core.Path.{refl}
 use borrow.Author.Needs.{needs}
-use Rattle.pool.specs.InnerMix.{mixOf}
+use Rattle.pool_laws.specs.InnerMix.{mixOf}
 use Rattle.pool.proofs.mix.Statement.{statement}
 use Rattle.pool.proofs.mix.Tie as tie
 

@@ -1,8 +1,8 @@
 -- `pool::new_all` meets its contract: nothing to send, no first message, or one that counts too. Assumes nothing.
 use borrow.Author.Needs.{needs}
 use native.Mathlib.Omega.{arith}
-use Rattle.pool.specs.InnerSending.{leftOf}
-use Rattle.pool.proofs.Fresh.{slot-low, all-none, all-alone, all-after}
+use Rattle.pool_laws.specs.InnerSending.{leftOf}
+use Rattle.pool_laws.proofs.Fresh.{slot-low, all-none, all-alone, all-after}
 use Rattle.pool.proofs.new_all.Statement.{statement}
 use Rattle.pool.proofs.new_all.Tie as tie
 

@@ -2,8 +2,8 @@
 use borrow.Author.Needs.{needs}
 use mathlib.Core.Path.{sym, _∙_, ap}
 use native.Mathlib.Omega.{arith}
-use Rattle.rules.specs.Actions.{waits}
-use Rattle.pool.proofs.Fresh.{slot-low, to-nowhere, to-equal, to-new}
+use Rattle.rules.specs.Mail.{waits}
+use Rattle.pool_laws.proofs.Fresh.{slot-low, to-nowhere, to-equal, to-new}
 use Rattle.pool.proofs.new_one.Statement.{statement}
 use Rattle.pool.proofs.new_one.Tie as tie
 

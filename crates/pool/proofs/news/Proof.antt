@@ -1,8 +1,8 @@
 -- `pool::news` meets its contract. Assumes nothing.
 use borrow.Author.Needs.{needs}
-use Rattle.pool.specs.InnerSending.{leftOf}
-use Rattle.pool.proofs.NewOnes.{new-slotted}
-use Rattle.pool.proofs.Fresh.{news-are}
+use Rattle.pool_laws.specs.InnerSending.{leftOf}
+use Rattle.pool_laws.proofs.NewOnes.{new-slotted}
+use Rattle.pool_laws.proofs.Fresh.{news-are}
 use Rattle.pool.proofs.news.Statement.{statement}
 use Rattle.pool.proofs.news.Tie as tie
 

@@ -1,7 +1,7 @@
 -- `pool::place_of` meets its contract. Assumes nothing.
 use borrow.Author.Needs.{needs}
 use borrow.Author.Tests.{lt-ltb, le-ltb}
-use Rattle.pool.specs.InnerSending.{placeOf}
+use Rattle.pool_laws.specs.InnerSending.{placeOf}
 use Rattle.pool.proofs.place_of.Statement.{statement}
 use Rattle.pool.proofs.place_of.Tie as tie
 

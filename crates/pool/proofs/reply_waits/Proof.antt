@@ -4,7 +4,7 @@ use borrow.Author.Needs.{needs}
 use mathlib.Core.Path.{sym, _∙_}
 use Prim.Native.Nat.{_-_, _≤_}
 use native.Mathlib.Omega.{arith}
-use Rattle.pool.proofs.Places.{places-length, isReplyTo, reply-some, Unasked, unasked-none, unasked-more, unasked-end, asked}
+use Rattle.pool_laws.proofs.Places.{places-length, isReplyTo, reply-some, Unasked, unasked-none, unasked-more, unasked-end, asked}
 use Rattle.pool.proofs.reply_waits.Statement.{statement}
 use Rattle.pool.proofs.reply_waits.Tie as tie
 

@@ -4,8 +4,8 @@ use mathlib.Core.Path.{_≡_, sym, _∙_, ap}
 use mathlib.Core.Logic.{⊎-elim}
 use Prim.Native.Nat.{_≤_}
 use native.Mathlib.Omega.{arith}
-use Rattle.pool.specs.InnerSending.{oneOrNone}
-use Rattle.pool.proofs.Places.{left-few}
+use Rattle.pool_laws.specs.InnerSending.{oneOrNone}
+use Rattle.pool_laws.proofs.Places.{left-few}
 use Rattle.pool.proofs.room.Statement.{statement}
 use Rattle.pool.proofs.room.Tie as tie
 

@@ -2,7 +2,7 @@
 use borrow.Author.Needs.{needs}
 use mathlib.Core.Path.{sym, ap}
 use Rattle.marks.specs.declared.Found.{Found}
-use Rattle.pool.specs.InnerSending.{sendsTo}
+use Rattle.pool_laws.specs.InnerSending.{sendsTo}
 use Rattle.pool.proofs.sends.Statement.{statement}
 use Rattle.pool.proofs.sends.Tie as tie
 

@@ -1,7 +1,7 @@
 -- `pool::waits` meets its contract: an equal waits exactly if the search met one. Assumes nothing.
 use borrow.Author.Needs.{needs}
 use mathlib.Core.Path.{sym, _∙_, ap}
-use Rattle.rules.specs.Actions.{isFound, waits}
+use Rattle.rules.specs.Mail.{isFound, waits}
 use Rattle.pool.proofs.waits.Statement.{statement}
 use Rattle.pool.proofs.waits.Tie as tie
 

@@ -7,8 +7,8 @@ use Prim.Native.Nat.{_-_, _<_, _≤_}
 use native.Mathlib.Omega.{arith}
 use borrow.Author.Tests.{not-true, not-false}
 use lib.ListN.{length}
-use Rattle.pool.proofs.Places.{places-length}
-use Rattle.pool.proofs.Probes.{Kept, kept-none, kept-took, kept-passed, kept-end}
+use Rattle.pool_laws.proofs.Places.{places-length}
+use Rattle.pool_laws.proofs.Probes.{Kept, kept-none, kept-took, kept-passed, kept-end}
 use Rattle.pool.proofs.without_probes.Statement.{statement}
 use Rattle.pool.proofs.without_probes.Tie as tie
 

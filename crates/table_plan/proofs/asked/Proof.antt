@@ -8,7 +8,7 @@ use native.Mathlib.Omega.{arith}
 use lib.Dec.{ltb, lit<}
 use lib.Pow.{shl-exact}
 use Rattle.marks.proofs.Bools.{clash}
-use Rattle.table.specs.Step.{takenOf, deliveredOf, forwardedOf}
+use Rattle.step.specs.Step.{takenOf, deliveredOf, forwardedOf}
 use Rattle.table_plan.proofs.Asks.{requests-asks, acts-asks, takes-asks, times-asks, lookup-fresh, join-fresh}
 use Rattle.table_plan.proofs.asked.Statement.{statement}
 use Rattle.table_plan.proofs.asked.Tie as tie

@@ -15,8 +15,8 @@ use Rattle.rules.specs.declared.Planned.{Planned}
 use Rattle.rules.specs.declared.Planned.the-variants.{No}
 use Rattle.rules.specs.declared.Refusal.the-variants as no
 use Rattle.rules.specs.Fits.{hasNode}
-use Rattle.rules.specs.Take.{planTake}
-use Rattle.table.proofs.Obeys.{obeys}
+use Rattle.take.specs.Take.{planTake}
+use Rattle.table_laws.proofs.Obeys.{obeys}
 use Rattle.table_plan.proofs.plan_take.Statement.{statement}
 use Rattle.table_plan.proofs.plan_take.Tie as tie
 

@@ -10,7 +10,7 @@ use Rattle.rules.specs.declared.Pool.{Pool}
 use Rattle.rules.specs.Fits.{messageFits}
 use Rattle.rules.specs.InnerAsks.{Listed}
 use Rattle.table_type.specs.Table.{idsOf, ringOf}
-use Rattle.table.specs.Step.{one-goes, takenOf, deliveredOf, forwardedOf, asked}
+use Rattle.step.specs.Step.{one-goes, takenOf, deliveredOf, forwardedOf, asked}
 use Rattle.table_plan.specs.InnerAsked.{Called, Read}
 use Rattle.table_plan.proofs.Called.{is-listed, low, slot-low, key-low, gone-obeys}
 use Rattle.table_plan.proofs.planned.Statement.{statement}

@@ -18,7 +18,7 @@ use Rattle.rules.specs.declared.Action.the-variants.{Lookup, Join, RequestLease
 use Rattle.rules.specs.declared.Action.the-variants.{NodeLeft, SuspectFaulty, ProbeTimeOut, DeclareDead, LSRepair, ResignNode, Recover}
 use Rattle.rules.specs.declared.Pool.{Pool}
 use Rattle.table_type.specs.declared.Table.{Table}
-use Rattle.table.specs.Step.{asked}
+use Rattle.step.specs.Step.{asked}
 use Rattle.table_plan.specs.InnerAsked.{Called}
 use Rattle.table_plan.proofs.Asks.{nothing-gone}
 use Rattle.table_plan.proofs.Called.{counted, slot-low, key-low}

@@ -18,14 +18,14 @@ use Rattle.marks.proofs.Laws.{lowest-found}
 use Rattle.rules.specs.declared.Plan.{Plan}
 use Rattle.rules.specs.declared.Pool.{Pool}
 use Rattle.rules.specs.Pool.{waiting, messageAt, laid}
-use Rattle.pool.specs.declared.New.{New}
-use Rattle.pool.proofs.Laid.{waiting-length}
-use Rattle.pool.specs.InnerSending.{leftOf, copies, newsOf, slotted, Roomy}
-use Rattle.pool.proofs.Places.{places-length}
-use Rattle.pool.proofs.Gaps.{Closed, next-low, closed-none, closed-more, closed-end, Put, put-one, put-none}
-use Rattle.pool.proofs.Gaps.{Filling, filling-none, fewer, filling-low, filling-more, filling-end}
-use Rattle.pool.proofs.Gaps.{Blanked, blanked-none, blanked-more, blanked-end}
-use Rattle.pool.proofs.Fresh.{slot-low, new-slot, new-fit, one-fits, after-is}
+use Rattle.pool_laws.specs.declared.New.{New}
+use Rattle.pool_laws.proofs.Laid.{waiting-length}
+use Rattle.pool_laws.specs.InnerSending.{leftOf, copies, newsOf, slotted, Roomy}
+use Rattle.pool_laws.proofs.Places.{places-length}
+use Rattle.pool_laws.proofs.Gaps.{Closed, next-low, closed-none, closed-more, closed-end, Put, put-one, put-none}
+use Rattle.pool_laws.proofs.Gaps.{Filling, filling-none, fewer, filling-low, filling-more, filling-end}
+use Rattle.pool_laws.proofs.Gaps.{Blanked, blanked-none, blanked-more, blanked-end}
+use Rattle.pool_laws.proofs.Fresh.{slot-low, new-slot, new-fit, one-fits, after-is}
 use Rattle.table_parts.proofs.Laws.{fits, full}
 use Rattle.table_plan.specs.declared.Asking.{Asking}
 use Rattle.table_plan.specs.InnerAsked.{Called, Asks, slotWith}
@@ -33,9 +33,9 @@ use Rattle.table_plan.proofs.Called.{counted}
 use Rattle.table_type.specs.declared.Table.{Table}
 use Rattle.table_type.specs.Table.{withNode}
 use Rattle.table.specs.Settle.{refusedOf, doneBy}
-use Rattle.table.specs.Step.{asked, plannedOf, isSound}
+use Rattle.step.specs.Step.{asked, plannedOf, isSound}
 use Rattle.table.specs.Valid.{validOf}
-use Rattle.table.proofs.Sound.{sound, is-valid}
+use Rattle.table_laws.proofs.Sound.{sound, is-valid}
 use Rattle.table_step.proofs.Lowered.{lowered-valid}
 use Rattle.table_step.proofs.Settles.{sound-is, step-invalid, step-range, calls, plan-slotted}
 use Rattle.table_step.proofs.Settles.{readOf, reads, acts-low, refuses, carries, first-told, timed-slot, timed-partner, times-out}

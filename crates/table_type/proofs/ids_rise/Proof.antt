@@ -7,7 +7,7 @@ use native.Mathlib.Omega.{arith}
 use Rattle.marks.specs.Marks.{allTo}
 use Rattle.marks.proofs.Laws.{more, fails}
 use Rattle.table_type.proofs.Starts.{ids-rising}
-use Rattle.table_type.specs.Start.{idRises}
+use Rattle.start.specs.Start.{idRises}
 use Rattle.table_type.proofs.ids_rise.Statement.{statement}
 use Rattle.table_type.proofs.ids_rise.Tie as tie
 

@@ -1,7 +1,7 @@
 -- `table_type::list_fits` meets its contract: it makes the definition's tests in the definition's order. Assumes nothing.
 use borrow.Author.Needs.{needs}
 use borrow.Author.Tests.{not-true, not-false}
-use Rattle.table_type.specs.Start.{listFits}
+use Rattle.start.specs.Start.{listFits}
 use Rattle.table_type.proofs.list_fits.Statement.{statement}
 use Rattle.table_type.proofs.list_fits.Tie as tie
 

@@ -1,6 +1,6 @@
 -- `table_type::start_fits` meets its contract: it makes the definition's tests in the definition's order. Assumes nothing.
 use mathlib.Core.Path.{refl}
-use Rattle.table_type.specs.Start.{startFits}
+use Rattle.start.specs.Start.{startFits}
 use Rattle.table_type.proofs.start_fits.Statement.{statement}
 use Rattle.table_type.proofs.start_fits.Tie as tie
 

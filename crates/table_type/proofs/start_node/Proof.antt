@@ -1,6 +1,6 @@
 -- `table_type::start_node` meets its contract: a ready node has the leaf set with A added, any other knows itself alone. Assumes nothing.
 use borrow.Author.Needs.{needs}
-use Rattle.table_type.specs.Start.{startNode}
+use Rattle.start.specs.Start.{startNode}
 use Rattle.table_type.proofs.start_node.Statement.{statement}
 use Rattle.table_type.proofs.start_node.Tie as tie
 

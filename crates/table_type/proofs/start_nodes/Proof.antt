@@ -4,7 +4,7 @@ use borrow.Author.Needs.{needs}
 use Prim.Native.Nat.{_-_, _≤_}
 use native.Mathlib.Omega.{arith}
 use Rattle.rules.specs.Nodes.{noNode}
-use Rattle.table_type.specs.Start.{startNode}
+use Rattle.start.specs.Start.{startNode}
 use Rattle.table_type.proofs.Starts.{start-nodes-long, start-node-at, start-node-past}
 use Rattle.table_type.proofs.Laws.{Filled, fill-begin, fill-more, fill-end}
 use Rattle.table_type.proofs.start_nodes.Statement.{statement}

@@ -2,7 +2,7 @@
 use mathlib.Core.Path.{sym, _∙_}
 use native.Mathlib.Omega.{arith}
 use borrow.Author.Needs.{needs}
-use Rattle.rules.proofs.Capped.{capped}
+use Rattle.rules_laws.proofs.Capped.{capped}
 use Rattle.table_valid.proofs.Hops.{other-id}
 use Rattle.table_valid.proofs.has_farther.Statement.{statement}
 use Rattle.table_valid.proofs.has_farther.Tie as tie

@@ -2,7 +2,7 @@
 use mathlib.Core.Path.{sym, _∙_}
 use borrow.Author.Needs.{needs}
 use borrow.Author.Tests.{not-true, not-false}
-use Rattle.table.proofs.Sound.{Numbers, numbers-told}
+use Rattle.table_laws.proofs.Sound.{Numbers, numbers-told}
 use Rattle.table.specs.Valid.{validOf}
 use Rattle.table_valid.proofs.Slots.{nodes-listed}
 use Rattle.table_valid.proofs.is_valid.Statement.{statement}

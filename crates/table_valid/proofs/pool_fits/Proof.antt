@@ -17,9 +17,8 @@ use Rattle.rules.specs.Fits.{messageFits, hopsFit}
 use Rattle.rules.specs.Mail.{allDifferent}
 use Rattle.rules.specs.Pool.{messageAt, waiting}
 use Rattle.table.specs.Valid.{messagesFit, poolFits}
-use Rattle.pool.proofs.Places.{places-length}
-use Rattle.pool.proofs.Chain.{Differ, differ-none, differ-more, differ-all, differ-not}
-use Rattle.pool.proofs.Chain.{Chained, Walk, none, starts, onward, more}
+use Rattle.pool_laws.proofs.Places.{places-length}
+use Rattle.pool_laws.proofs.Chain.{Differ, differ-none, differ-more, differ-all, differ-not, Chained, Walk, none, starts, onward, more}
 use Rattle.table_valid.proofs.pool_fits.Statement.{statement}
 use Rattle.table_valid.proofs.pool_fits.Tie as tie
 

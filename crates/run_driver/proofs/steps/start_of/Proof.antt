@@ -34,8 +34,8 @@ returns c =
     let l = a .before in
     let m = l .before in
     let start = m .before .before .before .before in
-    start-wrote (start .args .rest .now) (start .args .out .now) (take (start .args .n) (start .args .ids .now)) (m .read64 .ensures) (l .read642 .ensures) (a .read643 .ensures) (c .reply-of .ensures) (done .start-file .ensures .0)
-    (done .start-file .ensures .1)
+    start-wrote (start .args .rest .now) (start .args .out .now) (take (start .args .n) (start .args .ids .now))
+    (m .read64 .ensures) (l .read642 .ensures) (a .read643 .ensures) (c .reply-of .ensures) (done .start-file .ensures .0) (done .start-file .ensures .1)
 
 pub start-of-spec : {M : Type 1} → statement M
 start-of-spec =

@@ -5,7 +5,7 @@ use borrow.Author.Tests.{not-true, not-false}
 use mathlib.Core.Path.{_≡_, sym, _∙_}
 use mathlib.Core.Bool.{true}
 use lib.ListN.{length}
-use Rattle.table_type.specs.Start.{startFits, listFits, slotIds}
+use Rattle.start.specs.Start.{startFits, listFits, slotIds}
 use Rattle.table_type.proofs.Starts.{StartFits, start-fits, list-fits, start-listed, start-header, start-invalid, start-done}
 use Rattle.table_type.proofs.Table.start.Statement.{statement}
 use Rattle.table_type.proofs.Table.start.Tie as tie

@@ -1,0 +1,3 @@
+pub mod Trip
+pub mod Print
+pub mod List

@@ -1,0 +1,17 @@
+pub mod Nodes
+pub mod Obeys
+pub mod Letters
+pub mod Sound
+pub mod By
+pub mod Comes
+pub mod Plans
+pub mod Leaves
+pub mod Takes
+pub mod Routed
+pub mod Hops
+pub mod Proved
+pub mod Numbers
+pub mod Ten
+pub mod Started
+pub mod Legal
+pub mod Begin

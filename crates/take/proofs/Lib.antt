@@ -1,0 +1,4 @@
+pub mod Small
+pub mod RouteCases
+pub mod ProbeCases
+pub mod LeaseCases
