@@ -37,7 +37,7 @@ use Rattle.table_laws.proofs.By.{slot-in-range}
 use Rattle.table_laws.proofs.Comes.{Comes, says-no, goes, go-comes, by-take}
 use Rattle.join_laws.specs.Clauses.{View, viewOf, Calm, Fair, Clauses}
 use Rattle.join_laws.proofs.Good.{Fitting, Good, sends-one}
-use Rattle.join_laws.specs.Claims.{NoneWaits, keepsTurns}
+use Rattle.join_laws.specs.Claims.{NoneWaits, Barred, leaves, times-out}
 use Rattle.join_laws.proofs.Lasting.{ready-up, lookup-good, request-lease-good, lease-expired-good, grant-expired-good}
 use Rattle.join_laws.proofs.Lasting.{deliver-good, forward-lookup-good, take-lease-request-good}
 use Rattle.join_laws.proofs.Request.{take-join-request-good}
@@ -100,7 +100,7 @@ pub fitting : {t : Table} {p : Pool} → Sound t p → Fitting (viewOf t)
 fitting {t} s = record { listed = s .listed; one = s .numbers .l-low; rules = λ i h. node-rules (ringOf t) i (nodeAt t i) (s .node i h) }
 
 module _ {t : Table} {p : Pool} (s : Sound t p) (c : Clauses t p) where
-  pub planned-good : (a : Action) → asked t p a .range ≡ true → keepsTurns a ≡ true → ((i seed : ℕ) → a ≡ Join i seed → NoneWaits t)
+  pub planned-good : (a : Action) → asked t p a .range ≡ true → (Barred a → ⊥) → ((i seed : ℕ) → a ≡ Join i seed → NoneWaits t)
       → (x : Plan)
       → plannedOf (asked t p a) ≡ Go x → Good (viewOf t) (asked t p a .slot) x
   planned-good (Lookup i k) e stay none =
@@ -121,9 +121,9 @@ module _ {t : Table} {p : Pool} (s : Sound t p) (c : Clauses t p) where
   planned-good (Forward place) e stay none =
       let m = messageAt p place in
       forward-lookup-good (viewOf t) (m .dest) (c .nodes) (slot-in-range s (Forward place) e) (m .kind) (deadSet t) (m .word) (m .hops)
-  planned-good (NodeLeft i) e stay none = absurd (clash (sym stay))
+  planned-good (NodeLeft i) e stay none = absurd (stay leaves)
   planned-good (SuspectFaulty i j) e stay none = suspect-faulty-good (viewOf t) i (c .nodes) (fitting s) (slot-in-range s (SuspectFaulty i j) e) j
-  planned-good (ProbeTimeOut i j) e stay none = absurd (clash (sym stay))
+  planned-good (ProbeTimeOut i j) e stay none = absurd (stay times-out)
   planned-good (DeclareDead i j) e stay none = declare-dead-good (viewOf t) i (c .nodes) (fitting s) (slot-in-range s (DeclareDead i j) e) j
   planned-good (LSRepair i) e stay none = repair-good (viewOf t) i (c .nodes) (fitting s) (slot-in-range s (LSRepair i) e)
   planned-good (ResignNode i n) e stay none =

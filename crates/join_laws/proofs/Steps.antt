@@ -46,7 +46,7 @@ use Rattle.lookup_laws.proofs.Tracks.{ready-is, same-node}
 use Rattle.join_laws.proofs.Acts.{fitting, planned-good}
 use Rattle.join_laws.specs.Clauses.{View, viewOf, Alive, Calm, Fair, Clauses}
 use Rattle.join_laws.proofs.Guarding.{guards-flank}
-use Rattle.join_laws.specs.Claims.{NoneWaits, keepsTurns, InTurn, Patient, Throughout, IsUp, Held, ClausesHeld, ClausesStay}
+use Rattle.join_laws.specs.Claims.{NoneWaits, Barred, InTurn, Patient, Throughout, IsUp, Held, ClausesHeld, ClausesStay}
 use Rattle.join_laws.proofs.Lasting.{ready-up}
 use Rattle.join_laws.proofs.Written.{seen, put, putAt, put-written}
 
@@ -87,7 +87,7 @@ left-all p (probes-go i j) h = all-left i j h
 -- ---- a step
 
 module _ {t : Table} {p : Pool} (c : Clauses t p) (a : Action) where
-  done-clauses : (x : Plan) → DoneWith t p 256 a x → keepsTurns a ≡ true → ((i seed : ℕ) → a ≡ Join i seed → NoneWaits t)
+  done-clauses : (x : Plan) → DoneWith t p 256 a x → (Barred a → ⊥) → ((i seed : ℕ) → a ≡ Join i seed → NoneWaits t)
       → Clauses (leavesOf t p a x .table) (leavesOf t p a x .pool)
   done-clauses x d stay none =
       let good = planned-good (d .sound) c a (d .in-range) stay none x (d .plan) in

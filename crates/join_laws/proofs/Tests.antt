@@ -5,7 +5,7 @@ use mathlib.Core.Bool.{Bool, true, false, _&&_, _||_, not}
 use mathlib.Core.List.{List, [], _∷_, _++_}
 use Prim.Native.Nat.{ℕ}
 use borrow.Author.Tests.{not-true}
-use Rattle.marks.proofs.Bools.{clash, and-both, false-not}
+use Rattle.marks.proofs.Bools.{clash, opposed, and-both, false-not}
 use Rattle.marks.proofs.Laws.{each, all-of}
 use Rattle.rules.specs.declared.Action.{Action}
 use Rattle.rules.specs.declared.Action.the-variants.{Lookup, Join, RequestLease, LeaseExpired, GrantExpired, Take, Deliver, Forward}
@@ -20,7 +20,7 @@ use Rattle.step.specs.Step.{stepOf}
 use Rattle.table_type.specs.Table.{nodeAt}
 use Rattle.table_laws.proofs.Nodes.{both}
 use Rattle.join_laws.specs.Safe.{nobodyWaits}
-use Rattle.join_laws.specs.Claims.{NoneWaits, keepsTurns, InTurn, Patient, Throughout}
+use Rattle.join_laws.specs.Claims.{NoneWaits, Barred, leaves, times-out, InTurn, Patient, Throughout}
 
 -- the action is a Join
 abbrev pub isJoin : Action → Bool
@@ -39,6 +39,23 @@ isJoin (DeclareDead i j) = false
 isJoin (LSRepair i) = false
 isJoin (ResignNode i n) = false
 isJoin (Recover i) = false
+
+abbrev keepsTurns : Action → Bool
+keepsTurns (Lookup i k) = true
+keepsTurns (Join i seed) = true
+keepsTurns (RequestLease i) = true
+keepsTurns (LeaseExpired i j) = true
+keepsTurns (GrantExpired i j) = true
+keepsTurns (Take place) = true
+keepsTurns (Deliver place) = true
+keepsTurns (Forward place) = true
+keepsTurns (NodeLeft i) = false
+keepsTurns (SuspectFaulty i j) = true
+keepsTurns (ProbeTimeOut i j) = false
+keepsTurns (DeclareDead i j) = true
+keepsTurns (LSRepair i) = true
+keepsTurns (ResignNode i n) = true
+keepsTurns (Recover i) = true
 
 abbrev pub isDone : Answer → Bool
 isDone Done = true
@@ -75,10 +92,31 @@ pub none-of : (t : Table) → NoneWaits t → nobodyWaits t ≡ true
 unfolding nobodyWaits
 none-of t none = all-of (t .n) (λ s. not (isWait (nodeAt t s .status))) (λ s h. false-not (none s h))
 
+barred-told : (a : Action) → Barred a → keepsTurns a ≡ false
+barred-told (NodeLeft i) leaves = refl
+barred-told (ProbeTimeOut i j) times-out = refl
+
+turns-kept : (a : Action) → (Barred a → ⊥) → keepsTurns a ≡ true
+turns-kept (Lookup i k) e = refl
+turns-kept (Join i seed) e = refl
+turns-kept (RequestLease i) e = refl
+turns-kept (LeaseExpired i j) e = refl
+turns-kept (GrantExpired i j) e = refl
+turns-kept (Take place) e = refl
+turns-kept (Deliver place) e = refl
+turns-kept (Forward place) e = refl
+turns-kept (NodeLeft i) e = absurd (e leaves)
+turns-kept (SuspectFaulty i j) e = refl
+turns-kept (ProbeTimeOut i j) e = absurd (e times-out)
+turns-kept (DeclareDead i j) e = refl
+turns-kept (LSRepair i) e = refl
+turns-kept (ResignNode i n) e = refl
+turns-kept (Recover i) e = refl
+
 turn-told : (t : Table) (p : Pool) (a : Action) → isInTurn t a (stepOf t p 256 a .answer) ≡ true → InTurn t p a
 turn-told t p a e =
     let b = both (not (isDone (stepOf t p 256 a .answer)) || keepsTurns a) _ e in
-    (λ done. rw done at (b .0), λ i seed join done. none-told t (rw (done, join) at (b .1)))
+    (λ done bar. opposed (rw done at (b .0)) (barred-told a bar), λ i seed join done. none-told t (rw (done, join) at (b .1)))
 
 pub turns-told : (acts : List Action) (s : Stepped) → ran acts s .turns ≡ true → Patient (s .table) (s .pool) acts
 turns-told [] s e = tt
@@ -112,7 +150,7 @@ turn-of t p a turn =
     and-both (stays (stepOf t p 256 a .answer) refl) (go (isJoin a && isDone (stepOf t p 256 a .answer)) refl)
   where
     stays : (r : Answer) → stepOf t p 256 a .answer ≡ r → (not (isDone r) || keepsTurns a) ≡ true
-    stays Done e = turn .0 e
+    stays Done e = turns-kept a (turn .0 e)
     stays (Refused why) e = refl
 
     go : (b : Bool) → (isJoin a && isDone (stepOf t p 256 a .answer)) ≡ b → (not b || nobodyWaits t) ≡ true

@@ -2,15 +2,14 @@
 -- actions of the real step: if no node leaves, no probe times out, and no Join is done while some node is wait, then after every action no two ready
 -- nodes cover one key. Only statements: the proofs are named in Proved. Assumes nothing.
 use mathlib.Core.Path.{_≡_}
-use mathlib.Core.Bool.{Bool, true, false}
+use mathlib.Core.Bool.{true, false}
 use mathlib.Core.List.{List, [], _∷_}
 use mathlib.Core.Logic.{_↔_}
 use Prim.Native.Nat.{ℕ, _^_, _<_}
 use Rattle.rules.specs.Names.{Slot, Marks, Ids, Key}
 use Rattle.rules.specs.declared.Pool.{Pool}
 use Rattle.rules.specs.declared.Action.{Action}
-use Rattle.rules.specs.declared.Action.the-variants.{Lookup, Join, RequestLease, LeaseExpired, GrantExpired, Take, Deliver, Forward}
-use Rattle.rules.specs.declared.Action.the-variants.{NodeLeft, SuspectFaulty, ProbeTimeOut, DeclareDead, LSRepair, ResignNode, Recover}
+use Rattle.rules.specs.declared.Action.the-variants.{Join, NodeLeft, ProbeTimeOut}
 use Rattle.rules.specs.declared.Answer.the-variants.{Done}
 use Rattle.rules.specs.Plans.{isWait, isUp}
 use Rattle.rules.specs.Pool.{laid}
@@ -29,27 +28,14 @@ use Rattle.join_laws.specs.Safe.{nobodyWaits, safeToJoin}
 abbrev pub NoneWaits : Table → Type 0
 NoneWaits t = (i : Slot) → i < t .n → isWait (nodeAt t i .status) ≡ false
 
--- the action is neither NodeLeft nor ProbeTimeOut, of which nothing is said here
-abbrev pub keepsTurns : Action → Bool
-keepsTurns (Lookup i k) = true
-keepsTurns (Join i seed) = true
-keepsTurns (RequestLease i) = true
-keepsTurns (LeaseExpired i j) = true
-keepsTurns (GrantExpired i j) = true
-keepsTurns (Take place) = true
-keepsTurns (Deliver place) = true
-keepsTurns (Forward place) = true
-keepsTurns (NodeLeft i) = false
-keepsTurns (SuspectFaulty i j) = true
-keepsTurns (ProbeTimeOut i j) = false
-keepsTurns (DeclareDead i j) = true
-keepsTurns (LSRepair i) = true
-keepsTurns (ResignNode i n) = true
-keepsTurns (Recover i) = true
+-- the action is NodeLeft or ProbeTimeOut, of which nothing is said here
+pub data Barred : Action → Type 0 where
+  leaves : {i : Slot} → Barred (NodeLeft i)
+  times-out : {i j : Slot} → Barred (ProbeTimeOut i j)
 
 -- if the action is done, it is neither NodeLeft nor ProbeTimeOut; and if it is a Join, no node was wait. One that is refused changes nothing
 abbrev pub InTurn : Table → Pool → Action → Type 0
-InTurn t p a = (stepOf t p 256 a .answer ≡ Done → keepsTurns a ≡ true)
+InTurn t p a = (stepOf t p 256 a .answer ≡ Done → Barred a → ⊥)
     × ((i seed : Slot) → a ≡ Join i seed → stepOf t p 256 a .answer ≡ Done → NoneWaits t)
 
 -- no NodeLeft and no ProbeTimeOut of the list is done, and no Join of it while some node is wait

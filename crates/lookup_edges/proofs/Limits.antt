@@ -46,7 +46,7 @@ use Rattle.step.specs.Step.{isSound, stepOf}
 use Rattle.table_type.specs.Table.{nodeAt, withNode}
 use Rattle.table.specs.Valid.{nodesFit, messagesFit, poolFits, validOf}
 use Rattle.lookup_laws.specs.Journey.{stepped, hopsAt, LookupAt, Fate, stays, routed, met, delivered, unroutable, fateOf, routings, Delivers, here, on}
-use Rattle.lookup_laws.specs.Pair.{forwardsAt, poolAfter}
+use Rattle.lookup_laws.specs.Pair.{ForwardsAt, forwards-at, poolAfter}
 use Rattle.lookup_laws.specs.Carried.{placeAfter}
 use Rattle.lookup_laws.specs.Claims.{Ready, Alone, Arrives}
 use Rattle.lookup_laws.proofs.Holder.{nextOf}
@@ -360,8 +360,11 @@ unfolding pair placeAfter opened
 met-nowhere = refl
 
 -- a Forward of what waits for another slot is none at this one
-pub another-forwards : (forwardsAt both-look (Forward 1) 0 ≡ false) × (forwardsAt both-look (Forward 0) 0 ≡ true)
-another-forwards = (refl, refl)
+pub another-forwards : (ForwardsAt both-look 0 (Forward 1) → ⊥) × ForwardsAt both-look 0 (Forward 0)
+another-forwards = (not-there, forwards-at refl)
+  where
+    not-there : ForwardsAt both-look 0 (Forward 1) → ⊥
+    not-there (forwards-at e) = omega (arith, e)
 
 pub met-fails : LookupAt both-look 0 2 0 × (Arrives pair both-look 0 2 → ⊥)
 met-fails = (record { waits = omega arith; is = refl }, λ a. stuck (ap ending (met-computes .2)) (ap going (met-computes .3)) (a .delivers))

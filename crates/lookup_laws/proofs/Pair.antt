@@ -32,7 +32,7 @@ use Rattle.lookup_laws.specs.Claims.{Ready}
 use Rattle.lookup_laws.specs.Fates.{coversAt, Tracked}
 use Rattle.lookup_laws.specs.Journey.{stepped, LookupAt, Fate, stays, routed, met, delivered, unroutable, fateOf}
 use Rattle.lookup_laws.specs.Pair.{planTakeLookup, takenBefore, takeOf, OneDone, Judged, statusAt, ReadyOne, AllAre, OthersTwo, TakeFive}
-use Rattle.lookup_laws.specs.Pair.{AnotherKind, OtherKinds, Unjudged, forwardsAt, NoForwardAt, endBy, endOf, poolAfter, GatewayHolds}
+use Rattle.lookup_laws.specs.Pair.{AnotherKind, OtherKinds, Unjudged, ForwardsAt, forwards-at, NoForwardAt, endBy, endOf, poolAfter, GatewayHolds}
 use Rattle.lookup_laws.proofs.Routings.{step-valid}
 use Rattle.lookup_laws.proofs.Stands.{lookup-at}
 use Rattle.lookup_laws.proofs.Taking.{deliver-done, forward-done}
@@ -198,8 +198,7 @@ gateway-holds t p q k d (a ∷ acts) e l f =
 
     -- it would be a Forward at d
     not-forwarded : a ≡ Forward q → ⊥
-    not-forwarded b =
-        opposed (ap (λ (x : Action). forwardsAt p x d) b ∙ eq-eqb (messageAt p q .dest) d (ap (λ (m : Message). m .dest) (l .is))) (f .0)
+    not-forwarded b = f .0 (subst (ForwardsAt p d) (sym b) (forwards-at (ap (λ (m : Message). m .dest) (l .is))))
 
     go : (x : Fate) → Tracked t p q k d a x → ((r : ℕ) → LookupAt (stepped t p a .pool) r k d → Held after k d (messageAt (stepped t p a .pool) r) (rest r))
         → Held after k d (messageAt p q) (endBy x rest)

@@ -9,8 +9,7 @@ use Prim.Native.Nat.{ℕ, _+_, _<_}
 use lib.Dec.{eqb}
 use Rattle.rules.specs.Names.{Slot, Marks, Ids, Key, Hops, Place}
 use Rattle.rules.specs.declared.Action.{Action}
-use Rattle.rules.specs.declared.Action.the-variants.{Lookup, Join, RequestLease, LeaseExpired, GrantExpired, Take, Deliver, Forward}
-use Rattle.rules.specs.declared.Action.the-variants.{NodeLeft, SuspectFaulty, ProbeTimeOut, DeclareDead, LSRepair, ResignNode, Recover}
+use Rattle.rules.specs.declared.Action.the-variants.{Take, Deliver, Forward}
 use Rattle.rules.specs.declared.Answer.the-variants.{Done}
 use Rattle.rules.specs.declared.Message.{Message}
 use Rattle.rules.specs.declared.Node.{Node}
@@ -112,27 +111,13 @@ Unjudged = (t : Table) (p : Pool) (len : ℕ) (place : Place) → (Judged t p le
 -- ---- a gateway hands records over and never forwards
 
 -- the action is a Forward of a message that waits for slot d
-abbrev pub forwardsAt : Pool → Action → Slot → Bool
-forwardsAt p (Lookup i k) d = false
-forwardsAt p (Join i seed) d = false
-forwardsAt p (RequestLease i) d = false
-forwardsAt p (LeaseExpired i j) d = false
-forwardsAt p (GrantExpired i j) d = false
-forwardsAt p (Take place) d = false
-forwardsAt p (Deliver place) d = false
-forwardsAt p (Forward place) d = eqb (messageAt p place .dest) d
-forwardsAt p (NodeLeft i) d = false
-forwardsAt p (SuspectFaulty i j) d = false
-forwardsAt p (ProbeTimeOut i j) d = false
-forwardsAt p (DeclareDead i j) d = false
-forwardsAt p (LSRepair i) d = false
-forwardsAt p (ResignNode i n) d = false
-forwardsAt p (Recover i) d = false
+pub data ForwardsAt (p : Pool) (d : Slot) : Action → Type 0 where
+  forwards-at : {place : Place} → messageAt p place .dest ≡ d → ForwardsAt p d (Forward place)
 
 -- none of these actions, made one after the other, is
 unfoldable pub NoForwardAt : Slot → Table → Pool → List Action → Type 0
 NoForwardAt d t p [] = Unit {0}
-NoForwardAt d t p (a ∷ acts) = (forwardsAt p a d ≡ false) × NoForwardAt d (stepped t p a .table) (stepped t p a .pool) acts
+NoForwardAt d t p (a ∷ acts) = (ForwardsAt p d a → ⊥) × NoForwardAt d (stepped t p a .table) (stepped t p a .pool) acts
 
 -- what becomes of the lookup at place q along these actions: it waits still, or the fate that ended its waiting at its node
 abbrev pub endBy : Fate → (Place → Fate) → Fate

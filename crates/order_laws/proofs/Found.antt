@@ -3,14 +3,15 @@
 -- the other way. Assumes nothing.
 use mathlib.Core.Path.{_≡_, refl, sym, _∙_, ap, ap₂}
 use mathlib.Core.Logic.{_⊎_, inl, inr}
-use mathlib.Core.Bool.{Bool, true, _&&_}
+use mathlib.Core.Bool.{Bool, true, false, _&&_}
 use mathlib.Core.List.{List, [], _∷_}
 use Prim.Native.Nat.{ℕ, zero, suc, _+_, _<_, _≤_}
 use native.Mathlib.Omega.{arith}
 use borrow.Author.Tests.{eq-eqb, eqb-true}
 use lib.Dec.{eqb}
 use lib.ListN.{getD, length}
-use Rattle.marks.proofs.Bools.{and-left, and-right, and-both, lt-or-le}
+use Rattle.marks.proofs.Bools.{opposed, and-left, and-right, and-both, lt-or-le}
+use Rattle.rules.specs.declared.Action.{Action}
 use Rattle.rules.specs.declared.Action.the-variants.{Lookup, Join, RequestLease, LeaseExpired, GrantExpired, Take, Deliver, Forward}
 use Rattle.rules.specs.declared.Action.the-variants.{NodeLeft, SuspectFaulty, ProbeTimeOut, DeclareDead, LSRepair, ResignNode, Recover}
 use Rattle.rules.specs.declared.Message.{Message}
@@ -20,7 +21,7 @@ use Rattle.rules.specs.Pool.{blank, waiting}
 use Rattle.pool_laws.proofs.Laws.{alike-same, alike-refl, waiting-at, waiting-short}
 use Rattle.order_laws.specs.Claims.{SameExactly, ActionFound}
 use Rattle.order_laws.specs.Order.{passing, SameMail, Rearranged, nothing, behind, exchanged, again, SamePool}
-use Rattle.order_laws.specs.Order.{SamePlace, one-waits, none-waits, takes, delivers, forwards, other}
+use Rattle.order_laws.specs.Order.{SamePlace, one-waits, none-waits, NamesPlace, take-names, deliver-names, forward-names, takes, delivers, forwards, other}
 use Rattle.order_laws.proofs.Passing.{one, passing-removed, passes, passing-place}
 use Rattle.order_laws.proofs.Kept.{same-length, mail-self, mail-on, none-at}
 
@@ -77,22 +78,48 @@ module _ {p q : Pool} (k : SamePool p q) where
           (r, one-waits l low (none-at p r l h ∙ sym (none-at q r low (omega (arith, same-length (k .mail))))))
       go (inr l) h = (r, none-waits l (omega (arith, k .counted)))
 
+-- an action that names a place is a Take, a Deliver or a Forward
+abbrev named : Action → Bool
+named (Lookup i k) = false
+named (Join i seed) = false
+named (RequestLease i) = false
+named (LeaseExpired i j) = false
+named (GrantExpired i j) = false
+named (Take place) = true
+named (Deliver place) = true
+named (Forward place) = true
+named (NodeLeft i) = false
+named (SuspectFaulty i j) = false
+named (ProbeTimeOut i j) = false
+named (DeclareDead i j) = false
+named (LSRepair i) = false
+named (ResignNode i n) = false
+named (Recover i) = false
+
+names-named : (a : Action) → NamesPlace a → named a ≡ true
+names-named (Take place) take-names = refl
+names-named (Deliver place) deliver-names = refl
+names-named (Forward place) forward-names = refl
+
+placeless : (a : Action) → named a ≡ false → NamesPlace a → ⊥
+placeless a e n = opposed (names-named a n) e
+
 pub action-found : ActionFound
-action-found p q (Lookup i k) s = (Lookup i k, other refl)
-action-found p q (Join i seed) s = (Join i seed, other refl)
-action-found p q (RequestLease i) s = (RequestLease i, other refl)
-action-found p q (LeaseExpired i j) s = (LeaseExpired i j, other refl)
-action-found p q (GrantExpired i j) s = (GrantExpired i j, other refl)
+action-found p q (Lookup i k) s = (Lookup i k, other (placeless (Lookup i k) refl))
+action-found p q (Join i seed) s = (Join i seed, other (placeless (Join i seed) refl))
+action-found p q (RequestLease i) s = (RequestLease i, other (placeless (RequestLease i) refl))
+action-found p q (LeaseExpired i j) s = (LeaseExpired i j, other (placeless (LeaseExpired i j) refl))
+action-found p q (GrantExpired i j) s = (GrantExpired i j, other (placeless (GrantExpired i j) refl))
 action-found p q (Take r) s = let found = place-found s r in (Take (found .0), takes (found .1))
 action-found p q (Deliver r) s = let found = place-found s r in (Deliver (found .0), delivers (found .1))
 action-found p q (Forward r) s = let found = place-found s r in (Forward (found .0), forwards (found .1))
-action-found p q (NodeLeft i) s = (NodeLeft i, other refl)
-action-found p q (SuspectFaulty i j) s = (SuspectFaulty i j, other refl)
-action-found p q (ProbeTimeOut i j) s = (ProbeTimeOut i j, other refl)
-action-found p q (DeclareDead i j) s = (DeclareDead i j, other refl)
-action-found p q (LSRepair i) s = (LSRepair i, other refl)
-action-found p q (ResignNode i n) s = (ResignNode i n, other refl)
-action-found p q (Recover i) s = (Recover i, other refl)
+action-found p q (NodeLeft i) s = (NodeLeft i, other (placeless (NodeLeft i) refl))
+action-found p q (SuspectFaulty i j) s = (SuspectFaulty i j, other (placeless (SuspectFaulty i j) refl))
+action-found p q (ProbeTimeOut i j) s = (ProbeTimeOut i j, other (placeless (ProbeTimeOut i j) refl))
+action-found p q (DeclareDead i j) s = (DeclareDead i j, other (placeless (DeclareDead i j) refl))
+action-found p q (LSRepair i) s = (LSRepair i, other (placeless (LSRepair i) refl))
+action-found p q (ResignNode i n) s = (ResignNode i n, other (placeless (ResignNode i n) refl))
+action-found p q (Recover i) s = (Recover i, other (placeless (Recover i) refl))
 
 -- ---- exchanging neighbours
 

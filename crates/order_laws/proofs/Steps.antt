@@ -29,7 +29,7 @@ use Rattle.table_laws.proofs.Numbers.{taken-waits}
 use Rattle.table_laws.proofs.Proved.{refusal-keeps}
 use Rattle.table_laws.proofs.Sound.{Sound, sound, is-valid}
 use Rattle.pool_laws.proofs.Laws.{waiting-at}
-use Rattle.order_laws.specs.Order.{SameMail, SamePool, SamePlace, one-waits, none-waits, placeless, SameAction, SameStep, stepsOf, SameSteps, Met}
+use Rattle.order_laws.specs.Order.{SameMail, SamePool, SamePlace, one-waits, none-waits, NamesPlace, take-names, deliver-names, forward-names, SameAction, SameStep, stepsOf, SameSteps, Met}
 use Rattle.order_laws.specs.Order as order
 use Rattle.order_laws.specs.Claims.{OrderNoAccount, BothLeft, AlongActions, ActionsFound, SearchesAgree}
 use Rattle.order_laws.proofs.Found.{action-found}
@@ -74,15 +74,15 @@ module _ (t : Table) {p q : Pool} (s : SamePool p q) where
         never : ltb r (p .count) ≡ true → ⊥
         never d = clash (sym d ∙ le-ltb r (p .count) i)
 
-    asked-other : (a : Action) → placeless a ≡ true → SameAsked p q (asked t p a) (asked t q a)
+    asked-other : (a : Action) → (NamesPlace a → ⊥) → SameAsked p q (asked t p a) (asked t q a)
     asked-other (Lookup i k) e = asks _ i _ _ _ (waits-same (s .mail) (placed (lookup k) i))
     asked-other (Join i seed) e = asks _ i _ _ _ (join-waits-same (s .mail) i)
     asked-other (RequestLease i) e = alone _ refl
     asked-other (LeaseExpired i j) e = alone _ refl
     asked-other (GrantExpired i j) e = alone _ refl
-    asked-other (Take place) e = absurd (clash (sym e))
-    asked-other (Deliver place) e = absurd (clash (sym e))
-    asked-other (Forward place) e = absurd (clash (sym e))
+    asked-other (Take place) e = absurd (e take-names)
+    asked-other (Deliver place) e = absurd (e deliver-names)
+    asked-other (Forward place) e = absurd (e forward-names)
     asked-other (NodeLeft i) e = alone _ refl
     asked-other (SuspectFaulty i j) e = alone _ refl
     asked-other (ProbeTimeOut i j) e = record { range = refl; slot = λ r. refl; planned = λ r. refl; left = λ r. kept-probes (s .mail) i j }

@@ -1,13 +1,12 @@
 -- Beside 01: when two pools hold the same messages, when two actions on them name the same message, and when two steps come to the same. Definitions only.
 -- Assumes nothing.
 use mathlib.Core.Path.{_≡_}
-use mathlib.Core.Bool.{Bool, true, false, cond}
+use mathlib.Core.Bool.{Bool, cond}
 use mathlib.Core.List.{List, [], _∷_}
 use Prim.Native.Nat.{ℕ, _+_, _<_, _≤_}
 use Rattle.rules.specs.Names.{Place}
 use Rattle.rules.specs.declared.Action.{Action}
-use Rattle.rules.specs.declared.Action.the-variants.{Lookup, Join, RequestLease, LeaseExpired, GrantExpired, Take, Deliver, Forward}
-use Rattle.rules.specs.declared.Action.the-variants.{NodeLeft, SuspectFaulty, ProbeTimeOut, DeclareDead, LSRepair, ResignNode, Recover}
+use Rattle.rules.specs.declared.Action.the-variants.{Take, Deliver, Forward}
 use Rattle.rules.specs.declared.Message.{Message}
 use Rattle.rules.specs.declared.Pool.{Pool}
 use Rattle.rules.specs.Pool.{messageAt, waiting}
@@ -45,30 +44,18 @@ pub data SamePlace (p q : Pool) (r s : Place) : Type 0 where
   one-waits : r < p .count → s < q .count → messageAt p r ≡ messageAt q s → SamePlace p q r s
   none-waits : p .count ≤ r → q .count ≤ s → SamePlace p q r s
 
--- the action names no place
-abbrev pub placeless : Action → Bool
-placeless (Lookup i k) = true
-placeless (Join i seed) = true
-placeless (RequestLease i) = true
-placeless (LeaseExpired i j) = true
-placeless (GrantExpired i j) = true
-placeless (Take place) = false
-placeless (Deliver place) = false
-placeless (Forward place) = false
-placeless (NodeLeft i) = true
-placeless (SuspectFaulty i j) = true
-placeless (ProbeTimeOut i j) = true
-placeless (DeclareDead i j) = true
-placeless (LSRepair i) = true
-placeless (ResignNode i n) = true
-placeless (Recover i) = true
+-- the action names a place
+pub data NamesPlace : Action → Type 0 where
+  take-names : {place : Place} → NamesPlace (Take place)
+  deliver-names : {place : Place} → NamesPlace (Deliver place)
+  forward-names : {place : Place} → NamesPlace (Forward place)
 
 -- of two actions, one on p and one on q, each asks for the same; where they name a place, the same message waits there
 pub data SameAction (p q : Pool) : Action → Action → Type 0 where
   takes : {r s : Place} → SamePlace p q r s → SameAction p q (Take r) (Take s)
   delivers : {r s : Place} → SamePlace p q r s → SameAction p q (Deliver r) (Deliver s)
   forwards : {r s : Place} → SamePlace p q r s → SameAction p q (Forward r) (Forward s)
-  other : {a : Action} → placeless a ≡ true → SameAction p q a a
+  other : {a : Action} → (NamesPlace a → ⊥) → SameAction p q a a
 
 -- ---- the same steps
 

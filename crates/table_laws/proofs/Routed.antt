@@ -17,7 +17,7 @@ use Rattle.rules.specs.Pool.{messageAt}
 use Rattle.take.specs.Take.{probePlanOf, replyPlanOf, broadcastPlan}
 use Rattle.table_type.specs.declared.Table.{Table}
 use Rattle.table_type.specs.Table.{nodeAt, idsOf, ringOf}
-use Rattle.table_laws.specs.Claims.{mayRoute}
+use Rattle.table_laws.specs.Claims.{MayRoute, forwards, takes-request}
 use Rattle.table.specs.Settled.{deadSet, someUp}
 use Rattle.step.specs.Step.{takenOf, asked, plannedOf}
 use Rattle.table_laws.proofs.Obeys.{obeys}
@@ -35,7 +35,7 @@ abbrev Silent : Plan → Type 0
 Silent x = x .via ≡ Unrouted
 
 module _ {t : Table} {p : Pool} (s : Sound t p) where
-  taken-silent : (place : ℕ) → place < p .count → mayRoute p (Take place) ≡ false → Comes Any Silent (takenOf t (messageAt p place))
+  taken-silent : (place : ℕ) → place < p .count → (messageAt p place .kind ≡ 2 → ⊥) → Comes Any Silent (takenOf t (messageAt p place))
   unfolding probePlanOf replyPlanOf broadcastPlan
   taken-silent place h not2 =
       let m = messageAt p place in
@@ -46,7 +46,7 @@ module _ {t : Table} {p : Pool} (s : Sound t p) where
       let v = nodeAt t i in
       by-take (m .kind) g ids (deadSet t) i v m (o .kind-low) (o .kind-high)
       (λ _. tt)
-      (λ e. absurd (opposed (eq-eqb (m .kind) 2 e) not2))
+      (λ e. absurd (not2 e))
       (λ _. by-take-join-reply g ids i v m tt tt tt refl)
       (λ _. by-take-probe g ids i v m tt tt tt refl)
       (λ _. by-take-probe-reply g ids i v m tt tt tt refl)
@@ -54,18 +54,18 @@ module _ {t : Table} {p : Pool} (s : Sound t p) where
       (λ _. by-take-lease-request g ids i v (m .word) tt tt (λ near. refl))
       (λ _. by-take-broadcast g ids i v m tt tt tt refl)
 
-  pub planned-silent : (a : Action) → asked t p a .range ≡ true → mayRoute p a ≡ false → Comes Any Silent (plannedOf (asked t p a))
+  pub planned-silent : (a : Action) → asked t p a .range ≡ true → (MayRoute p a → ⊥) → Comes Any Silent (plannedOf (asked t p a))
   unfolding leasePlan
   planned-silent (Lookup i k) e n = by-lookup _ i k (nodeAt t i) tt refl
   planned-silent (Join i seed) e n = by-join _ i (nodeAt t i) seed (nodeAt t seed) tt tt tt refl
   planned-silent (RequestLease i) e n = by-request-lease (ringOf t) (idsOf t) i (nodeAt t i) tt tt refl
   planned-silent (LeaseExpired i j) e n = by-lease-expired (ringOf t) (idsOf t) i (nodeAt t i) j tt tt refl
   planned-silent (GrantExpired i j) e n = by-grant-expired i (nodeAt t i) j (nodeAt t j) tt tt refl
-  planned-silent (Take place) e n = taken-silent place (ltb-true place (p .count) e) n
+  planned-silent (Take place) e n = taken-silent place (ltb-true place (p .count) e) (λ k. n (takes-request k))
   planned-silent (Deliver place) e n =
       let m = messageAt p place in
       by-deliver (m .kind) (ringOf t) (idsOf t) (m .dest) (nodeAt t (m .dest)) (m .word) (λ _. tt) tt refl
-  planned-silent (Forward place) e n = absurd (opposed refl n)
+  planned-silent (Forward place) e n = absurd (n forwards)
   planned-silent (NodeLeft i) e n = by-node-left (nodeAt t i) tt refl
   planned-silent (SuspectFaulty i j) e n = by-suspect-faulty i (nodeAt t i) j tt tt (λ _. refl)
   planned-silent (ProbeTimeOut i j) e n = by-probe-time-out i (nodeAt t i) j tt tt (λ _. refl)

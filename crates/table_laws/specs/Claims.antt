@@ -1,15 +1,14 @@
 -- What every step keeps, and which steps say where a next hop came from. Only statements: the proofs are in the other files. Assumes nothing.
 use mathlib.Core.Path.{_≡_}
-use mathlib.Core.Bool.{Bool, true, false}
+use mathlib.Core.Bool.{true}
 use Prim.Native.Nat.{ℕ}
-use lib.Dec.{eqb}
 use Rattle.rules.specs.declared.Pool.{Pool}
 use Rattle.rules.specs.declared.Action.{Action}
-use Rattle.rules.specs.declared.Action.the-variants.{Lookup, Join, RequestLease, LeaseExpired, GrantExpired, Take, Deliver, Forward}
-use Rattle.rules.specs.declared.Action.the-variants.{NodeLeft, SuspectFaulty, ProbeTimeOut, DeclareDead, LSRepair, ResignNode, Recover}
+use Rattle.rules.specs.declared.Action.the-variants.{Take, Forward}
 use Rattle.rules.specs.declared.Refusal.{Refusal}
 use Rattle.rules.specs.declared.Answer.the-variants.{Done, Refused}
 use Rattle.rules.specs.declared.Via.the-variants.{Unrouted}
+use Rattle.rules.specs.Names.{Place}
 use Rattle.rules.specs.Pool.{messageAt}
 use Rattle.table_type.specs.declared.Table.{Table}
 use Rattle.table_type.specs.Table.{idsOf}
@@ -36,23 +35,10 @@ abbrev pub RefusalKeeps : Type 0
 RefusalKeeps = (t : Table) (p : Pool) (len : ℕ) (a : Action) (why : Refusal) → stepOf t p len a .answer ≡ Refused why → stepOf t p len a ≡ refusedOf t p why
 
 -- T-01: routing of lookups and of join requests: a Forward, or the Take of a message of kind 2
-abbrev pub mayRoute : Pool → Action → Bool
-mayRoute p (Lookup i k) = false
-mayRoute p (Join i seed) = false
-mayRoute p (RequestLease i) = false
-mayRoute p (LeaseExpired i j) = false
-mayRoute p (GrantExpired i j) = false
-mayRoute p (Take place) = eqb (messageAt p place .kind) 2
-mayRoute p (Deliver place) = false
-mayRoute p (Forward place) = true
-mayRoute p (NodeLeft i) = false
-mayRoute p (SuspectFaulty i j) = false
-mayRoute p (ProbeTimeOut i j) = false
-mayRoute p (DeclareDead i j) = false
-mayRoute p (LSRepair i) = false
-mayRoute p (ResignNode i n) = false
-mayRoute p (Recover i) = false
+pub data MayRoute (p : Pool) : Action → Type 0 where
+  forwards : {place : Place} → MayRoute p (Forward place)
+  takes-request : {place : Place} → messageAt p place .kind ≡ 2 → MayRoute p (Take place)
 
 -- T-01: every other step says none
 abbrev pub RoutedOnly : Type 0
-RoutedOnly = (t : Table) (p : Pool) (len : ℕ) (a : Action) → mayRoute p a ≡ false → stepOf t p len a .via ≡ Unrouted
+RoutedOnly = (t : Table) (p : Pool) (len : ℕ) (a : Action) → (MayRoute p a → ⊥) → stepOf t p len a .via ≡ Unrouted
