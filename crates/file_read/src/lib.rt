@@ -16,7 +16,7 @@ use table_type::Stepped;
 use table_type::Table;
 
 // Word i of the header, from 0.
-fn word(bs: &[u8], i: usize) -> u32
+pub fn word(bs: &[u8], i: usize) -> u32
     requires { ⌜ (i < 8) × (32 ≤ length (now bs)) ⌝ }
     ensures { λ r. ⌜ r ≡ headerWord (now (bs .entry)) i ⌝ }
 {
@@ -36,7 +36,7 @@ fn status_of(x: u32) -> Status
 }
 
 // The node whose record begins at a place.
-fn read_node(bs: &[u8], at: usize) -> Node
+pub fn read_node(bs: &[u8], at: usize) -> Node
     requires { ⌜ at + 64 ≤ length (now bs) ⌝ }
     ensures { λ r. ⌜ r ≡ nodeFrom (decode nodeWidths (drop at (now (bs .entry)))) ⌝ }
 {
@@ -63,7 +63,7 @@ fn read_node(bs: &[u8], at: usize) -> Node
 }
 
 // The message whose record begins at a place.
-fn read_message(part: &[u8], at: usize) -> Message
+pub fn read_message(part: &[u8], at: usize) -> Message
     requires { ⌜ at + 56 ≤ length (now part) ⌝ }
     ensures { λ r. ⌜ r ≡ messageFrom (decode messageWidths (drop at (now (part .entry)))) ⌝ }
 {
@@ -92,7 +92,7 @@ fn read_message(part: &[u8], at: usize) -> Message
 }
 
 // Are M, L, n and the message count in range, and the last word 0?
-fn header_fits(bs: &[u8]) -> bool
+pub fn header_fits(bs: &[u8]) -> bool
     requires { ⌜ 32 ≤ length (now bs) ⌝ }
     ensures { λ r. ⌜ r ≡ headerFits (now (bs .entry)) ⌝ }
 {
@@ -107,7 +107,7 @@ fn header_fits(bs: &[u8]) -> bool
 }
 
 // Do the offsets, the total and the real length agree with the counts?
-fn offsets_fit(bs: &[u8]) -> bool
+pub fn offsets_fit(bs: &[u8]) -> bool
     requires { ⌜ 32 ≤ length (now bs) ⌝ }
     ensures { λ r. ⌜ r ≡ offsetsFit (now (bs .entry)) ⌝ }
 {
@@ -121,7 +121,7 @@ fn offsets_fit(bs: &[u8]) -> bool
 }
 
 // Is every status one of 0 to 3?
-fn statuses_fit(bs: &[u8]) -> bool
+pub fn statuses_fit(bs: &[u8]) -> bool
     requires { ⌜ (32 ≤ length (now bs)) × (offsetsFit (now bs) ≡ true) ⌝ }
     ensures { λ r. ⌜ r ≡ statusesFit (now (bs .entry)) ⌝ }
 {

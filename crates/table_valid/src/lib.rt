@@ -25,7 +25,7 @@ fn numbers_fit(g: Ring) -> bool
 }
 
 // The set of all listed nodes.
-fn all_nodes(n: usize) -> u64
+pub fn all_nodes(n: usize) -> u64
     requires { ⌜ n ≤ 64 ⌝ }
     ensures { λ r. ⌜ r ≡ allNodes n ⌝ }
 {
@@ -58,7 +58,7 @@ fn leaf_fits(g: Ring, all: u64, owner: usize, s: Sides) -> bool
     side_fits(g, others, s.left) & side_fits(g, others, s.right)
 }
 
-fn node_fits(g: Ring, all: u64, i: usize, v: Node) -> bool
+pub fn node_fits(g: Ring, all: u64, i: usize, v: Node) -> bool
     requires { ⌜ all ≡ allNodes (g .n) ⌝ }
     ensures { λ r. ⌜ r ≡ nodeFits g i v ⌝ }
 {
@@ -83,7 +83,7 @@ fn is_blank_node(v: Node) -> bool
 }
 
 // Is the id at least low and below 2^m?
-fn id_fits(g: Ring, low: u64, id: u32) -> bool
+pub fn id_fits(g: Ring, low: u64, id: u32) -> bool
     requires { ⌜ g .m ≤ 32 ⌝ }
     ensures { λ r. ⌜ r ≡ (ltb id (2 ^ g .m) && leb low id) ⌝ }
 {
@@ -275,7 +275,7 @@ fn lookup_fits(g: Ring, ids: &[u32; 64], m: Message) -> bool
 }
 
 // Any message: only a lookup may carry hops.
-fn place_fits(g: Ring, all: u64, ids: &[u32; 64], m: Message) -> bool
+pub fn place_fits(g: Ring, all: u64, ids: &[u32; 64], m: Message) -> bool
     requires { ⌜ Listed g (now ids) × (all ≡ allNodes (g .n)) ⌝ }
     ensures { λ r. ⌜ r ≡ (messageFits g m && hopsFit g (now (ids .entry)) m) ⌝ }
 {
