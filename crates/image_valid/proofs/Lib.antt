@@ -1,3 +1,4 @@
 pub mod Records
 pub mod Ends
 pub mod Unique
+pub mod Loads

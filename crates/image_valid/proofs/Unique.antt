@@ -1,5 +1,4 @@
--- `tested` has one reply for every file: any two that its contract allows are equal. What it says done of is a valid table and pool, and the file is theirs
--- byte for byte. Assumes nothing.
+-- `tested` has one reply for every file: any two that its contract allows are equal. Assumes nothing.
 use mathlib.Core.Path.{_≡_, sym, _∙_}
 use mathlib.Core.List.{List}
 use Prim.Native.Nat.{ℕ}

@@ -3,11 +3,8 @@
 -- made. The measures: the places left, and the link. Assumes nothing.
 use borrow.Author.Needs.{needs}
 use mathlib.Core.Path.{_≡_, refl, sym, _∙_, ap}
-use mathlib.Core.Bool.{Bool, false}
-use Prim.Native.Nat.{ℕ, _-_, _≤_, _<_, zero-le}
+use Prim.Native.Nat.{_-_, _≤_, zero-le}
 use native.Mathlib.Omega.{arith}
-use lib.ListN.{length}
-use Rattle.rules.specs.declared.Message.{Message}
 use Rattle.rules.specs.Mail.{alike}
 use Rattle.rules.specs.Pool.{messageAt}
 use Rattle.pool_laws.specs.InnerMix.{bucketOf}

@@ -1,5 +1,4 @@
 -- `image_valid::messages_fit_in` meets its contract. The invariant: the messages passed fit, hops included. The measure: the messages left. Assumes nothing.
-use borrow.Author.Needs.{needs}
 use borrow.Author.Tests.{not-true, not-false}
 use mathlib.Core.Path.{_≡_, refl, sym, _∙_}
 use mathlib.Core.Bool.{true}
