@@ -56,9 +56,11 @@ loop-less c = omega arith
 loop-again : tie.Need-loop-again Inv-loop μ-loop
 loop-again c =
     let l = c .before .before .before .before in
-    let a = l .before .before .args in
-    (omega arith, more (l .loop .q) (placeIn (a .g) (a .ids .now) (partPool (a .count) (a .part .now))) (l .loop .inv .1)
-    (sym (turn (c .before)) ∙ not-false _ (c .if1 .left)))
+    let a = l .before .before .args in (
+      omega arith,
+      more (l .loop .q) (placeIn (a .g) (a .ids .now) (partPool (a .count) (a .part .now))) (l .loop .inv .1)
+          (sym (turn (c .before)) ∙ not-false _ (c .if1 .left)),
+    )
 
 returns-2 : tie.Need-returns-2 Inv-loop μ-loop
 returns-2 c =
