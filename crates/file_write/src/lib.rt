@@ -50,7 +50,7 @@ fn put_node(b: &mut [u8], at: usize, v: Node) -> usize
 }
 
 // Writes the record of a message.
-fn put_message(b: &mut [u8], at: usize, m: Message) -> usize
+pub fn put_message(b: &mut [u8], at: usize, m: Message) -> usize
     requires { ⌜ at + 56 ≤ length (now b) ⌝ }
     ensures { λ r. ⌜ Put 56 (now (b .entry)) at (encode messageWidths (messageRow m)) r (now (b .exit)) ⌝ }
 {

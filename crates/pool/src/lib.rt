@@ -57,7 +57,7 @@ pub fn left_count(n: usize, gone: usize) -> usize
 }
 
 // The place of what comes at place `at` once place `gone` is away.
-fn place_of(gone: usize, at: usize) -> usize
+pub fn place_of(gone: usize, at: usize) -> usize
     requires { ⌜ at < 256 ⌝ }
     ensures { λ r. ⌜ r ≡ placeOf gone at ⌝ }
 {
