@@ -1,3 +1,5 @@
 pub mod Moves
 pub mod Search
 pub mod Appends
+pub mod Passes
+pub mod Sends

@@ -6,9 +6,11 @@ ghost use mathlib.Core.List.{[], _∷_, _++_};
 ghost use lib.ListN.{length, drop};
 ghost use lib.Seq.{paste};
 ghost use Rattle.rules.specs.Mail.{alike as alikeOf, firstEqual, removedAt, added, withoutProbes, sent};
-ghost use Rattle.pool_laws.specs.InnerSending.{placeOf, heldOf, copies};
+ghost use Rattle.marks.specs.Marks.{sizeOf};
+ghost use Rattle.pool_laws.specs.InnerSending.{heldOf, heldWith, copies};
 ghost use Rattle.file.specs.Held.{HeldMessage};
 ghost use Rattle.image.specs.InnerRecords.{recordsIn, closedUp, messagesIn};
+ghost use Rattle.image_pool.specs.InnerTurns.{Keeps, Room};
 use marks::Found;
 use rules::Message;
 
@@ -90,4 +92,86 @@ pub fn replace(part: &mut [u8], count: usize, p: usize, m: Message) -> usize
             count
         }
     }
+}
+
+// Of the record at place `at`: moves it behind the first `kept`, unless it is an LSProbe from i to j, and tells how many are kept by then.
+fn keep(part: &mut [u8], kept: usize, at: usize, i: u32, j: u32) -> usize
+    requires { ⌜ (kept ≤ at) × (at < 256) × (56 * at + 56 ≤ length (now part)) ⌝ }
+    ensures { λ r. ⌜ Keeps i j at kept (now (part .entry)) r (now (part .exit)) ⌝ }
+{
+    let m = file_read::read_message(part, 56 * at);
+    if pool::is_probe_from(i, j, m) {
+        return kept;
+    }
+    move_down(part, 56 * kept, 56 * (at - kept), 56);
+    kept + 1
+}
+
+// Takes the LSProbes from i to j out of `count`, wherever they stand: the others close up in their order. Tells how many wait.
+pub fn take_probes_out(part: &mut [u8], count: usize, i: u32, j: u32) -> usize
+    requires { ⌜ (count ≤ 256) × (56 * count ≤ length (now part)) ⌝ }
+    ensures { λ r. ⌜ messagesIn r (now (part .exit)) ≡ withoutProbes (messagesIn count (now (part .entry))) i j ⌝ }
+{
+    let mut kept: usize = 0;
+    let mut at: usize = 0;
+    while at < count {
+        kept = keep(part, kept, at, i, j);
+        at += 1;
+    }
+    kept
+}
+
+// A set of slots, with q's if q equals m in all but the slot.
+fn with_slot(set: u64, q: Message, m: Message) -> u64
+    ensures { λ r. ⌜ r ≡ heldWith m set q ⌝ }
+{
+    let one = parts::to_slot(m, q.dest);
+    if same(q, one) {
+        marks::added(set, q.dest as usize)
+    } else {
+        set
+    }
+}
+
+// The slots to which an equal of m waits.
+fn held_slots(part: &[u8], count: usize, m: Message) -> u64
+    requires { ⌜ (count ≤ 256) × (56 * count ≤ length (now part)) ⌝ }
+    ensures { λ r. ⌜ r ≡ heldOf m (messagesIn count (now (part .entry))) ⌝ }
+{
+    let mut set: u64 = 0;
+    let mut at: usize = 0;
+    while at < count {
+        let q = file_read::read_message(part, 56 * at);
+        set = with_slot(set, q, m);
+        at += 1;
+    }
+    set
+}
+
+// Writes m for each slot of a set behind the n messages that wait, in rising slot order, and tells how many wait then.
+pub fn append_all(part: &mut [u8], n: usize, m: Message, set: u64) -> usize
+    requires { ⌜ (n + sizeOf set ≤ 256) × (56 * (n + sizeOf set) ≤ length (now part)) ⌝ }
+    ensures { λ r. ⌜ messagesIn r (now (part .exit)) ≡ messagesIn n (now (part .entry)) ++ copies m set ⌝ }
+{
+    let mut end = n;
+    let mut rest = set;
+    'slots: loop {
+        let next = marks::lowest(rest);
+        let Found::At(s) = next else {
+            break 'slots;
+        };
+        append(part, end, parts::to_slot(m, s as u32));
+        end += 1;
+        rest = marks::removed(rest, s);
+    }
+    end
+}
+
+// Sends m to each slot of a set, in rising slot order, where no equal waits, and tells how many wait then. There must be room for what then waits.
+pub fn send_all(part: &mut [u8], count: usize, m: Message, set: u64) -> usize
+    requires { ⌜ Room 256 (sent m set (messagesIn count (now part))) (now part) ⌝ }
+    ensures { λ r. ⌜ messagesIn r (now (part .exit)) ≡ sent m set (messagesIn count (now (part .entry))) ⌝ }
+{
+    let have = held_slots(part, count, m);
+    append_all(part, count, m, marks::less(set, have))
 }
