@@ -87,10 +87,10 @@ module _ (i j : ℕ) where
     kept-more at kept more part new h k t =
         let one = messageFrom (decode messageWidths (drop (56 * at) part)) in
         let here : getD xs at blank ≡ one =
-                message-at count old at h ∙ ap (λ (bs : List ℕ). messageFrom (decode messageWidths bs)) (sym (k .past)) in
+        message-at count old at h ∙ ap (λ (bs : List ℕ). messageFrom (decode messageWidths bs)) (sym (k .past)) in
         let rest : drop at xs ≡ one ∷ drop (at + 1) xs =
-                drop-cons xs at blank (omega (arith, messages-length count old))
-                ∙ ap₂ _∷_ here (ap (λ (n : ℕ). drop n xs) (sym (add-one at))) in
+        drop-cons xs at blank (omega (arith, messages-length count old))
+        ∙ ap₂ _∷_ here (ap (λ (n : ℕ). drop n xs) (sym (add-one at))) in
         let next : 56 * (at + 1) ≡ 56 * at + 56 = omega arith in
         record {
           few = omega (arith, t .few, k .few);
