@@ -2,10 +2,10 @@
 -- record is taken out or written behind the last. Assumes nothing.
 use mathlib.Core.Path.{_≡_, refl, sym, _∙_, ap, ap₂}
 use mathlib.Core.List.{List, [], _∷_, _++_, map, append-nil}
-use Prim.Native.Nat.{ℕ, zero, suc, _+_, _*_, _<_, _≤_}
+use Prim.Native.Nat.{ℕ, zero, suc, _+_, _*_, _<_}
 use native.Mathlib.Omega.{arith}
 use lib.ListN.{length, getD, take, drop, length-map}
-use lib.Seq.{take-take, take-all}
+use lib.Seq.{take-take}
 use Rattle.rules.specs.declared.Message.{Message}
 use Rattle.rules.specs.Pool.{blank, laid}
 use Rattle.rules.specs.Mail.{removedAt}

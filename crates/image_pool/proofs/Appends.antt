@@ -1,9 +1,9 @@
 -- A message's record written behind those that wait. Assumes nothing.
 use mathlib.Core.Path.{_≡_, sym, _∙_, ap}
 use mathlib.Core.List.{List, [], _∷_, _++_}
-use Prim.Native.Nat.{ℕ, _+_, _*_, _≤_}
+use Prim.Native.Nat.{ℕ, _+_, _*_}
 use native.Mathlib.Omega.{arith}
-use lib.ListN.{length, take, drop}
+use lib.ListN.{take, drop}
 use lib.Seq.{paste, take-all}
 use Rattle.rules.specs.declared.Message.{Message}
 use Rattle.words.specs.Bytes.{encode}

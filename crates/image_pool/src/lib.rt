@@ -1,5 +1,5 @@
 // The waiting messages in place: a lent part of bytes, 56 for each message. What is taken out closes the gap by one move, what is new is written behind the last.
-// Whole records are moved by their size alone. Each function asks of its callers that the part has room, and leaves the bytes behind it as they are.
+// Whole records are moved by their size alone. Each function asks of its callers that the part has room; what lies behind the messages afterwards is not told.
 ghost use mathlib.Core.Path.{_≡_};
 ghost use Prim.Native.Nat.{_+_, _-_, _*_, _<_, _≤_};
 ghost use mathlib.Core.List.{[], _∷_, _++_};

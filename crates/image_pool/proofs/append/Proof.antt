@@ -3,10 +3,6 @@ use borrow.Author.Needs.{needs}
 use Rattle.image_pool.proofs.Appends.{appended}
 use Rattle.image_pool.proofs.append.Statement.{statement}
 use Rattle.image_pool.proofs.append.Tie as tie
-use Rattle.image_pool.proofs.append.Reads as reads
-use Rattle.image_pool.proofs.append.Lts as lts
-use Rattle.image_pool.proofs.held.Reads as held-reads
-use Rattle.file_write.proofs.put_message.Reads as put-message-reads
 
 held-requires : tie.Need-held-requires
 held-requires c κs = search needs

@@ -15,12 +15,6 @@ use Rattle.image.specs.InnerRecords.{messagesIn}
 use Rattle.image_pool.proofs.Sends.{Sending, sending-low, sending-more, sending-end}
 use Rattle.image_pool.proofs.append_all.Statement.{statement}
 use Rattle.image_pool.proofs.append_all.Tie as tie
-use Rattle.image_pool.proofs.append_all.Reads as reads
-use Rattle.image_pool.proofs.append_all.Lts as lts
-use Rattle.image_pool.proofs.append.Reads as append-reads
-use Rattle.marks.proofs.lowest.Reads as lowest-reads
-use Rattle.marks.proofs.removed.Reads as removed-reads
-use Rattle.parts.proofs.to_slot.Reads as to-slot-reads
 
 abbrev Inv-slots : tie.InvT-slots
 Inv-slots part₀ n m set end₀ rest₀ part end rest =

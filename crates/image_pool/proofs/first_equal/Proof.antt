@@ -11,8 +11,6 @@ use Rattle.image.specs.InnerRecords.{messagesIn}
 use Rattle.image_pool.proofs.Search.{Missed, none-missed, place-inside, read-left, hit, missed-more, missed-all}
 use Rattle.image_pool.proofs.first_equal.Statement.{statement}
 use Rattle.image_pool.proofs.first_equal.Tie as tie
-use Rattle.image_pool.proofs.first_equal.Reads as reads
-use Rattle.image_pool.proofs.first_equal.Lts as lts
 
 abbrev Inv-places : tie.InvT-places
 Inv-places part count gone m n at₀ at = (at ≤ n) × Missed m (removedAt (messagesIn count part) gone) at

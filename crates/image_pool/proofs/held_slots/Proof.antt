@@ -6,10 +6,6 @@ use Rattle.image.specs.InnerRecords.{messagesIn}
 use Rattle.image_pool.proofs.Sends.{Seen, seen-none, seen-more, seen-all}
 use Rattle.image_pool.proofs.held_slots.Statement.{statement}
 use Rattle.image_pool.proofs.held_slots.Tie as tie
-use Rattle.image_pool.proofs.held_slots.Reads as reads
-use Rattle.image_pool.proofs.held_slots.Lts as lts
-use Rattle.file_read.proofs.read_message.Reads as read-message-reads
-use Rattle.image_pool.proofs.with_slot.Reads as with-slot-reads
 
 abbrev Inv-loop : tie.InvT-loop
 Inv-loop part count m set₀ at₀ set at = (at ≤ count) × Seen m (messagesIn count part) at set

@@ -5,11 +5,6 @@ use native.Mathlib.Omega.{arith}
 use Rattle.image_pool.proofs.Passes.{turn-passed, turn-kept}
 use Rattle.image_pool.proofs.keep.Statement.{statement}
 use Rattle.image_pool.proofs.keep.Tie as tie
-use Rattle.image_pool.proofs.keep.Reads as reads
-use Rattle.image_pool.proofs.keep.Lts as lts
-use Rattle.file_read.proofs.read_message.Reads as read-message-reads
-use Rattle.image_pool.proofs.move_down.Reads as move-down-reads
-use Rattle.pool.proofs.is_probe_from.Reads as is-probe-from-reads
 
 mul-read-message : tie.Need-mul-read-message
 mul-read-message c = search needs

@@ -8,8 +8,6 @@ use lib.Seq.{paste, paste-zero}
 use Rattle.image_pool.proofs.Moves.{turn}
 use Rattle.image_pool.proofs.move_down.Statement.{statement}
 use Rattle.image_pool.proofs.move_down.Tie as tie
-use Rattle.image_pool.proofs.move_down.Reads as reads
-use Rattle.image_pool.proofs.move_down.Lts as lts
 
 abbrev Inv-loop : tie.InvT-loop
 Inv-loop b₀ at size n from j₀ b j = (j ≤ n) × (length b ≡ length b₀) × (b ≡ paste b₀ at (drop (at + size) b₀) j)
@@ -54,7 +52,11 @@ same-length : tie.Need-same-length Inv-loop μ-loop
 same-length c = search needs
 
 returns : tie.Need-returns Inv-loop μ-loop
-returns c = let e : c .before .loop .j ≡ c .before .before .args .n = omega arith in c .before .loop .inv .2 ∙ ap (λ (k : ℕ). paste (c .before .before .args .b .now) (c .before .before .args .at) (drop (c .before .before .args .at + c .before .before .args .size) (c .before .before .args .b .now)) k) e
+returns c =
+    let a = c .before .before .args in
+    let bs = a .b .now in
+    let e : c .before .loop .j ≡ a .n = omega arith in
+    c .before .loop .inv .2 ∙ ap (λ (k : ℕ). paste bs (a .at) (drop (a .at + a .size) bs) k) e
 
 pub move-down-spec : {M : Type 1} → statement M
 move-down-spec =

@@ -10,11 +10,6 @@ use Rattle.image.specs.InnerRecords.{messagesIn}
 use Rattle.image.proofs.Messages.{removed}
 use Rattle.image_pool.proofs.replace.Statement.{statement}
 use Rattle.image_pool.proofs.replace.Tie as tie
-use Rattle.image_pool.proofs.replace.Reads as reads
-use Rattle.image_pool.proofs.replace.Lts as lts
-use Rattle.image_pool.proofs.append.Reads as append-reads
-use Rattle.image_pool.proofs.first_equal.Reads as first-equal-reads
-use Rattle.image_pool.proofs.take_out.Reads as take-out-reads
 
 first-equal-requires : tie.Need-first-equal-requires
 first-equal-requires c κs = search needs

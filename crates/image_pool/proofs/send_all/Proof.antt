@@ -10,11 +10,6 @@ use borrow.Author.Needs.{needs}
 use Rattle.image_pool.proofs.Sends.{room-few, room-there, room-count}
 use Rattle.image_pool.proofs.send_all.Statement.{statement}
 use Rattle.image_pool.proofs.send_all.Tie as tie
-use Rattle.image_pool.proofs.send_all.Reads as reads
-use Rattle.image_pool.proofs.send_all.Lts as lts
-use Rattle.image_pool.proofs.append_all.Reads as append-all-reads
-use Rattle.image_pool.proofs.held_slots.Reads as held-slots-reads
-use Rattle.marks.proofs.less.Reads as less-reads
 
 held-slots-requires : tie.Need-held-slots-requires
 held-slots-requires c κs = room-count _ _ _ _ (c .before .before .pre)

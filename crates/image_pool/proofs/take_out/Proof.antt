@@ -4,9 +4,6 @@ use native.Mathlib.Omega.{arith}
 use Rattle.image.proofs.Records.{cut, taken-out}
 use Rattle.image_pool.proofs.take_out.Statement.{statement}
 use Rattle.image_pool.proofs.take_out.Tie as tie
-use Rattle.image_pool.proofs.take_out.Reads as reads
-use Rattle.image_pool.proofs.take_out.Lts as lts
-use Rattle.image_pool.proofs.move_down.Reads as move-down-reads
 
 mul-at : tie.Need-mul-at
 mul-at c = let a = c .before .args in omega (arith, cut (a .size) (a .p) (a .count) (omega arith))

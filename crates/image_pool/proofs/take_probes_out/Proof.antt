@@ -5,9 +5,6 @@ use native.Mathlib.Omega.{arith}
 use Rattle.image_pool.proofs.Passes.{Kept, kept-none, kept-more, kept-all}
 use Rattle.image_pool.proofs.take_probes_out.Statement.{statement}
 use Rattle.image_pool.proofs.take_probes_out.Tie as tie
-use Rattle.image_pool.proofs.take_probes_out.Reads as reads
-use Rattle.image_pool.proofs.take_probes_out.Lts as lts
-use Rattle.image_pool.proofs.keep.Reads as keep-reads
 
 abbrev Inv-loop : tie.InvT-loop
 Inv-loop part₀ count i j kept₀ at₀ part kept at = (at ≤ count) × Kept i j count part₀ at kept part
