@@ -1,4 +1,5 @@
-// What callers outside are told, as definitions: a start, whether a table is settled, and table files in and out (specs/), with their types; what a done call leaves (proofs/). No code.
+// What callers outside are told, as definitions: a start, whether a table is settled, and table files in and out
+// (specs/), with their types; what a done call leaves (proofs/). No code.
 use file::Wrote;
 use rules::Refusal;
 use rules::Via;

@@ -1,3 +1,4 @@
 pub mod Cases
 pub mod Joins
 pub mod Leaving
+pub mod Only

@@ -29,7 +29,8 @@ use Rattle.table_laws.proofs.Numbers.{taken-waits}
 use Rattle.table_laws.proofs.Proved.{refusal-keeps}
 use Rattle.table_laws.proofs.Sound.{Sound, sound, is-valid}
 use Rattle.pool_laws.proofs.Laws.{waiting-at}
-use Rattle.order_laws.specs.Order.{SameMail, SamePool, SamePlace, one-waits, none-waits, NamesPlace, take-names, deliver-names, forward-names, SameAction, SameStep, stepsOf, SameSteps, Met}
+use Rattle.order_laws.specs.Order.{SameMail, SamePool, SamePlace, one-waits, none-waits, NamesPlace, take-names}
+use Rattle.order_laws.specs.Order.{deliver-names, forward-names, SameAction, SameStep, stepsOf, SameSteps, Met}
 use Rattle.order_laws.specs.Order as order
 use Rattle.order_laws.specs.Claims.{OrderNoAccount, BothLeft, AlongActions, ActionsFound, SearchesAgree}
 use Rattle.order_laws.proofs.Found.{action-found}
