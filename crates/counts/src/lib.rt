@@ -1,9 +1,11 @@
 // How many messages wait for each node, kept beside the pool: types, definitions (specs/) and their laws (proofs/). No code.
+#![tactic(auto)]
+
 use rules::{Answer, Pool, Refusal, Via};
 use table_type::Table;
 
 // A table, its pool, and for each slot how many messages wait for its node.
-#[derive(Drop)]
+#[derive(Clone, Copy)]
 pub struct Counted {
     pub table: Table,
     pub pool: Pool,
@@ -11,7 +13,7 @@ pub struct Counted {
 }
 
 // What a step, a load or a start leaves, and where the next hop came from, as without counts.
-#[derive(Drop)]
+#[derive(Clone, Copy)]
 pub struct After {
     pub answer: Answer,
     pub counted: Counted,
@@ -19,7 +21,7 @@ pub struct After {
 }
 
 // Whether a node has a message, or why that was not looked at.
-#[derive(Drop)]
+#[derive(Clone, Copy)]
 pub enum Has {
     Yes,
     No,
@@ -27,7 +29,7 @@ pub enum Has {
 }
 
 // The place of a node's first message, if it has one, or why that was not looked at.
-#[derive(Drop)]
+#[derive(Clone, Copy)]
 pub enum First {
     At(usize),
     None,
@@ -35,7 +37,7 @@ pub enum First {
 }
 
 // The nodes that have a message, or why that was not looked at.
-#[derive(Drop)]
+#[derive(Clone, Copy)]
 pub enum Polled {
     Nodes(u64),
     NotAsked(Refusal),

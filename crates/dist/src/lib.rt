@@ -1,4 +1,6 @@
 // Distances between ids of at most 32 digits. Each function is the definition of the same name, for ids below 2^m; `face_dist` answers callers who may be out of range.
+#![tactic(auto)]
+
 ghost use Rattle.std.specs.Prelude.{◌≡◌, ◌^◌};
 ghost use Rattle.ring.specs.Distance.{fall_of, signed_of, abs_dist_of, left_cover_of, right_cover_of, covers_key};
 ghost use Rattle.ring.specs.Distance.{nearer as nearer_of};

@@ -1,10 +1,12 @@
 // What callers outside are told, as definitions: a start, whether a table is settled, and table files in and out
 // (specs/), with their types; what a done call leaves (proofs/). No code.
+#![tactic(auto)]
+
 use file::Wrote;
 use rules::{Refusal, Via};
 
 // Whether a table is settled, or why that was not looked at.
-#[derive(Drop)]
+#[derive(Clone, Copy)]
 pub enum Rest {
     Settled,
     Unsettled,
@@ -12,7 +14,7 @@ pub enum Rest {
 }
 
 // What a step wrote, and where the next hop came from, if it routed a message to one and was written.
-#[derive(Drop)]
+#[derive(Clone, Copy)]
 pub struct Moved {
     pub wrote: Wrote,
     pub via: Via,

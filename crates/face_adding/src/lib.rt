@@ -1,5 +1,7 @@
 // For measuring: a set of nodes, or one node, added once to a leaf set, in a ring of n nodes of which each has its slot as its id. It answers the leaf
 // set after it, and an empty one where n or the owner's slot is out of range.
+#![tactic(auto)]
+
 ghost use Rattle.std.specs.Prelude.{◌≡◌, ℕ, ◌<◌};
 ghost use Rattle.rules.specs.Pick.{id_at};
 
@@ -7,7 +9,7 @@ use rules::{Ring, Sides};
 
 // A leaf set as it crosses to another language.
 #[repr(C)]
-#[derive(Drop)]
+#[derive(Clone, Copy)]
 pub struct Leaf {
     pub left: u64,
     pub right: u64,

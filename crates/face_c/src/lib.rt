@@ -1,5 +1,7 @@
 // The calls for other languages: numbers and bytes alone cross. 01's number stands in the low 32 bits of the result, the count of bytes
 // written to the start of `out` in the high 32 bits; where the number is not 0, `out` is left as it was. include/tarpudhriv.h declares them.
+#![tactic(auto)]
+
 ghost use Rattle.std.specs.Prelude.{◌≡◌, ◌≤◌};
 ghost use Rattle.face.specs.Calls.{loaded_of, begun_of, wrote_by, left_by, rest_by};
 ghost use Rattle.listing.specs.List.{list_of, listed_of};
@@ -10,7 +12,7 @@ use file::Wrote;
 use rules::{Action, Answer};
 
 // What a number says of an action.
-#[derive(Drop)]
+#[derive(Clone, Copy)]
 pub enum Asked {
     Is(Action),
     None,

@@ -1,16 +1,18 @@
 // Distances, nearer and covers for callers outside. Total: OutOfRange unless M is from 2 to 32 and every id and key is below 2^M.
+#![tactic(auto)]
+
 ghost use Rattle.std.specs.Prelude.{◌≡◌, [], ◌∷◌, ◌^◌, ltb};
 ghost use Rattle.face_dist.specs.Dist.{all_inside, ask_fall, ask_signed, ask_abs_dist, ask_nearer, ask_covers, told_of, measured_number, told_number};
 
 // A distance, if all was in range.
-#[derive(Drop)]
+#[derive(Clone, Copy)]
 pub enum Measured {
     OutOfRange,
     Is(i64),
 }
 
 // Yes or no, if all was in range.
-#[derive(Drop)]
+#[derive(Clone, Copy)]
 pub enum Told {
     OutOfRange,
     Yes,

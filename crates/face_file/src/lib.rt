@@ -1,4 +1,6 @@
 // Table files in, table files out: what a caller asks who holds nothing but bytes and numbers.
+#![tactic(auto)]
+
 ghost use Rattle.std.specs.Prelude.{◌≡◌};
 ghost use Rattle.table_type.specs.Start.{no_table};
 ghost use Rattle.face.specs.Calls.{loaded_of, next_of, begun_of, wrote_by, left_by, moved_of, moved_by, rest_by};

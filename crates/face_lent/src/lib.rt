@@ -1,5 +1,7 @@
 // The bench as a caller has it: a table by value, and the waiting messages in a list that the caller lends, with their count. Each function copies the
 // list in, lets the core do the work on values, and copies the list back; its reply and what the list then holds are stated for every input.
+#![tactic(auto)]
+
 ghost use Rattle.std.specs.Prelude.{◌≡◌};
 ghost use Rattle.face_lent.specs.Lent.{pool_of, blanks, places_of, taken_of, given_of, reply_of, lent_step, lent_start, lent_rest, lent_load, Handed, Filed};
 
@@ -10,7 +12,7 @@ use table_type::{Stepped, Table};
 
 // What the caller gets beside its list: the answer, the table and the count of waiting messages; and where the next hop came from, if a step routed a
 // message to one.
-#[derive(Drop)]
+#[derive(Clone, Copy)]
 pub struct Reply {
     pub answer: Answer,
     pub table: Table,

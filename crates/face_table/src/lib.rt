@@ -1,4 +1,6 @@
 // The start and the question whether a table is settled, by value, for any input.
+#![tactic(auto)]
+
 ghost use Rattle.std.specs.Prelude.{◌≡◌, []};
 ghost use Rattle.rules.specs.Pool.{laid};
 ghost use Rattle.face.specs.Asked.{start_step, rest_of};

@@ -1,6 +1,8 @@
 // For measuring: one call again and again, on what a table file holds; the sum of what the rounds answer. Where the compiler could make one round of
 // many, each first turns the lowest bit of the last node's grant and of the last place's word. A file of 64 nodes stays valid under that if its place
 // 255, where it is taken, has a lookup.
+#![tactic(auto)]
+
 ghost use Rattle.std.specs.Prelude.{◌≡◌};
 ghost use Rattle.face_lent.specs.Lent.{lent_step, reply_of};
 

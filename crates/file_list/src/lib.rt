@@ -1,4 +1,6 @@
 // The listing of a table file: each waiting lookup followed to its end, and printed as a line.
+#![tactic(auto)]
+
 ghost use Rattle.std.specs.Prelude.{◌≡◌, true, [], ◌∷◌, ◌++◌, ◌+◌, ◌*◌, ◌^◌, ◌<◌, ◌≤◌, length, take};
 ghost use Rattle.rules.specs.InnerAsks.{Listed, Below};
 ghost use Rattle.rules.specs.Hop.{via_of};
@@ -20,7 +22,7 @@ use table_type::{Stepped, Table};
 
 // What a node does with a lookup that it takes: delivers it, stops it (it is not ready, or there is no legal route), or routes it to
 // another slot.
-#[derive(Drop)]
+#[derive(Clone, Copy)]
 pub enum Turn {
     Delivers,
     Stops,

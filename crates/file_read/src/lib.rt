@@ -1,4 +1,6 @@
 // Reading a table file: its words, its records, its tests in the order of their numbers.
+#![tactic(auto)]
+
 ghost use Rattle.std.specs.Prelude.{◌≡◌, true, ◌+◌, ◌*◌, ◌<◌, ◌≤◌, length, drop};
 ghost use Rattle.words.specs.Bytes.{decode};
 ghost use Rattle.file.specs.Format.{node_widths, message_widths, status_of, node_from, message_from};

@@ -1,4 +1,6 @@
 // Writing a table file into a buffer: front to back, each writer giving the place behind what it wrote.
+#![tactic(auto)]
+
 ghost use Rattle.std.specs.Prelude.{◌≡◌, ◌++◌, ◌+◌, ◌*◌, ◌<◌, ◌≤◌, length};
 ghost use Rattle.words.specs.Bytes.{bytes_of, encode};
 ghost use Rattle.file.specs.Format.{header_widths, node_widths, message_widths, header_row, node_row, message_row, total_of, file_of};

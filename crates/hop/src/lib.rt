@@ -1,4 +1,6 @@
 // The next hop of a lookup or a join request, and where it came from.
+#![tactic(auto)]
+
 ghost use Rattle.std.specs.Prelude.{◌≡◌, ℕ, ◌^◌, ◌<◌, ◌≤◌};
 ghost use Rattle.rules.specs.InnerAsks.{Listed};
 ghost use Rattle.rules.specs.Hop.{legal_of, by_leaf, leaf_candidates, route_candidates, next_hop, via_of};

@@ -1,5 +1,7 @@
 // The waiting messages in place: a lent part of bytes, 56 for each message. What is taken out closes the gap by one move, what is new is written behind the last.
 // Whole records are moved by their size alone. Each function asks of its callers that the part has room; what lies behind the messages afterwards is not told.
+#![tactic(auto)]
+
 ghost use Rattle.std.specs.Prelude.{◌≡◌, ◌+◌, ◌-◌, ◌*◌, ◌<◌, ◌≤◌, [], ◌∷◌, ◌++◌, length, drop};
 ghost use Rattle.std.proofs.Math.Seq.{paste};
 ghost use Rattle.rules.specs.Mail.{alike as alike_of, first_equal, removed_at, added, without_probes, sent};

@@ -1,4 +1,6 @@
 // A table file tested where it lies: its header, then its nodes and messages, read one by one from the bytes. No table and no pool is made of it.
+#![tactic(auto)]
+
 ghost use Rattle.std.specs.Prelude.{◌≡◌, ◌&&◌, ◌*◌, ◌≤◌, length};
 ghost use Rattle.rules.specs.declared.Pool.{Pool};
 ghost use Rattle.rules.specs.InnerAsks.{Listed};

@@ -1,4 +1,6 @@
 // Leaf sets: what they hold, their neighbours and ends, adding nodes, and what they cover.
+#![tactic(auto)]
+
 ghost use Rattle.std.specs.Prelude.{◌≡◌, true, ℕ, ◌^◌, ◌<◌, ◌≤◌};
 ghost use Rattle.marks.specs.Marks.{has};
 ghost use Rattle.rules.specs.InnerAsks.{Listed};

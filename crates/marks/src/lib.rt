@@ -1,9 +1,11 @@
 // Sets of nodes: the 64 marks of a u64, mark s for slot s. No function asks anything of its caller.
+#![tactic(auto)]
+
 ghost use Rattle.std.specs.Prelude.{◌≡◌};
 ghost use Rattle.marks.specs.Marks.{has, single, union, meet, without, add_of, remove_of, size_of, lowest_of, listed};
 
 // A slot that was looked for.
-#[derive(Drop)]
+#[derive(Clone, Copy)]
 pub enum Found {
     At(usize),
     Nothing,

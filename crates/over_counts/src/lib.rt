@@ -1,5 +1,7 @@
 // How many messages wait for each node, kept beside the pool: the start, the load, the step and the write of tables with such counts, whether one is
 // settled, and what a display asks of them. For any input.
+#![tactic(auto)]
+
 ghost use Rattle.std.specs.Prelude.{◌≡◌, ◌≤◌, ◌<◌, ltb};
 ghost use Rattle.marks.specs.Marks.{gather};
 ghost use Rattle.rules.specs.Mail.{same_to};

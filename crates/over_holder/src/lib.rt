@@ -1,4 +1,6 @@
 // Who holds a key: in a settled table the node that covers it, with copies at that node's neighbours. For any input.
+#![tactic(auto)]
+
 ghost use Rattle.std.specs.Prelude.{◌≡◌, ◌&&◌, ◌^◌, ◌<◌};
 ghost use Rattle.rules.specs.InnerAsks.{Listed};
 ghost use Rattle.rules.specs.Leaf.{covers_of};

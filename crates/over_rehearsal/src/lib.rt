@@ -1,5 +1,7 @@
 // A contractor's rehearsal, checked: a starting table file, then actions, each with the table file that is said to result. They are handed over
 // singly; between two of them the checker holds one table, the last that was found good, and while it looks at a step the table after it too.
+#![tactic(auto)]
+
 ghost use Rattle.std.specs.Prelude.{◌≡◌, true, ◌<◌, length};
 ghost use Rattle.file.specs.Format.{file_of};
 ghost use Rattle.table.specs.Valid.{valid_of};

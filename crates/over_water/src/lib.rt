@@ -1,5 +1,7 @@
 // Water records, on top of the ring, of which they see who holds a key. A store has the originals, each with the slots of its copies. It
 // is no part of a table, so that the ring's steps don't move what it holds.
+#![tactic(auto)]
+
 ghost use Rattle.std.specs.Prelude.{◌≡◌, ◌^◌, ◌<◌, ◌≤◌, nat_abs};
 ghost use Rattle.water.specs.Water.{in_range, change_of, count_of, held_of, seat_of, kept_at};
 ghost use Rattle.water.specs.Water.{refused_of, put_of, place_by, why_number};

@@ -1,4 +1,6 @@
 // Parts of nodes and messages, the tests of a status, and 01's numbers.
+#![tactic(auto)]
+
 ghost use Rattle.std.specs.Prelude.{◌≡◌, ℕ};
 ghost use Rattle.rules.specs.Numbers.{status_number, answer_number, via_number};
 ghost use Rattle.rules.specs.Nodes.{sides_of, carried_of, placed};

@@ -1,4 +1,6 @@
 // One search for all uses: the best slot of a set of nodes, by nearness to a key or by Fall.
+#![tactic(auto)]
+
 ghost use Rattle.std.specs.Prelude.{◌≡◌, ℕ, ◌^◌, ◌<◌, ◌≤◌};
 ghost use Rattle.rules.specs.InnerAsks.{Keyed, Below};
 ghost use Rattle.rules.specs.Pick.{ahead_of, better_of, best_of};

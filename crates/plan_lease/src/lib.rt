@@ -1,4 +1,6 @@
 // Leases: the actions RequestLease, LeaseExpired and GrantExpired, and the taking of a LeaseRequest (kind 7) and a BroadcastLSet (kind 8).
+#![tactic(auto)]
+
 ghost use Rattle.std.specs.Prelude.{◌≡◌, ℕ, ◌<◌};
 ghost use Rattle.rules.specs.InnerAsks.{Listed};
 ghost use Rattle.rules.specs.Letters.{lease_request, broadcast_l_set};

@@ -1,4 +1,6 @@
 // Departures and repairs (T-03): the actions NodeLeft, SuspectFaulty, ProbeTimeOut, DeclareDead, LSRepair, ResignNode and Recover.
+#![tactic(auto)]
+
 ghost use Rattle.std.specs.Prelude.{◌≡◌, ◌<◌};
 ghost use Rattle.marks.specs.Marks.{has};
 ghost use Rattle.rules.specs.InnerAsks.{Listed};

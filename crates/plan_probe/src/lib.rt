@@ -1,4 +1,6 @@
 // The taking of a JoinReply (kind 3), an LSProbe (kind 4) and an LSProbeReply (kind 5).
+#![tactic(auto)]
+
 ghost use Rattle.std.specs.Prelude.{◌≡◌, ℕ, ◌<◌};
 ghost use Rattle.rules.specs.InnerAsks.{Listed};
 ghost use Rattle.rules.specs.Letters.{ls_probe, ls_probe_reply};

@@ -1,4 +1,6 @@
 // Lookups and joins: the actions Lookup and Join, the delivering and forwarding of a Lookup (kind 1), and the taking of a JoinRequest (kind 2).
+#![tactic(auto)]
+
 ghost use Rattle.std.specs.Prelude.{◌≡◌, ℕ, ◌^◌, ◌<◌, ◌≤◌};
 ghost use Rattle.rules.specs.InnerAsks.{Listed};
 ghost use Rattle.rules.specs.Letters.{lookup, lookup_after, join_request, join_reply, no_legal_route};

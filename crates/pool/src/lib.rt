@@ -1,5 +1,7 @@
 // The pool by value, as a step reads it: whether a request waits, which of a plan's messages are new, and whether they have room; and the pool without the
 // probes that have timed out. The pool after the plan is made by the step itself. "Once place `gone` is away": where gone is at or above the count, none is away.
+#![tactic(auto)]
+
 ghost use Rattle.std.specs.Prelude.{◌≡◌, true, ◌++◌, ◌≤◌, ◌<◌};
 ghost use Rattle.rules.specs.Mail.{fields_of, first_equal};
 ghost use Rattle.rules.specs.Mail.{alike as alike_of, join_waits, waits as waits_of, is_probe_from, without_probes, reply_waits};

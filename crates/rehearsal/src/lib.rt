@@ -1,9 +1,11 @@
 // A contractor's rehearsal and its checker: types, definitions (specs/) and their laws (proofs/). No code.
+#![tactic(auto)]
+
 use rules::Pool;
 use table_type::Table;
 
 // What is said of the start and of the steps that were looked at: accepted so far, or the number of the first bad step, 0 for the start.
-#[derive(Drop)]
+#[derive(Clone, Copy)]
 pub enum Verdict {
     Accepted,
     Bad(usize),
@@ -11,7 +13,7 @@ pub enum Verdict {
 
 // The verdict, how many steps were found good, and the table and the messages after the last of them: those of the start where there is none, and of no
 // table where the start does not load.
-#[derive(Drop)]
+#[derive(Clone, Copy)]
 pub struct Checker {
     pub verdict: Verdict,
     pub steps: usize,
@@ -20,14 +22,14 @@ pub struct Checker {
 }
 
 // A step is looked at, or it is refused: the check has ended, or 1,000 steps were looked at.
-#[derive(Drop)]
+#[derive(Clone, Copy)]
 pub enum Reply {
     LookedAt,
     Over,
 }
 
 // The reply to a step that was handed over, and the checker after it.
-#[derive(Drop)]
+#[derive(Clone, Copy)]
 pub struct Handed {
     pub reply: Reply,
     pub checker: Checker,

@@ -1,8 +1,10 @@
 // The rules of 01 as definitions: specs/ has them in 01's order and words. Here are the types that they speak of, all by value; there is no code.
+#![tactic(auto)]
+
 use marks::Found;
 
 // What comes first: the nearest to a key; the least or the greatest Fall above it or below it.
-#[derive(Drop)]
+#[derive(Clone, Copy)]
 pub enum Way {
     Near,
     Up,
@@ -12,7 +14,7 @@ pub enum Way {
 }
 
 // The numbers of a table: ids have m digits, a side holds at most l nodes, and n nodes are listed, in the slots 0 to n - 1.
-#[derive(Drop)]
+#[derive(Clone, Copy)]
 pub struct Ring {
     pub m: u32,
     pub l: u32,
@@ -20,13 +22,13 @@ pub struct Ring {
 }
 
 // The two sides of a leaf set: left towards rising ids, right towards falling ids.
-#[derive(Drop)]
+#[derive(Clone, Copy)]
 pub struct Sides {
     pub left: u64,
     pub right: u64,
 }
 
-#[derive(Drop)]
+#[derive(Clone, Copy)]
 pub enum Status {
     Dead,
     Wait,
@@ -35,7 +37,7 @@ pub enum Status {
 }
 
 // A node: its id and status, and seven sets of nodes.
-#[derive(Drop)]
+#[derive(Clone, Copy)]
 pub struct Node {
     pub id: u32,
     pub status: Status,
@@ -49,7 +51,7 @@ pub struct Node {
 }
 
 // A message. `word` is the key or the node; `hops` is the hop number of a Lookup, and 0 for every other kind.
-#[derive(Drop)]
+#[derive(Clone, Copy)]
 pub struct Message {
     pub kind: u32,
     pub dest: u32,
@@ -64,28 +66,28 @@ pub struct Message {
 }
 
 // The waiting messages, oldest first: the first `count` of 256 places.
-#[derive(Drop)]
+#[derive(Clone, Copy)]
 pub struct Pool {
     pub count: usize,
     pub places: [Message; 256],
 }
 
 // A node other than the one that asks, or no legal route.
-#[derive(Drop)]
+#[derive(Clone, Copy)]
 pub enum Hop {
     To(usize),
     NoRoute,
 }
 
 // Where the next hop came from: the leaf set, or the routing set alone; Unrouted where nothing goes to a next hop.
-#[derive(Drop)]
+#[derive(Clone, Copy)]
 pub enum Via {
     Unrouted,
     Leaf,
     Routing,
 }
 
-#[derive(Drop)]
+#[derive(Clone, Copy)]
 pub enum Refusal {
     OutOfRange,
     Status,
@@ -100,14 +102,14 @@ pub enum Refusal {
     NoRoom,
 }
 
-#[derive(Drop)]
+#[derive(Clone, Copy)]
 pub enum Answer {
     Done,
     Refused(Refusal),
 }
 
 // An action is one of fifteen kinds, each with its own arguments: slots, a slot and a key, or a place. They are wider than their ranges, so that 1 can be answered.
-#[derive(Drop)]
+#[derive(Clone, Copy)]
 pub enum Action {
     Lookup(usize, u64),
     Join(usize, usize),
@@ -128,7 +130,7 @@ pub enum Action {
 
 // What an action leaves of its node and adds to the pool: `first` to one slot, if any, then `each` to every slot of a set, in rising slot order.
 // `via` says where the next hop came from.
-#[derive(Drop)]
+#[derive(Clone, Copy)]
 pub struct Plan {
     pub node: Node,
     pub first: Message,
@@ -138,7 +140,7 @@ pub struct Plan {
     pub via: Via,
 }
 
-#[derive(Drop)]
+#[derive(Clone, Copy)]
 pub enum Planned {
     No(Refusal),
     Go(Plan),

@@ -5,7 +5,7 @@ use face_c::Asked;
 use rehearsal::{Checker, Handed};
 
 // A reply, and the checker after it.
-#[derive(Drop)]
+#[derive(Clone, Copy)]
 pub struct Heard {
     pub reply: Reply,
     pub checker: Checker,

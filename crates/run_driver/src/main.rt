@@ -2,6 +2,8 @@
 // its kind, then its arguments as words of 64 bits, then a table file (for a start the ids, words of 32 bits; for kinds 7 and 9 nothing).
 // The answer: a word of 32 bits, its length, a word of 32 bits, its number, then, where the number is 0, the result. docs/DRIVER.md has
 // the kinds. Between requests nothing is held but the checker of a rehearsal and the water records.
+#![tactic(auto)]
+
 mod asked; // what a request says
 mod claims; // kinds 5 and 6
 mod steps; // kinds 0 to 4, and 11
@@ -15,21 +17,21 @@ use told::{Led, Reply};
 use water::Store;
 
 // Whether there is more to serve, and the checker.
-#[derive(Drop)]
+#[derive(Clone, Copy)]
 struct Served {
     more: bool,
     checker: Checker,
 }
 
 // Whether there is more to serve, and the records.
-#[derive(Drop)]
+#[derive(Clone, Copy)]
 struct Stored {
     more: bool,
     store: Store,
 }
 
 // The end of the input, or a request of so many bytes.
-#[derive(Drop)]
+#[derive(Clone, Copy)]
 enum Came {
     End,
     Request(usize),

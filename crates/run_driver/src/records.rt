@@ -6,7 +6,7 @@ use table_type::Stepped;
 use water::{Looked, Placed, Record, Store};
 
 // A reply, and the records after it.
-#[derive(Drop)]
+#[derive(Clone, Copy)]
 pub struct Kept {
     pub reply: Reply,
     pub store: Store,

@@ -15,14 +15,14 @@ use rules::{Answer, Refusal};
 use water::{Held, Store};
 
 // A number, and how many bytes of the buffer are the result.
-#[derive(Drop)]
+#[derive(Clone, Copy)]
 pub struct Reply {
     pub number: u32,
     pub count: usize,
 }
 
 // A reply whose result has the byte `lead` before the bytes of the buffer.
-#[derive(Drop)]
+#[derive(Clone, Copy)]
 pub struct Led {
     pub reply: Reply,
     pub lead: u64,

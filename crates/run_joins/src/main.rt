@@ -1,6 +1,8 @@
 // Joins that work: 17, then 65, then 95 join at 18, the only node ready at the start. Prints each action with its answer, the statuses and the number of
 // waiting messages after it, and at the end whether the table is settled. Then joins into small estates, where L is 4 and no side can be full: into three, into
 // two and into one (T-02). Then three steps on what is not valid, which are refused with 10.
+#![tactic(auto)]
+
 use face::Rest;
 use libc::STDOUT_FILENO;
 use rules::{Action, Pool};

@@ -1,4 +1,6 @@
 // Prints the listing of the table file on standard input.
+#![tactic(auto)]
+
 use libc::STDIN_FILENO;
 
 // Reads on once, and answers whether more came.

@@ -1,5 +1,7 @@
 // Lists the table files on standard input, one after the other, until it ends: of each the line `file N` and its listing. A file is led by its
 // length, a little-endian word of 32 bits. A file of more than 65,536 bytes, or one that is cut short, ends the run.
+#![tactic(auto)]
+
 use libc::{STDIN_FILENO, STDOUT_FILENO};
 
 fn title(number: u64) {

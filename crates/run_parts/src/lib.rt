@@ -1,4 +1,6 @@
 // The listing of a file, printed: for the programs that list.
+#![tactic(auto)]
+
 use libc::STDOUT_FILENO;
 
 pub fn show(file: &[u8]) {

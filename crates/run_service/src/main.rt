@@ -2,6 +2,8 @@
 // for its reply, lets its grant expire, declares it dead, repairs its leaf set and asks for its leases anew; the first neighbour asks once more at the end,
 // since the second granted nothing while it still held the one that is off. Then the ring without it is settled, and it comes back by a Join. Prints each
 // action with its answer, the statuses and the number of waiting messages after it, and between whether the table is settled.
+#![tactic(auto)]
+
 use face::Rest;
 use libc::STDOUT_FILENO;
 use rules::{Action, Pool};

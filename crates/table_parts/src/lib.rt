@@ -1,5 +1,7 @@
 // Small parts of tables: what every action answers, done with a table and a pool or refused with what was there; the table of no node and the pool in
 // which none waits; the slots by status.
+#![tactic(auto)]
+
 ghost use Rattle.std.specs.Prelude.{◌≡◌, [], ◌≤◌};
 ghost use Rattle.rules.specs.Pool.{laid};
 ghost use Rattle.table_type.specs.Start.{no_table};

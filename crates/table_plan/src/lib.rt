@@ -1,5 +1,7 @@
 // What an action asks, as the step reads it: whether it is in range, whose node acts and whose message goes, whether the same request waits,
 // and what is planned. The plans are those of the crates below, made of the table.
+#![tactic(auto)]
+
 ghost use Rattle.std.specs.Prelude.{◌≡◌, true, ◌^◌, ◌<◌, ◌≤◌};
 ghost use Rattle.rules.specs.declared.Pool.{Pool};
 ghost use Rattle.plan.specs.Actions.{plan_lookup, plan_join, plan_request_lease, plan_lease_expired, plan_grant_expired};
@@ -19,7 +21,7 @@ use table_type::Table;
 // What an action asks, but for its plan: its slots, place and key are in range; the place whose message goes, past every count where none
 // does; the slot whose node acts, where none goes; whether 3 is asked; whether what is sent is new unless the same request waits; and whether probes have
 // timed out, and of whom.
-#[derive(Drop)]
+#[derive(Clone, Copy)]
 pub struct Asking {
     pub range: bool,
     pub gone: usize,

@@ -1,4 +1,6 @@
 // Settled, decided.
+#![tactic(auto)]
+
 ghost use Rattle.std.specs.Prelude.{◌≡◌, ◌≤◌, ◌<◌};
 ghost use Rattle.rules.specs.InnerAsks.{Listed};
 ghost use Rattle.table_type.specs.Table.{ring_of, ids_of};

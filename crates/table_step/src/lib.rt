@@ -1,4 +1,6 @@
 // The step: an action on a table and a pool by value. What the action asks of its node is planned first, reading only; then the plan is carried out in place.
+#![tactic(auto)]
+
 ghost use Rattle.std.specs.Prelude.{◌≡◌};
 ghost use Rattle.step.specs.Step.{step_of};
 ghost use Rattle.table_step.specs.InnerLowered.{at_most};

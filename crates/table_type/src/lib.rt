@@ -1,4 +1,6 @@
 // The table by value, with its limits, its start, and what stands in its slots.
+#![tactic(auto)]
+
 ghost use Rattle.std.specs.Prelude.{◌≡◌, ◌^◌, ◌<◌, ◌≤◌, ltb, length};
 ghost use Rattle.rules.specs.Limits.{m_low, m_high, l_low, l_high, nodes_high, messages_high};
 ghost use Rattle.rules.specs.InnerAsks.{Listed};
@@ -10,7 +12,7 @@ ghost use Rattle.table_type.specs.Table.{node_at, ids_of, ring_of};
 use rules::{Answer, Node, Pool, Refusal, Ring, Sides, Status, Via};
 
 // Ids have m digits, a side of a leaf set holds at most l nodes, and n nodes are listed, in the slots 0 to n - 1.
-#[derive(Drop)]
+#[derive(Clone, Copy)]
 pub struct Table {
     pub m: u32,
     pub l: u32,
@@ -19,7 +21,7 @@ pub struct Table {
 }
 
 // What a step, a load or a start leaves: the answer, the table and the pool; and where the next hop came from, if a step routed a message to one.
-#[derive(Drop)]
+#[derive(Clone, Copy)]
 pub struct Stepped {
     pub answer: Answer,
     pub table: Table,
@@ -28,7 +30,7 @@ pub struct Stepped {
 }
 
 // What the start makes: a table, or the table of no node beside the refusal.
-#[derive(Drop)]
+#[derive(Clone, Copy)]
 pub struct Started {
     pub answer: Answer,
     pub table: Table,

@@ -1,4 +1,6 @@
 // Validity, decided: true exactly for a valid table and pool.
+#![tactic(auto)]
+
 ghost use Rattle.std.specs.Prelude.{◌≡◌, ◌&&◌, not, ◌^◌, ◌<◌, ◌≤◌, leb, ltb};
 ghost use Rattle.ring.specs.Distance.{nearer, rises_to};
 ghost use Rattle.marks.specs.Marks.{size_of};

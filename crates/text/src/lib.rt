@@ -1,4 +1,6 @@
 // Text in bytes: a byte, a text, or a number in decimal digits, written into a buffer from a place on; each gives the place behind what it wrote.
+#![tactic(auto)]
+
 ghost use Rattle.std.specs.Prelude.{[], ◌∷◌, ◌++◌, ◌+◌, ◌≤◌, length};
 ghost use Rattle.text.specs.Decimal.{decimal};
 ghost use Rattle.text.specs.InnerPrints.{Prints};

@@ -1,8 +1,9 @@
 // Water records on top of the ring: types, definitions (specs/) and their laws (proofs/). No code.
+#![tactic(auto)]
 
 // A record: a key, a month from 1 to 12, and rain, evapotranspiration and runoff in tenths of a millimetre. The fields are wider
 // than their ranges, so that 14 can be answered.
-#[derive(Drop)]
+#[derive(Clone, Copy)]
 pub struct Record {
     pub key: u64,
     pub month: u32,
@@ -12,7 +13,7 @@ pub struct Record {
 }
 
 // A record that is held: its original at slot `holder`, copies at the slots of a set.
-#[derive(Drop)]
+#[derive(Clone, Copy)]
 pub struct Held {
     pub original: Record,
     pub holder: usize,
@@ -21,21 +22,21 @@ pub struct Held {
 
 // The records that are held: the first `count` of 512 places, in the order in which their key and month were first accepted. A count
 // beyond 512 stands for all places.
-#[derive(Drop)]
+#[derive(Clone, Copy)]
 pub struct Store {
     pub count: usize,
     pub places: [Held; 512],
 }
 
 // What is held of a key and month.
-#[derive(Drop)]
+#[derive(Clone, Copy)]
 pub enum Looked {
     At(Held),
     Nothing,
 }
 
 // Why a record is not taken.
-#[derive(Drop)]
+#[derive(Clone, Copy)]
 pub enum Why {
     Invalid,
     OutOfRange,
@@ -43,14 +44,14 @@ pub enum Why {
     NoRoom,
 }
 
-#[derive(Drop)]
+#[derive(Clone, Copy)]
 pub enum Reply {
     Accepted,
     Refused(Why),
 }
 
 // The reply to a record, and the store after it.
-#[derive(Drop)]
+#[derive(Clone, Copy)]
 pub struct Placed {
     pub reply: Reply,
     pub store: Store,

@@ -1,4 +1,6 @@
 // Words in bytes, the lowest byte first: read from a place, and written from a place on.
+#![tactic(auto)]
+
 ghost use Rattle.std.specs.Prelude.{◌≡◌, ◌+◌, ◌<◌, ◌≤◌, length, take, drop};
 ghost use Rattle.words.specs.Bytes.{bytes_of, number_of};
 ghost use Rattle.words.specs.InnerPut.{Put};
