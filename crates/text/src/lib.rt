@@ -19,8 +19,9 @@ pub fn put_text(b: &mut [u8], at: usize, text: &[u8]) -> usize
     requires { at + length text.now ≤ length b.old }
     ensures { Prints b.old at text.now result b.new }
 {
-    let n = bytes::copy(text, &mut b[at..]);
-    at + n
+    let end = at + text.len();
+    b[at..end].copy_from_slice(text);
+    end
 }
 
 // Writes a number in decimal digits: those of its tenth, and its last.

@@ -1,0 +1,13 @@
+-- `face_adding::slot_ids` meets its contract. The invariant: the first s ids are written. The measure: the slots left. Assumes nothing.
+use borrow.Author.Rules.{rules}
+use mathlib.Core.Path.{refl}
+use Prim.Native.Nat.{◌-◌}
+use native.Mathlib.Omega.{arith}
+use Rattle.table_type.proofs.Laws.{Filled, fill-begin, fill_more}
+use Rattle.face_adding.proofs.slot_ids.Given as goal
+
+abbrev pub invariant-loop-s : goal.invariant-loop-s
+invariant-loop-s l = Filled 0 (λ i. i) l.s l.ids
+
+abbrev pub decreases-loop-s : goal.decreases-loop-s
+decreases-loop-s l = 64 - l.s

@@ -1,0 +1,28 @@
+-- `face_file::next` meets its contract: the answer before the step decides the definition's case. Assumes nothing.
+use borrow.Author.Rules.{rules}
+use mathlib.Core.Path.{◌≡◌, ◌∙◌}
+use Rattle.rules.specs.declared.Action.{Action}
+use Rattle.rules.specs.declared.Answer.TheVariants.{Done, Refused}
+use Rattle.rules.specs.declared.Refusal.{Refusal}
+use Rattle.table_type.specs.declared.Stepped.{Stepped}
+use Rattle.table.specs.Settle.{refused_of}
+use Rattle.step.specs.Step.{step_of}
+use Rattle.face.specs.Calls.{next_of}
+use Rattle.face_file.proofs.next.Goals as goal
+
+pub returns-in-Done : goal.returns-in-Done
+returns-in-Done c = c.step.ensures ∙ next-done _ _ c.in-Done.is
+
+pub returns-in-Refused : goal.returns-in-Refused
+returns-in-Refused c = c.refused.ensures ∙ next-refused _ _ _ c.in-Refused.is
+
+{- LEFT
+module _ (s : Stepped) (a : Action) where
+  next-done : s.answer ≡ Done → step_of s.table s.pool 256 a ≡ next_of s a
+  unfolding next_of
+  next-done e = rw e
+
+  next-refused : (why : Refusal) → s.answer ≡ Refused why → refused_of s.table s.pool why ≡ next_of s a
+  unfolding next_of
+  next-refused why e = rw e
+-}

@@ -1,0 +1,6 @@
+-- `face_lent::blank_pool` meets its contract: every place is blank, whatever the count. Assumes nothing.
+use borrow.Author.Rules.{rules}
+use Rattle.face_lent.proofs.blank_pool.Goals as goal
+
+pub returns : goal.returns
+returns c = rw c.no_messages.ensures

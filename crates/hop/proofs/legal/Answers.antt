@@ -1,0 +1,6 @@
+-- `hop::legal` meets its contract. Assumes nothing.
+use borrow.Author.Rules.{rules}
+use Rattle.hop.proofs.legal.Goals as goal
+
+pub returns : goal.returns
+returns c = rw (c.less-2.ensures, c.less.ensures)

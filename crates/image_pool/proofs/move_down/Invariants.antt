@@ -1,0 +1,15 @@
+-- `image_pool::move_down` meets its contract. The invariant: j bytes are copied. The measure: the bytes left. Assumes nothing.
+use borrow.Author.Rules.{rules}
+use mathlib.Core.Path.{◌≡◌, ◌∙◌, ap, refl}
+use Prim.Native.Nat.{ℕ, ◌+◌, ◌-◌, ◌≤◌, zero-le}
+use native.Mathlib.Omega.{arith}
+use lib.ListN.{length, drop, length-set}
+use lib.Seq.{paste, paste-zero}
+use Rattle.image_pool.proofs.Moves.{turn}
+use Rattle.image_pool.proofs.move_down.Given as goal
+
+abbrev pub invariant-loop-j : goal.invariant-loop-j
+invariant-loop-j l = (l.j ≤ l.n) × (length l.b ≡ length l.initial.b) × (l.b ≡ paste l.initial.b l.at (drop (l.at + l.size) l.initial.b) l.j)
+
+abbrev pub decreases-loop-j : goal.decreases-loop-j
+decreases-loop-j l = l.n - l.j

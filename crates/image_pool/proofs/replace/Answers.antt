@@ -1,0 +1,25 @@
+-- `image_pool::replace` meets its contract. Assumes nothing.
+use borrow.Author.Rules.{rules}
+use mathlib.Core.Path.{◌≡◌, sym, ◌∙◌, ap}
+use mathlib.Core.List.{List, [], ◌∷◌, ◌++◌}
+use Prim.Native.Nat.{ℕ, ◌+◌, ◌-◌}
+use native.Mathlib.Omega.{arith}
+use Rattle.rules.specs.declared.Message.{Message}
+use Rattle.pool_laws.proofs.Equal.{added-at, added-nothing}
+use Rattle.image.specs.InnerRecords.{messages_in}
+use Rattle.image.proofs.Messages.{removed}
+use Rattle.image_pool.proofs.replace.Goals as goal
+
+pub returns-in-At : goal.returns-in-At
+returns-in-At c = let a = c.args in 
+    let e = sym c.first_equal-at.ensures ∙ c.in-At.is in
+    removed _ _ _ _ _ c.take_out.ensures ∙ sym (added-at _ a.m _ e)
+
+pub returns-in-Nothing : goal.returns-in-Nothing
+returns-in-Nothing c = let a = c.args in 
+    let e = sym c.first_equal-at.ensures ∙ c.in-Nothing.is in
+    let q : a.count ≡ a.count - 1 + 1 = omega arith in
+    ap (λ (k : ℕ). messages_in k c.append.new.0) q
+    ∙ c.append.ensures
+    ∙ ap (λ (ys : List Message). ys ++ (a.m ∷ [])) (removed _ _ _ _ _ c.take_out.ensures)
+    ∙ sym (added-nothing _ a.m e)

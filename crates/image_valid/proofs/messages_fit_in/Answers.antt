@@ -1,0 +1,53 @@
+-- The answers. Assumes nothing.
+use borrow.Author.Tests.{not-true, not-false}
+use mathlib.Core.Path.{◌≡◌, refl, sym, ◌∙◌}
+use mathlib.Core.Bool.{true}
+use Prim.Native.Nat.{◌-◌, ◌≤◌, zero-le}
+use native.Mathlib.Omega.{arith}
+use Rattle.marks.specs.Marks.{all_to}
+use Rattle.marks.proofs.Laws.{more}
+use Rattle.file.specs.Load.{part_pool}
+use Rattle.image_valid.proofs.Records.{place_in, place-turn, messages-all, message-fails}
+use Rattle.image_valid.proofs.messages_fit_in.Goals as goal
+
+pub loop-q-init : goal.loop-q-init
+unfolding all_to
+loop-q-init c = (zero-le, refl)
+
+pub overflow_mul-q : goal.overflow_mul-q
+overflow_mul-q c = omega arith
+
+pub read_message-m-requires : goal.read_message-m-requires
+read_message-m-requires c = omega arith
+
+pub place_fits-requires : goal.place_fits-requires
+place_fits-requires c = (c.requires.2, c.requires.3)
+
+pub returns-then-not-place_fits : goal.returns-then-not-place_fits
+returns-then-not-place_fits c = let turn : let a = c.args in 
+    c.place_fits.result ≡ place_in a.g a.ids.now (part_pool a.count a.part.now) c.loop-q.q = let a = c.args in 
+    place-turn a.count a.part.now a.g a.ids.now c.loop-q.q c.read_message-m.result _ (omega arith)
+    c.read_message-m.ensures c.place_fits.ensures in
+    let a = c.args in 
+    sym (message-fails a.count a.part.now a.g a.ids.now c.loop-q.q (omega arith) (sym (turn  ∙ not-true _ c.if-not-place_fits.true-raw))
+
+pub overflow_add-q : goal.overflow_add-q
+overflow_add-q c = omega arith
+
+pub loop-q-smaller : goal.loop-q-smaller
+loop-q-smaller c = omega arith
+
+pub loop-q-preserved : goal.loop-q-preserved
+loop-q-preserved c = let turn : let a = c.args in 
+    c.place_fits.result ≡ place_in a.g a.ids.now (part_pool a.count a.part.now) c.loop-q.q = let a = c.args in 
+    place-turn a.count a.part.now a.g a.ids.now c.loop-q.q c.read_message-m.result _ (omega arith)
+    c.read_message-m.ensures c.place_fits.ensures in
+    let a = c.args in (
+      omega arith,
+      more c.loop-q.q (place_in a.g a.ids.now (part_pool a.count a.part.now)) c.loop-q.invariant.1
+          (sym (turn  ∙ not-false _ c.if-not-place_fits.false-raw),
+    )
+
+pub returns : goal.returns
+returns c = let a = c.args in 
+    sym (messages-all a.count a.part.now a.g a.ids.now c.loop-q.q (omega arith) c.loop-q.invariant.1)

@@ -1,0 +1,8 @@
+-- `leaf::full` meets its contract. Assumes nothing.
+use borrow.Author.Rules.{rules}
+use Rattle.rules.specs.Leaf.{is_full}
+use Rattle.leaf.proofs.full.Goals as goal
+
+pub returns : goal.returns
+unfolding is_full
+returns c = rw (c.count-2.ensures, c.count.ensures)

@@ -1,0 +1,20 @@
+-- `over_counts::poll` meets its contract: the definition's test; a valid table has at most 64 slots. Assumes nothing.
+use mathlib.Core.Path.{◌≡◌, sym, ◌∙◌, ap}
+use borrow.Author.Tests.{not-true, not-false}
+use mathlib.Core.Bool.{true}
+use Rattle.counts.specs.declared.Polled.TheVariants as polled
+use Rattle.counts.specs.Counts.{is_sound_counted}
+use Rattle.counts.proofs.ByCase.{tells, polled-invalid, polled-nodes}
+use borrow.Author.Rules.{rules}
+use Rattle.over_counts.proofs.poll.Goals as goal
+
+pub returns-then-not-is_sound : goal.returns-then-not-is_sound
+returns-then-not-is_sound c = polled-invalid _ _ (sym c.is_sound.ensures ∙ not-true _ c.if-not-is_sound.true-raw)
+
+pub nodes_counted-requires : goal.nodes_counted-requires
+nodes_counted-requires c = let good : is_sound_counted c.args.x c.args.len ≡ true = sym c.is_sound.ensures ∙ not-false _ c.if-not-is_sound.false-raw in
+    (tells _ _ good.numbers.n-high
+
+pub returns : goal.returns
+returns c = let good : is_sound_counted c.args.x c.args.len ≡ true = sym c.is_sound.ensures ∙ not-false _ c.if-not-is_sound.false-raw in
+    ap polled.Nodes c.nodes_counted.ensures ∙ polled-nodes _ _ (good 

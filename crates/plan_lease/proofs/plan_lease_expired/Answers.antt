@@ -1,0 +1,26 @@
+-- `plan_lease::plan_lease_expired` meets its contract: its tests are the definition's, in the same order, and the status afterwards is decided
+-- last. Assumes nothing.
+use borrow.Author.Rules.{rules}
+use mathlib.Core.Path.{◌≡◌}
+use mathlib.Core.Bool.{cond, ◌&&◌}
+use mathlib.Core.Logic.{⊎_elim}
+use Rattle.plan.specs.Actions.{plan_lease_expired, is_neighbour}
+use Rattle.rules.specs.declared.Status.TheVariants as status
+use Rattle.rules.specs.Plans.{is_ready}
+use Rattle.plan_lease.proofs.plan_lease_expired.Goals as goal
+
+pub returns-then-not-is_up : goal.returns-then-not-is_up
+unfolding plan_lease_expired
+returns-then-not-is_up c = rw (← c.is_up.ensures, c.if-not-is_up.true-raw)
+
+pub returns-then-i-j : goal.returns-then-i-j
+unfolding plan_lease_expired
+returns-then-i-j c = rw (← c.is_up.ensures, c.if-not-is_up.false-raw, ← c.is_in.ensures, c.if-i-j.true)
+
+pub returns : goal.returns
+unfolding plan_lease_expired
+returns c = let next : let a = c.args in 
+    c.if-is_ready-near.next ≡ cond (is_ready a.v.status && is_neighbour a.g a.ids.now a.i a.v a.j) status.Ok a.v.status = rw (← c.is_ready.ensures, ← c.neighbours-near.ensures)
+    (⊎_elim (λ w. rw w.0.taken w.1) (λ w. rw w.0.left w.1) c.if-is_ready-near.branch) in
+    rw (← c.is_up.ensures, c.if-not-is_up.false-raw, ← c.is_in.ensures, c.if-i-j.false)
+    (rw (c.quiet_plan.ensures, c.with_leases-node.ensures, c.removed.ensures, next )

@@ -1,0 +1,6 @@
+-- `plan_probe::learnt` meets its contract. Assumes nothing.
+use borrow.Author.Rules.{rules}
+use Rattle.plan_probe.proofs.learnt.Goals as goal
+
+pub returns : goal.returns
+returns c = rw c.added-routing.ensures

@@ -1,0 +1,6 @@
+-- `table_valid::is_part` meets its contract: the code is the definition. Assumes nothing.
+use borrow.Author.Rules.{rules}
+use Rattle.table_valid.proofs.is_part.Goals as goal
+
+pub returns : goal.returns
+returns c = rw c.less.ensures

@@ -1,0 +1,8 @@
+-- `table_valid::key_fits` meets its contract: what the definition asks of a key alone. Assumes nothing.
+use borrow.Author.Rules.{rules}
+use Rattle.rules.specs.Fits.{fields_fit, word_fits, flag_fits, carried_fits, owner_fits, routing_fits, failed_fits}
+use Rattle.table_valid.proofs.key_fits.Goals as goal
+
+pub returns : goal.returns
+unfolding carried_fits failed_fits fields_fit flag_fits owner_fits routing_fits word_fits
+returns c = rw (c.word_alone.ensures, c.below_size.ensures)
