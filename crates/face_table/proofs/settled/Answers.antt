@@ -19,17 +19,17 @@ pub returns-then-len-ne256 : goal.returns-then-len-ne256
 returns-then-len-ne256 c = no-list _ _ _ c.if-len-ne256.true
 
 pub returns-then-not-is_valid : goal.returns-then-not-is_valid
-returns-then-not-is_valid c = not_valid _ _ _ c.if-len-ne256.false (sym c.is_valid.ensures ∙ not-true _ c.if-not-is_valid.true-raw)
+returns-then-not-is_valid c = not_valid _ _ _ c.if-len-ne256.false (sym c.is_valid.ensures ∙ c.if-not-is_valid.true)
 
 pub is_settled_table-requires : goal.is_settled_table-requires
-is_settled_table-requires c = (sound _ _ (sym c.is_valid.ensures ∙ not-false _ c.if-not-is_valid.false-raw)).listed
+is_settled_table-requires c = (sound _ _ (sym c.is_valid.ensures ∙ c.if-not-is_valid.false)).listed
 
 pub returns-then-is_settled_table : goal.returns-then-is_settled_table
-returns-then-is_settled_table c = at_rest _ _ _ c.if-len-ne256.false (sym c.is_valid.ensures ∙ not-false _ c.if-not-is_valid.false-raw)
+returns-then-is_settled_table c = at_rest _ _ _ c.if-len-ne256.false (sym c.is_valid.ensures ∙ c.if-not-is_valid.false)
     (sym c.is_settled_table.ensures ∙ c.if-is_settled_table.true)
 
 pub returns-else-is_settled_table : goal.returns-else-is_settled_table
-returns-else-is_settled_table c = not-at-rest _ _ _ c.if-len-ne256.false (sym c.is_valid.ensures ∙ not-false _ c.if-not-is_valid.false-raw)
+returns-else-is_settled_table c = not-at-rest _ _ _ c.if-len-ne256.false (sym c.is_valid.ensures ∙ c.if-not-is_valid.false)
     (sym c.is_settled_table.ensures ∙ c.if-is_settled_table.false)
 
 {- LEFT

@@ -29,7 +29,7 @@ returns-then-not-place_fits c = let turn : let a = c.args in
     place-turn a.count a.part.now a.g a.ids.now c.loop-q.q c.read_message-m.result _ (omega arith)
     c.read_message-m.ensures c.place_fits.ensures in
     let a = c.args in 
-    sym (message-fails a.count a.part.now a.g a.ids.now c.loop-q.q (omega arith) (sym (turn  ∙ not-true _ c.if-not-place_fits.true-raw))
+    sym (message-fails a.count a.part.now a.g a.ids.now c.loop-q.q (omega arith) (sym (turn  ∙ c.if-not-place_fits.true))
 
 pub overflow_add-q : goal.overflow_add-q
 overflow_add-q c = omega arith
@@ -45,7 +45,7 @@ loop-q-preserved c = let turn : let a = c.args in
     let a = c.args in (
       omega arith,
       more c.loop-q.q (place_in a.g a.ids.now (part_pool a.count a.part.now)) c.loop-q.invariant.1
-          (sym (turn  ∙ not-false _ c.if-not-place_fits.false-raw),
+          (sym (turn  ∙ c.if-not-place_fits.false),
     )
 
 pub returns : goal.returns

@@ -53,7 +53,7 @@ returns-then-not-id_fits-node_fits c = let narrow : file_n c.args.file.now ≤ 6
     ≡ slot_in (file_table c.args.file.now) c.loop-s.s = slot_turn c.args.file.now c.args.g c.loop-s.low c.loop-s.s c.read_node-v.result _ _ c.requires.1 c.loop-s.invariant.1 (here 
     c.read_node-v.ensures c.id_fits.ensures c.node_fits.ensures in
     sym (slot-fails (file_table c.args.file.now) c.loop-s.s (omega (arith, here , narrow )
-    (sym (turn  ∙ not-true _ c.if-not-id_fits-node_fits.true-raw))
+    (sym (turn  ∙ c.if-not-id_fits-node_fits.true))
 
 pub overflow_cast-low : goal.overflow_cast-low
 overflow_cast-low c = omega arith
@@ -81,7 +81,7 @@ loop-s-preserved c = let wide : c.args.g.n ≡ file_n c.args.file.now = ap (λ (
     let file = c.args.file.now in (
       omega (arith, here ,
       low_turn file c.loop-s.s c.read_node-v.result (here  c.read_node-v.ensures,
-      more c.loop-s.s (slot_in (file_table file)) c.loop-s.invariant.2 (sym (turn  ∙ not-false _ c.if-not-id_fits-node_fits.false-raw),
+      more c.loop-s.s (slot_in (file_table file)) c.loop-s.invariant.2 (sym (turn  ∙ c.if-not-id_fits-node_fits.false),
     )
 
 pub returns : goal.returns

@@ -56,7 +56,7 @@ returns-then-not-settled_at c = let table_at : Table = c.args.t in
     ∙ sym (s ∙ asked _ _ _ _ _ _ c.ring_of-g.ensures c.ids-ids.ensures c.ready_set-ready.ensures) in
     sym (settled-not (table_at  c.loop-i.i (omega arith)
     (turn-ready  c.settled_at.result (sym c.is_ready.ensures ∙ c.if-is_ready.true) c.settled_at.ensures
-    ∙ not-true _ c.if-not-settled_at.true-raw))
+    ∙ c.if-not-settled_at.true))
 
 pub returns-then-not-is_dead : goal.returns-then-not-is_dead
 returns-then-not-is_dead c = let table_at : Table = c.args.t in
@@ -64,7 +64,7 @@ returns-then-not-is_dead c = let table_at : Table = c.args.t in
     let turn-other : (r : Bool) → is_ready (node_in .status ≡ false → r ≡ is_dead (node_in .status → calm_in (table_at  c.loop-i.i ≡ r = λ r up s. calm-other _ _ _ up ∙ sym s in
     sym (settled-not (table_at  c.loop-i.i (omega arith)
     (turn-other  c.is_dead.result (sym c.is_ready.ensures ∙ c.if-is_ready.false) c.is_dead.ensures
-    ∙ not-true _ c.if-not-is_dead.true-raw))
+    ∙ c.if-not-is_dead.true))
 
 pub overflow_add-i : goal.overflow_add-i
 overflow_add-i c = let table_at : Table = c.args.t in

@@ -226,7 +226,7 @@ put_is c =
 pub returns-then-not-len-valid : goal.returns-then-not-len-valid
 returns-then-not-len-valid c = let s = c.args in 
     c.answered.ensures
-    ∙ step-invalid s.t s.p s.len s.a (sound-is s.t s.p s.len _ (told ⟦After-is_valid⟧) ∙ not-true _ c.if-not-len-valid.true-raw)
+    ∙ step-invalid s.t s.p s.len s.a (sound-is s.t s.p s.len _ (told ⟦After-is_valid⟧) ∙ c.if-not-len-valid.true)
 
 pub asked-asks-requires : goal.asked-asks-requires
 asked-asks-requires c = let s = (begun ⟦Else1⟧).args in
@@ -292,7 +292,7 @@ returns-then-not-room c = let e = aim (aimed ⟦Joined5⟧) in
     let m = read_of (called e) (told-asks ⟦Joined5⟧) (asks-is (asks e)) in
     c.answered-then-not-room.ensures
     ∙ full s.t s.p (told-gone ⟦Joined5⟧) (slot_with (told-asks ⟦Joined5⟧) m) (told-plan ⟦Joined5⟧) _ (whole ⟦Joined5⟧) (new_is ⟦Joined5⟧)
-    (sym c.room.ensures ∙ not-true _ c.if-not-room.true-raw)
+    (sym c.room.ensures ∙ c.if-not-room.true)
     ∙ carries (called e) (told-asks ⟦Joined5⟧) (asks-is (asks e)) s.len (is-sound (asks e).before) _ (planned-is (aimed ⟦Joined5⟧)) (untimed ⟦Joined5⟧).if4.false (told-plan ⟦Joined5⟧) _
     (going ⟦Joined5⟧).what.given.1 refl
 

@@ -44,7 +44,7 @@ returns-then-not-id_fits-node_fits c = let here : c.loop-s.s < c.args.t.n = let 
     let turn : (c.id_fits.result && c.node_fits.result)
     ≡ fits_at c.args.t c.loop-s.s = rw (c.node_fits.ensures, c.id_fits.ensures, c.ring_of-g.ensures, c.loop-s.invariant.1)
     (slot-listed c.args.t c.loop-s.s here in
-    sym (fails 64 (fits_at c.args.t) c.loop-s.s (omega (arith, here ) (sym (turn  ∙ not-true _ c.if-not-id_fits-node_fits.true-raw))
+    sym (fails 64 (fits_at c.args.t) c.loop-s.s (omega (arith, here ) (sym (turn  ∙ c.if-not-id_fits-node_fits.true))
 
 pub overflow_add-s : goal.overflow_add-s
 overflow_add-s c = let here : c.loop-s.s < c.args.t.n = let e : c.ring_of-g.result.n ≡ c.args.t.n = rw c.ring_of-g.ensures in
@@ -65,7 +65,7 @@ loop-s-preserved c = let here : c.loop-s.s < c.args.t.n = let e : c.ring_of-g.re
     let t = c.args.t in (
       omega (arith, here ,
       low-next t c.loop-s.s,
-      more c.loop-s.s (fits_at t) c.loop-s.invariant.2 (sym (turn  ∙ not-false _ c.if-not-id_fits-node_fits.false-raw),
+      more c.loop-s.s (fits_at t) c.loop-s.invariant.2 (sym (turn  ∙ c.if-not-id_fits-node_fits.false),
     )
 
 pub loop-s-2-init : goal.loop-s-2-init
@@ -83,7 +83,7 @@ unfolding nodes_fit
 returns-then-not-is_blank_node c = let turn-2 : c.is_blank_node.result
     ≡ fits_at c.args.t c.loop-s-2.s = rw c.is_blank_node.ensures (slot-blank c.args.t c.loop-s-2.s c.loop-s-2.invariant.0) in
     let t = c.args.t in 
-    sym (fails 64 (fits_at t) c.loop-s-2.s (omega arith) (sym (turn-2  ∙ not-true _ c.if-not-is_blank_node.true-raw))
+    sym (fails 64 (fits_at t) c.loop-s-2.s (omega arith) (sym (turn-2  ∙ c.if-not-is_blank_node.true))
 
 pub overflow_add-s-in-loop-s-2 : goal.overflow_add-s-in-loop-s-2
 overflow_add-s-in-loop-s-2 c = omega arith
@@ -97,7 +97,7 @@ loop-s-2-preserved c = let turn-2 : c.is_blank_node.result
     let t = c.args.t in (
       omega arith,
       omega arith,
-      more c.loop-s-2.s (fits_at t) c.loop-s-2.invariant.2 (sym (turn-2  ∙ not-false _ c.if-not-is_blank_node.false-raw),
+      more c.loop-s-2.s (fits_at t) c.loop-s-2.invariant.2 (sym (turn-2  ∙ c.if-not-is_blank_node.false),
     )
 
 pub returns : goal.returns

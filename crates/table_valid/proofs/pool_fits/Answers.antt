@@ -44,11 +44,11 @@ tests-init c = (zero-le, refl)
 pub returns-then-not-place_fits : goal.returns-then-not-place_fits
 returns-then-not-place_fits c = let a = c.args in 
     one-fails a.g _ a.p c.tests.k (omega arith) (omega arith)
-    (sym c.place_fits.ensures ∙ not-true _ c.if-not-place_fits.true-raw)
+    (sym c.place_fits.ensures ∙ c.if-not-place_fits.true)
 
 pub tests-preserved : goal.tests-preserved
 tests-preserved c = let a = c.args in 
-    let fit = sym c.place_fits.ensures ∙ not-false _ c.if-not-place_fits.false-raw in
+    let fit = sym c.place_fits.ensures ∙ c.if-not-place_fits.false in
     (omega arith, All-more c.tests.k (fits_at a.g _ a.p) c.tests.invariant.1 fit)
 
 pub places-init : goal.places-init

@@ -1,4 +1,0 @@
-pub mod Signed
-pub mod Results
-pub mod Reading
-pub mod Saying

@@ -1,3 +1,0 @@
-pub mod Requests
-pub mod Replies
-pub mod Kinds
