@@ -18,8 +18,8 @@ word w x h e = rw e (omega (arith, number-few w.answer))
 
 pub overflow_mul-result : goal.overflow_mul-result
 overflow_mul-result c = let low : c.via_number.result ≤ 114 = letter c.args.m.via _ c.via_number.ensures in
-    omega (arith, low 
+    omega (arith, low)
 
 pub overflow_add-result : goal.overflow_add-result
 overflow_add-result c = let low : c.via_number.result ≤ 114 = letter c.args.m.via _ c.via_number.ensures in
-    omega (arith, low , word c.args.m.wrote c.packed.result c.requires c.packed.ensures)
+    omega (arith, low, word c.args.m.wrote c.packed.result c.requires c.packed.ensures)

@@ -25,4 +25,12 @@ module _ (s : Stepped) (a : Action) where
   next-refused : (why : Refusal) → s.answer ≡ Refused why → refused_of s.table s.pool why ≡ next_of s a
   unfolding next_of
   next-refused why e = rw e
+
+-- LOST enum_told : enum-told
+enum_told : tie.Need-enum-told
+enum_told c = search rules
+
+-- LOST enum-known-answer : enum-known-answer
+enum-known-answer : tie.Need-enum-known-answer
+enum-known-answer c = search rules
 -}

@@ -24,4 +24,12 @@ module _ (s full : Stepped) (is : s ≡ full) where
   rest-refused : (why : Refusal) → s.answer ≡ Refused why → NotAsked why ≡ rest_by full
   unfolding rest_by
   rest-refused why e = rw (← is, e)
+
+-- LOST enum_told : enum-told
+enum_told : tie.Need-enum-told
+enum_told c = search rules
+
+-- LOST enum-known-answer : enum-known-answer
+enum-known-answer : tie.Need-enum-known-answer
+enum-known-answer c = search rules
 -}

@@ -28,4 +28,16 @@ module _ (s : Stepped) (out : List ℕ) where
   written-refused : (why : Refusal) → s.answer ≡ Refused why → (r : Wrote) → r ≡ not_written why → (r ≡ wrote_by s out) × (out ≡ left_by s out)
   unfolding wrote_by left_by
   written-refused why e r k = (rw (e, k), rw e)
+
+-- LOST enum_told : enum-told
+enum_told : tie.Need-enum-told
+enum_told c = search rules
+
+-- LOST enum-known-answer : enum-known-answer
+enum-known-answer : tie.Need-enum-known-answer
+enum-known-answer c = search rules
+
+-- LOST same_length : same-length
+same_length : tie.Need-same-length
+same_length c = search rules
 -}

@@ -42,4 +42,12 @@ module _ (t : Table) (p : Pool) (len m l : ℕ) (ids : List ℕ) (a : ℕ) where
     made-refused : (why : Refusal) → made.answer ≡ Refused why → refused_of t p why ≡ start_step t p len m l ids a
     unfolding start_step
     made-refused why d = rw (eq-eqb len 256 e, ← is, d)
+
+-- LOST enum_told : enum-told
+enum_told : tie.Need-enum-told
+enum_told c = search rules
+
+-- LOST enum-known-answer : enum-known-answer
+enum-known-answer : tie.Need-enum-known-answer
+enum-known-answer c = search rules
 -}

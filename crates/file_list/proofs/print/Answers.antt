@@ -5,9 +5,3 @@ use Rattle.file_list.proofs.print.Goals as goal
 
 pub returns : goal.returns
 returns c = then c.put_text-at.ensures c.follow.ensures
-
-{- LEFT
--- LOST slice-aggregate-put-text : slice-aggregate-put-text
-slice-aggregate-put-text : tie.Need-slice-aggregate-put-text
-slice-aggregate-put-text c = search rules
--}

@@ -7,11 +7,11 @@ use Rattle.file_list.proofs.put_end.Goals as goal
 
 pub offset_bounds-ids-e : goal.offset_bounds-ids-e
 offset_bounds-ids-e c = let slot : c.in-At.e < 64 = end-slot c.in-At.is c.requires.0 in
-    omega (arith, slot 
+    omega (arith, slot)
 
 pub bounds-ids-e : goal.bounds-ids-e
 bounds-ids-e c = let slot : c.in-At.e < 64 = end-slot c.in-At.is c.requires.0 in
-    slot 
+    slot
 
 pub put_number-requires : goal.put_number-requires
 put_number-requires c = rw c.in-At.is at c.requires.1

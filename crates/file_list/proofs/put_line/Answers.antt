@@ -18,7 +18,7 @@ put_field-a1-requires c = let room : let a = c.args in
     + (length (end_in a.ids.now a.end) + 1 + length (hops_text (take a.hops a.letters.now))))
     ≤ length a.b.now = let a = c.args in 
     rw (fields-length a.ids.now a.m a.end (take a.hops a.letters.now)) at c.requires.4 in
-    omega (arith, room 
+    omega (arith, room)
 
 pub put_field-a2-requires : goal.put_field-a2-requires
 put_field-a2-requires c = let room : let a = c.args in 
@@ -28,7 +28,7 @@ put_field-a2-requires c = let room : let a = c.args in
     ≤ length a.b.now = let a = c.args in 
     rw (fields-length a.ids.now a.m a.end (take a.hops a.letters.now)) at c.requires.4 in
     let start : tie.Start = ⟦After-slice_known⟧ in
-    omega (arith, room (start , field_end _ _ c.put_field-a1.ensures)
+    omega (arith, room (start), field_end _ _ c.put_field-a1.ensures)
 
 pub put_end-a3-requires : goal.put_end-a3-requires
 put_end-a3-requires c = let room : let a = c.args in 
@@ -39,8 +39,8 @@ put_end-a3-requires c = let room : let a = c.args in
     rw (fields-length a.ids.now a.m a.end (take a.hops a.letters.now)) at c.requires.4 in
     let start : tie.Start = ⟦After-slice_known⟧ in
     (
-      (start .requires.1,
-      omega (arith, room (start , field_end _ _ c.put_field-a1.ensures, field_end _ _ c.put_field-a2.ensures),
+      (start).requires.1,
+      omega (arith, room (start), field_end _ _ c.put_field-a1.ensures, field_end _ _ c.put_field-a2.ensures),
     )
 
 pub put_byte-a4-requires : goal.put_byte-a4-requires
@@ -53,7 +53,7 @@ put_byte-a4-requires c = let room : let a = c.args in
     let start : tie.Start = ⟦After-slice_known⟧ in
     omega (
       arith,
-      room (start ,
+      room (start),
       field_end _ _ c.put_field-a1.ensures,
       field_end _ _ c.put_field-a2.ensures,
       text-end c.put_end-a3.ensures,
@@ -71,10 +71,10 @@ put_hops-requires c = let room : let a = c.args in
     rw (fields-length a.ids.now a.m a.end (take a.hops a.letters.now)) at c.requires.4 in
     let start : tie.Start = ⟦After-slice_known⟧ in
     (
-      rw (length-take-le _ _ (start .requires.3) (start .requires.2,
+      rw (length-take-le _ _ (start).requires.3) (start).requires.2,
       omega (
         arith,
-        room (start ,
+        room (start),
         field_end _ _ c.put-field.ensures⟪?⟫,
         field_end _ _ c.put-field2.ensures⟪?⟫,
         text-end c.put-end.ensures⟪?⟫,
@@ -84,6 +84,6 @@ put_hops-requires c = let room : let a = c.args in
 
 pub returns : goal.returns
 returns c = let start : tie.Start = ⟦After-slice_known⟧ in
-    let a = (start .args in
+    let a = (start).args in
     line-run a.ids.now a.m a.end (take a.hops a.letters.now) c.put-field.ensures⟪?⟫ c.put-field2.ensures⟪?⟫ c.put-end.ensures⟪?⟫
     c.put_byte.ensures⟪?⟫ c.put_hops.ensures

@@ -11,9 +11,3 @@ put_field-requires c = omega (arith, text-end c.put_text-at.ensures, decimal-wor
 
 pub returns : goal.returns
 returns c = refused-run c.args.why c.answer_number-number.ensures c.put_text-at.ensures c.put_field.ensures
-
-{- LEFT
--- LOST slice-aggregate-put-text : slice-aggregate-put-text
-slice-aggregate-put-text : tie.Need-slice-aggregate-put-text
-slice-aggregate-put-text c = search rules
--}

@@ -36,14 +36,14 @@ returns-then-len-ne256 c = let fits : Fitting c.args.file.now = record {
     } in
     let a = c.args in 
     c.refused-then-len-ne256.ensures
-    ∙ sym (load-places a.file.now a.t a.p a.len c.if-file-lt32.false (fits  c.if-len-ne256.true)
+    ∙ sym (load-places a.file.now a.t a.p a.len c.if-file-lt32.false (fits) c.if-len-ne256.true)
 
 pub load_records-requires : goal.load_records-requires
 load_records-requires c = let fits : Fitting c.args.file.now = record {
       header = sym c.header_fits.ensures ∙ c.if-not-header_fits.false;
       offsets = sym c.offsets_fit.ensures ∙ c.if-not-offsets_fit.false;
     } in
-    fits 
+    fits
 
 pub returns : goal.returns
 returns c = let fits : Fitting c.args.file.now = record {
@@ -52,4 +52,4 @@ returns c = let fits : Fitting c.args.file.now = record {
     } in
     let a = c.args in 
     c.load_records.ensures
-    ∙ sym (load_goes a.file.now a.t a.p a.len c.if-file-lt32.false (fits  c.if-len-ne256.false)
+    ∙ sym (load_goes a.file.now a.t a.p a.len c.if-file-lt32.false (fits) c.if-len-ne256.false)

@@ -34,36 +34,36 @@ unfolding candidates_of
 returns-in_default c = let chosen : let a = c.args in c.if-by_leaf.candidates ≡ candidates_of a.g a.ids.now a.dead a.i a.v = ⊎_elim (λ w. rw (← c.by_leaf.ensures, w.0.taken) (w.2 ∙ w.1.ensures))
     (λ w. rw (← c.by_leaf.ensures, w.0.left) (w.2 ∙ w.1.ensures)) c.if-by_leaf.branch in
     let found : let a = c.args in 
-    c.best.result ≡ best_of Near (2 ^ a.g.m) a.k a.ids.now (candidates_of a.g a.ids.now a.dead a.i a.v) = rw (chosen  at c.best.ensures in
-    rw (next_hop-nearest, ← found , c.in_default.is)
+    c.best.result ≡ best_of Near (2 ^ a.g.m) a.k a.ids.now (candidates_of a.g a.ids.now a.dead a.i a.v) = rw (chosen) at c.best.ensures in
+    rw (next_hop-nearest, ← found, c.in_default.is)
 
 pub offset_bounds-ids-h : goal.offset_bounds-ids-h
 unfolding candidates_of
 offset_bounds-ids-h c = let chosen : let a = c.args in c.if-by_leaf.candidates ≡ candidates_of a.g a.ids.now a.dead a.i a.v = ⊎_elim (λ w. rw (← c.by_leaf.ensures, w.0.taken) (w.2 ∙ w.1.ensures))
     (λ w. rw (← c.by_leaf.ensures, w.0.left) (w.2 ∙ w.1.ensures)) c.if-by_leaf.branch in
     let found : let a = c.args in 
-    c.best.result ≡ best_of Near (2 ^ a.g.m) a.k a.ids.now (candidates_of a.g a.ids.now a.dead a.i a.v) = rw (chosen  at c.best.ensures in
-    let there-low : c.in-At.h < 64 = best-low _ _ _ (sym (found  ∙ c.in-At.is) in
-    omega (arith, there-low 
+    c.best.result ≡ best_of Near (2 ^ a.g.m) a.k a.ids.now (candidates_of a.g a.ids.now a.dead a.i a.v) = rw (chosen) at c.best.ensures in
+    let there-low : c.in-At.h < 64 = best-low _ _ _ (sym (found) ∙ c.in-At.is) in
+    omega (arith, there-low)
 
 pub bounds-ids-h : goal.bounds-ids-h
 unfolding candidates_of
 bounds-ids-h c = let chosen : let a = c.args in c.if-by_leaf.candidates ≡ candidates_of a.g a.ids.now a.dead a.i a.v = ⊎_elim (λ w. rw (← c.by_leaf.ensures, w.0.taken) (w.2 ∙ w.1.ensures))
     (λ w. rw (← c.by_leaf.ensures, w.0.left) (w.2 ∙ w.1.ensures)) c.if-by_leaf.branch in
     let found : let a = c.args in 
-    c.best.result ≡ best_of Near (2 ^ a.g.m) a.k a.ids.now (candidates_of a.g a.ids.now a.dead a.i a.v) = rw (chosen  at c.best.ensures in
-    let there-low : c.in-At.h < 64 = best-low _ _ _ (sym (found  ∙ c.in-At.is) in
-    there-low 
+    c.best.result ≡ best_of Near (2 ^ a.g.m) a.k a.ids.now (candidates_of a.g a.ids.now a.dead a.i a.v) = rw (chosen) at c.best.ensures in
+    let there-low : c.in-At.h < 64 = best-low _ _ _ (sym (found) ∙ c.in-At.is) in
+    there-low
 
 pub rank-there-requires : goal.rank-there-requires
 unfolding candidates_of
 rank-there-requires c = let chosen : let a = c.args in c.if-by_leaf.candidates ≡ candidates_of a.g a.ids.now a.dead a.i a.v = ⊎_elim (λ w. rw (← c.by_leaf.ensures, w.0.taken) (w.2 ∙ w.1.ensures))
     (λ w. rw (← c.by_leaf.ensures, w.0.left) (w.2 ∙ w.1.ensures)) c.if-by_leaf.branch in
     let found : let a = c.args in 
-    c.best.result ≡ best_of Near (2 ^ a.g.m) a.k a.ids.now (candidates_of a.g a.ids.now a.dead a.i a.v) = rw (chosen  at c.best.ensures in
-    let there-low : c.in-At.h < 64 = best-low _ _ _ (sym (found  ∙ c.in-At.is) in
+    c.best.result ≡ best_of Near (2 ^ a.g.m) a.k a.ids.now (candidates_of a.g a.ids.now a.dead a.i a.v) = rw (chosen) at c.best.ensures in
+    let there-low : c.in-At.h < 64 = best-low _ _ _ (sym (found) ∙ c.in-At.is) in
     let h = c.requires in 
-    record { width = h.0.width; first = h.2; second = h.0.ids-in _ (there-low  }
+    record { width = h.0.width; first = h.2; second = h.0.ids-in _ (there-low) }
 
 pub rank-here-requires : goal.rank-here-requires
 rank-here-requires c = let h = c.requires in 
@@ -74,15 +74,15 @@ unfolding candidates_of
 returns-then-there-here c = let chosen : let a = c.args in c.if-by_leaf.candidates ≡ candidates_of a.g a.ids.now a.dead a.i a.v = ⊎_elim (λ w. rw (← c.by_leaf.ensures, w.0.taken) (w.2 ∙ w.1.ensures))
     (λ w. rw (← c.by_leaf.ensures, w.0.left) (w.2 ∙ w.1.ensures)) c.if-by_leaf.branch in
     let found : let a = c.args in 
-    c.best.result ≡ best_of Near (2 ^ a.g.m) a.k a.ids.now (candidates_of a.g a.ids.now a.dead a.i a.v) = rw (chosen  at c.best.ensures in
+    c.best.result ≡ best_of Near (2 ^ a.g.m) a.k a.ids.now (candidates_of a.g a.ids.now a.dead a.i a.v) = rw (chosen) at c.best.ensures in
     let e = closer _ _ _ _ _ _ c.rank-there.ensures c.rank-here.ensures (omega arith) in
-    rw (next_hop-nearest, ← found , c.in-At.is, e)
+    rw (next_hop-nearest, ← found, c.in-At.is, e)
 
 pub returns-else-there-here : goal.returns-else-there-here
 unfolding candidates_of
 returns-else-there-here c = let chosen : let a = c.args in c.if-by_leaf.candidates ≡ candidates_of a.g a.ids.now a.dead a.i a.v = ⊎_elim (λ w. rw (← c.by_leaf.ensures, w.0.taken) (w.2 ∙ w.1.ensures))
     (λ w. rw (← c.by_leaf.ensures, w.0.left) (w.2 ∙ w.1.ensures)) c.if-by_leaf.branch in
     let found : let a = c.args in 
-    c.best.result ≡ best_of Near (2 ^ a.g.m) a.k a.ids.now (candidates_of a.g a.ids.now a.dead a.i a.v) = rw (chosen  at c.best.ensures in
+    c.best.result ≡ best_of Near (2 ^ a.g.m) a.k a.ids.now (candidates_of a.g a.ids.now a.dead a.i a.v) = rw (chosen) at c.best.ensures in
     let e = no-closer _ _ _ _ _ _ c.rank-there.ensures c.rank-here.ensures (omega arith) in
-    rw (next_hop-nearest, ← found , c.in-At.is, e)
+    rw (next_hop-nearest, ← found, c.in-At.is, e)

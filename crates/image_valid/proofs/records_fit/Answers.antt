@@ -23,7 +23,7 @@ ring_in-g-requires c = omega (arith, offsets-long c.args.file.now c.requires.off
 
 pub all_nodes-all-requires : goal.all_nodes-all-requires
 all_nodes-all-requires c = let narrow : Numbers (ring_of (file_table c.args.file.now)) = numbers-told _ (header-numbers c.args.file.now c.requires.header) in
-    rw c.ring_in-g.ensures (narrow .n-high
+    rw c.ring_in-g.ensures (narrow).n-high
 
 pub nodes_fit_in-requires : goal.nodes_fit_in-requires
 nodes_fit_in-requires c = (c.requires, c.ring_in-g.ensures, c.all_nodes-all.ensures)

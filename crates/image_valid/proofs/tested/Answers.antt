@@ -26,18 +26,18 @@ records_fit-requires c = let fits : Fitting c.args.file.now = record {
       header = sym c.header_fits.ensures ∙ c.if-not-header_fits.false;
       offsets = sym c.offsets_fit.ensures ∙ c.if-not-offsets_fit.false;
     } in
-    fits 
+    fits
 
 pub returns-then-records_fit : goal.returns-then-records_fit
 returns-then-records_fit c = let fits : Fitting c.args.file.now = record {
       header = sym c.header_fits.ensures ∙ c.if-not-header_fits.false;
       offsets = sym c.offsets_fit.ensures ∙ c.if-not-offsets_fit.false;
     } in
-    λ t p. answer-done c.args.file.now t p c.if-file-lt32.false (fits  (sym c.records_fit.ensures ∙ c.if-records_fit.true)
+    λ t p. answer-done c.args.file.now t p c.if-file-lt32.false (fits) (sym c.records_fit.ensures ∙ c.if-records_fit.true)
 
 pub returns-else-records_fit : goal.returns-else-records_fit
 returns-else-records_fit c = let fits : Fitting c.args.file.now = record {
       header = sym c.header_fits.ensures ∙ c.if-not-header_fits.false;
       offsets = sym c.offsets_fit.ensures ∙ c.if-not-offsets_fit.false;
     } in
-    λ t p. answer-invalid c.args.file.now t p c.if-file-lt32.false (fits  (sym c.records_fit.ensures ∙ c.if-records_fit.false)
+    λ t p. answer-invalid c.args.file.now t p c.if-file-lt32.false (fits) (sym c.records_fit.ensures ∙ c.if-records_fit.false)

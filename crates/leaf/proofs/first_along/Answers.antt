@@ -13,20 +13,8 @@ loop-d-init c = walk-begin _ _ _ _ _ c.requires.0 c.requires.1
 pub returns-then-got-l : goal.returns-then-got-l
 returns-then-got-l c = walk-full _ _ _ _ _ c.requires.0 c.requires.1 c.loop-d.invariant (omega arith)
 
-pub along-s-requires : goal.along-s-requires
-along-s-requires c = omega arith
-
 pub looked-requires : goal.looked-requires
 looked-requires c = walk_looks _ _ _ _ _ c.requires.0 c.requires.1 _ _ c.along-s.ensures.0 c.along-s.ensures.1 c.loop-d.invariant (λ e. omega arith)
-
-pub overflow_add-got : goal.overflow_add-got
-overflow_add-got c = omega arith
-
-pub overflow_add-d : goal.overflow_add-d
-overflow_add-d c = omega arith
-
-pub loop-d-smaller : goal.loop-d-smaller
-loop-d-smaller c = omega arith
 
 pub loop-d-preserved : goal.loop-d-preserved
 loop-d-preserved c = let pre = c.requires in 

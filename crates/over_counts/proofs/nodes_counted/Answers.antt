@@ -20,18 +20,6 @@ pub loop-i-init : goal.loop-i-init
 unfolding gather
 loop-i-init c = (omega arith, refl)
 
-pub offset_bounds-counts-i : goal.offset_bounds-counts-i
-offset_bounds-counts-i c = omega arith
-
-pub bounds-counts-i : goal.bounds-counts-i
-bounds-counts-i c = omega arith
-
-pub overflow_add-i : goal.overflow_add-i
-overflow_add-i c = omega arith
-
-pub loop-i-smaller : goal.loop-i-smaller
-loop-i-smaller c = omega arith
-
 pub loop-i-preserved : goal.loop-i-preserved
 loop-i-preserved c = let f = some_for c.args.counts.now in (
       omega arith,

@@ -13,8 +13,8 @@ returns-then-not-is_sound c = polled-invalid _ _ (sym c.is_sound.ensures ∙ c.i
 
 pub nodes_counted-requires : goal.nodes_counted-requires
 nodes_counted-requires c = let good : is_sound_counted c.args.x c.args.len ≡ true = sym c.is_sound.ensures ∙ c.if-not-is_sound.false in
-    (tells _ _ good.numbers.n-high
+    (tells _ _ (good)).numbers.n-high
 
 pub returns : goal.returns
 returns c = let good : is_sound_counted c.args.x c.args.len ≡ true = sym c.is_sound.ensures ∙ c.if-not-is_sound.false in
-    ap polled.Nodes c.nodes_counted.ensures ∙ polled-nodes _ _ (good 
+    ap polled.Nodes c.nodes_counted.ensures ∙ polled-nodes _ _ (good)

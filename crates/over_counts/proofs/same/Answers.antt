@@ -18,27 +18,9 @@ pub loop-i-init : goal.loop-i-init
 unfolding all_to
 loop-i-init c = (omega arith, refl)
 
-pub offset_bounds-a-i : goal.offset_bounds-a-i
-offset_bounds-a-i c = omega arith
-
-pub bounds-a-i : goal.bounds-a-i
-bounds-a-i c = omega arith
-
-pub offset_bounds-b-i : goal.offset_bounds-b-i
-offset_bounds-b-i c = omega arith
-
-pub bounds-b-i : goal.bounds-b-i
-bounds-b-i c = omega arith
-
 pub returns-then-a-i : goal.returns-then-a-i
 returns-then-a-i c = let a = c.args in 
     sym (fails 64 (same_at a.a.now a.b.now) c.loop-i.i (omega arith) (ne_eqb _ _ c.if-a-i.true))
-
-pub overflow_add-i : goal.overflow_add-i
-overflow_add-i c = omega arith
-
-pub loop-i-smaller : goal.loop-i-smaller
-loop-i-smaller c = omega arith
 
 pub loop-i-preserved : goal.loop-i-preserved
 loop-i-preserved c = let a = c.args in 

@@ -61,4 +61,20 @@ module _ (w : Holding) (s : Store) (r : Record) where
   out : (holder copies : ℕ) → w ≡ held.By holder copies → in_range r ≡ false → refused_of s OutOfRange ≡ place_by w s r
   unfolding place_by
   out holder copies e q = rw (e, q)
+
+-- LOST enum_told : enum-told
+enum_told : tie.Need-enum-told
+enum_told c = search rules
+
+-- LOST enum-told-2 : enum-told-2
+enum-told-2 : tie.Need-enum-told-2
+enum-told-2 c = search rules
+
+-- LOST enum-told-3 : enum-told-3
+enum-told-3 : tie.Need-enum-told-3
+enum-told-3 c = search rules
+
+-- LOST enum-known-w : enum-known-w
+enum-known-w : tie.Need-enum-known-w
+enum-known-w c = search rules
 -}

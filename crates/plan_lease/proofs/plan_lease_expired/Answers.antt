@@ -23,4 +23,4 @@ returns c = let next : let a = c.args in
     c.if-is_ready-near.next ≡ cond (is_ready a.v.status && is_neighbour a.g a.ids.now a.i a.v a.j) status.Ok a.v.status = rw (← c.is_ready.ensures, ← c.neighbours-near.ensures)
     (⊎_elim (λ w. rw w.0.taken w.1) (λ w. rw w.0.left w.1) c.if-is_ready-near.branch) in
     rw (← c.is_up.ensures, c.if-not-is_up.false-raw, ← c.is_in.ensures, c.if-i-j.false)
-    (rw (c.quiet_plan.ensures, c.with_leases-node.ensures, c.removed.ensures, next )
+    (rw (c.quiet_plan.ensures, c.with_leases-node.ensures, c.removed.ensures, next))

@@ -22,18 +22,6 @@ pub loop-s-init : goal.loop-s-init
 unfolding gather
 loop-s-init c = (omega arith, refl)
 
-pub offset_bounds-t-s : goal.offset_bounds-t-s
-offset_bounds-t-s c = omega arith
-
-pub bounds-t-s : goal.bounds-t-s
-bounds-t-s c = omega arith
-
-pub overflow_add-s : goal.overflow_add-s
-overflow_add-s c = omega arith
-
-pub loop-s-smaller : goal.loop-s-smaller
-loop-s-smaller c = omega arith
-
 pub loop-s-preserved : goal.loop-s-preserved
 loop-s-preserved c = let e = c.status_number.ensures in (
       omega arith,

@@ -237,12 +237,6 @@ returns-then-not-asks c = let s = (begun ⟦Else1⟧).args in
     c.answered-then-not-asks.ensures
     ∙ step_range s.t s.p s.len s.a (is-sound ⟦Else1⟧) _ (asks-is ⟦After-asked⟧) (not-true _ c.if-not-asks.true)
 
-pub offset_bounds-q-gone : goal.offset_bounds-q-gone
-offset_bounds-q-gone c = omega arith
-
-pub bounds-q-gone : goal.bounds-q-gone
-bounds-q-gone c = omega arith
-
 pub repeated-there-requires : goal.repeated-there-requires
 repeated-there-requires c = ((start ⟦Else2⟧).args.t, called ⟦Else2⟧)
 
@@ -299,12 +293,12 @@ returns-then-not-room c = let e = aim (aimed ⟦Joined5⟧) in
 pub offset_bounds-u-i : goal.offset_bounds-u-i
 offset_bounds-u-i c = let slot-fits : c.slot_of-i.result < 64 = let e = aim (aimed ⟦Joined5⟧) in
     rw c.slot_of-i.ensures (acts-low (called e) (told-asks ⟦Joined5⟧) (asks-is (asks e))) in
-    omega (arith, slot-fits 
+    omega (arith, slot-fits)
 
 pub bounds-u-i : goal.bounds-u-i
 bounds-u-i c = let slot-fits : c.slot_of-i.result < 64 = let e = aim (aimed ⟦Joined5⟧) in
     rw c.slot_of-i.ensures (acts-low (called e) (told-asks ⟦Joined5⟧) (asks-is (asks e))) in
-    slot-fits 
+    slot-fits
 
 pub gap-init : goal.gap-init
 gap-init c = let k = (ready ⟦After-left_count⟧).before.before in closed_none _ _ _ (counted_of k) (long k) c.left_count-n.ensures
@@ -312,32 +306,32 @@ gap-init c = let k = (ready ⟦After-left_count⟧).before.before in closed_none
 pub overflow_add-x : goal.overflow_add-x
 overflow_add-x c = let low : c.gap.at + 1 < 256 = let k = (ready ⟦After-left_count⟧).before.before in
     next_low _ _ _ (counted_of k) (long k) c.left_count-n.ensures _ _ c.gap-test.true c.gap.invariant in
-    omega (arith, low 
+    omega (arith, low)
 
 pub offset_bounds-q-at : goal.offset_bounds-q-at
 offset_bounds-q-at c = let low : c.gap.at + 1 < 256 = let k = (ready ⟦After-left_count⟧).before.before in
     next_low _ _ _ (counted_of k) (long k) c.left_count-n.ensures _ _ c.gap-test.true c.gap.invariant in
-    omega (arith, low 
+    omega (arith, low)
 
 pub bounds-q-at : goal.bounds-q-at
 bounds-q-at c = let low : c.gap.at + 1 < 256 = let k = (ready ⟦After-left_count⟧).before.before in
     next_low _ _ _ (counted_of k) (long k) c.left_count-n.ensures _ _ c.gap-test.true c.gap.invariant in
-    low 
+    low
 
 pub offset_bounds-q-at-in-gap : goal.offset_bounds-q-at-in-gap
 offset_bounds-q-at-in-gap c = let low : c.gap.at + 1 < 256 = let k = (ready ⟦After-left_count⟧).before.before in
     next_low _ _ _ (counted_of k) (long k) c.left_count-n.ensures _ _ c.gap-test.true c.gap.invariant in
-    omega (arith, low 
+    omega (arith, low)
 
 pub bounds-q-at-in-gap : goal.bounds-q-at-in-gap
 bounds-q-at-in-gap c = let low : c.gap.at + 1 < 256 = let k = (ready ⟦After-left_count⟧).before.before in
     next_low _ _ _ (counted_of k) (long k) c.left_count-n.ensures _ _ c.gap-test.true c.gap.invariant in
-    omega (arith, low 
+    omega (arith, low)
 
 pub overflow_add-at : goal.overflow_add-at
 overflow_add-at c = let low : c.gap.at + 1 < 256 = let k = (ready ⟦After-left_count⟧).before.before in
     next_low _ _ _ (counted_of k) (long k) c.left_count-n.ensures _ _ c.gap-test.true c.gap.invariant in
-    omega (arith, low 
+    omega (arith, low)
 
 pub gap-preserved : goal.gap-preserved
 gap-preserved c = let k = (ready ⟦After-left_count⟧).before.before in
@@ -348,11 +342,11 @@ overflow_cast-s c = omega (arith, slot-low _ _ c.in-At.is (new-slot _ _ _ (new-o
 
 pub bounds-q-n : goal.bounds-q-n
 bounds-q-n c = let low-one : c.left_count-n.result < 256 = one-fits _ _ _ (new-of ⟦At-gap⟧) (roomy (ready ⟦At-gap⟧)) _ _ c.left_count-n.ensures c.in-At.is in
-    low-one 
+    low-one
 
 pub overflow_add-n : goal.overflow_add-n
 overflow_add-n c = let low-one : c.left_count-n.result < 256 = one-fits _ _ _ (new-of ⟦At-gap⟧) (roomy (ready ⟦At-gap⟧)) _ _ c.left_count-n.ensures c.in-At.is in
-    omega (arith, low-one 
+    omega (arith, low-one)
 
 pub slots-init : goal.slots-init
 slots-init c = let fit = new-fit _ _ _ (new-of ⟦After-left_count⟧) (roomy (ready ⟦After-left_count⟧)) _ c.left_count-n.ensures in
@@ -360,26 +354,26 @@ slots-init c = let fit = new-fit _ _ _ (new-of ⟦After-left_count⟧) (roomy (r
 
 pub overflow_cast-s-in-slots : goal.overflow_cast-s-in-slots
 overflow_cast-s-in-slots c = let lowest : lowest_of c.slots.rest ≡ At c.in-At-next.s = sym c.lowest-next.ensures ∙ c.in-At-next.is in
-    omega (arith, (lowest-found _ _ lowest.below)
+    omega (arith, (lowest-found _ _ (lowest)).below)
 
 pub bounds-q-n-in-slots : goal.bounds-q-n-in-slots
 bounds-q-n-in-slots c = let lowest : lowest_of c.slots.rest ≡ At c.in-At-next.s = sym c.lowest-next.ensures ∙ c.in-At-next.is in
-    let low-next : c.slots.n < 256 = filling-low _ _ _ _ _ _ (lowest  c.slots.invariant in
-    low-next 
+    let low-next : c.slots.n < 256 = filling-low _ _ _ _ _ _ (lowest) c.slots.invariant in
+    low-next
 
 pub overflow_add-n-in-slots : goal.overflow_add-n-in-slots
 overflow_add-n-in-slots c = let lowest : lowest_of c.slots.rest ≡ At c.in-At-next.s = sym c.lowest-next.ensures ∙ c.in-At-next.is in
-    let low-next : c.slots.n < 256 = filling-low _ _ _ _ _ _ (lowest  c.slots.invariant in
-    omega (arith, low-next 
+    let low-next : c.slots.n < 256 = filling-low _ _ _ _ _ _ (lowest) c.slots.invariant in
+    omega (arith, low-next)
 
 pub slots-smaller : goal.slots-smaller
 slots-smaller c = let lowest : lowest_of c.slots.rest ≡ At c.in-At-next.s = sym c.lowest-next.ensures ∙ c.in-At-next.is in
-    rw c.removed-rest.ensures (omega (arith, fewer _ _ lowest)
+    rw c.removed-rest.ensures (omega (arith, fewer _ _ (lowest)))
 
 pub slots-preserved : goal.slots-preserved
 slots-preserved c = let lowest : lowest_of c.slots.rest ≡ At c.in-At-next.s = sym c.lowest-next.ensures ∙ c.in-At-next.is in
     rw (c.removed-rest.ensures, c.to_slot-in-slots.ensures)
-    (filling-more _ _ _ _ _ _ (lowest  c.slots.invariant)
+    (filling-more _ _ _ _ _ _ (lowest) c.slots.invariant)
 
 pub blanks-init : goal.blanks-init
 blanks-init c = blanked-none _ (omega (arith, c.slots.invariant.room)) c.slots.invariant.long
@@ -403,9 +397,33 @@ returns c = let y = ready ⟦After-left_count⟧ in
     (going j).what.given.1 c.slot_of-i.ensures
 
 {- LEFT
+-- LOST enum-known-what : enum-known-what
+enum-known-what : tie.Need-enum-known-what invariant-gap decreases-gap invariant-slots decreases-slots invariant-blanks decreases-blanks
+enum-known-what c = search rules
+
+-- LOST enum_told : enum-told
+enum_told : tie.Need-enum-told invariant-gap decreases-gap invariant-slots decreases-slots invariant-blanks decreases-blanks
+enum_told c = search rules
+
+-- LOST enum-known-one : enum-known-one
+enum-known-one : tie.Need-enum-known-one invariant-gap decreases-gap invariant-slots decreases-slots invariant-blanks decreases-blanks
+enum-known-one c = search rules
+
 -- LOST mul-t82 : overflow-mul-t82
 mul-t82 : tie.Need-overflow-mul-t82 invariant-gap decreases-gap invariant-slots decreases-slots invariant-blanks decreases-blanks
 mul-t82 c = omega (arith, low-one c)
+
+-- LOST enum-told-2 : enum-told-2
+enum-told-2 : tie.Need-enum-told-2 invariant-gap decreases-gap invariant-slots decreases-slots invariant-blanks decreases-blanks
+enum-told-2 c = search rules
+
+-- LOST enum-known-next : enum-known-next
+enum-known-next : tie.Need-enum-known-next invariant-gap decreases-gap invariant-slots decreases-slots invariant-blanks decreases-blanks
+enum-known-next c = search rules
+
+-- LOST enum-told-3 : enum-told-3
+enum-told-3 : tie.Need-enum-told-3 invariant-gap decreases-gap invariant-slots decreases-slots invariant-blanks decreases-blanks
+enum-told-3 c = search rules
 
 -- LOST mul-t87 : overflow-mul-t87
 mul-t87 : tie.Need-overflow-mul-t87 invariant-gap decreases-gap invariant-slots decreases-slots invariant-blanks decreases-blanks

@@ -22,9 +22,6 @@ ids-end vs s r l h k =
 pub loop-s-init : goal.loop-s-init
 loop-s-init c = fill-begin 0 (id_in c.args.t.nodes) 0 refl
 
-pub bounds-r-s : goal.bounds-r-s
-bounds-r-s c = omega arith
-
 pub loop-s-preserved : goal.loop-s-preserved
 loop-s-preserved c = let l = c.loop-s in 
     fill_more 0 (id_in c.args.t.nodes) l.s l.r (omega arith) l.invariant
@@ -32,4 +29,4 @@ loop-s-preserved c = let l = c.loop-s in
 pub returns : goal.returns
 returns c = let full : length c.args.t.nodes ≡ 64 = search (length-mapped, rules) in
     let l = c.loop-s in 
-    ids-end c.args.t.nodes l.s l.r (full  (omega arith) l.invariant
+    ids-end c.args.t.nodes l.s l.r (full) (omega arith) l.invariant

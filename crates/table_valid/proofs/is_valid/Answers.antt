@@ -13,11 +13,11 @@ returns-then-not-numbers_fit c = rw (← c.ring_of-g.ensures, ← c.numbers_fit.
 
 pub all_nodes-all-requires : goal.all_nodes-all-requires
 all_nodes-all-requires c = let narrow : Numbers c.ring_of-g.result = numbers-told c.ring_of-g.result (rw (← c.numbers_fit.ensures) (c.if-not-numbers_fit.false)) in
-    (narrow .n-high
+    (narrow).n-high
 
 pub nodes_fit-requires : goal.nodes_fit-requires
 nodes_fit-requires c = let narrow : Numbers c.ring_of-g.result = numbers-told c.ring_of-g.result (rw (← c.numbers_fit.ensures) (c.if-not-numbers_fit.false)) in
-    let e = rw c.ring_of-g.ensures at (narrow  in
+    let e = rw c.ring_of-g.ensures at (narrow) in
     (e.m-high, e.n-high, rw c.ring_of-g.ensures at c.all_nodes-all.ensures)
 
 pub returns-then-not-nodes_fit : goal.returns-then-not-nodes_fit

@@ -67,12 +67,6 @@ bounds-p-at c = let w = c.chain.invariant.low in omega arith
 pub bounds-next-at : goal.bounds-next-at
 bounds-next-at c = let w = c.chain.invariant.low in omega arith
 
-pub overflow_cast-at-in-chain : goal.overflow_cast-at-in-chain
-overflow_cast-at-in-chain c = let k = c.places in 
-    let w = c.chain.invariant.low in 
-    let l = (k.invariant.1.link (c.chain.at - 1) (omega arith)).low in
-    omega arith
-
 pub chain-smaller : goal.chain-smaller
 chain-smaller c = let k = c.places in 
     let w = c.chain.invariant.low in 
@@ -106,3 +100,14 @@ returns-then-alike c = let low = c.if-n-gt256.false in
     let long = places-length c.args.p _ c.well_formed.1.1.1.0 in
     sym (differ-not _ _ (c.chain.at - 1) c.places.j long low (omega arith) (omega arith) same)
     ∙ all_fit c.args.g _ c.args.p c.tests.k low (omega arith) c.tests.invariant.1
+
+{- LEFT
+-- LOST cast-at-2 : overflow-cast-at-2
+cast-at-2 : tie.Need-overflow-cast-at-2 invariant-tests decreases-tests invariant-chain decreases-chain invariant-places decreases-places
+cast-at-2 c =
+    let s = c.before.before.before.before in
+    let k = s.before.before.before.before.places in
+    let w = s.chain.invariant.low in
+    let l = (k.invariant.1.link (s.chain.at - 1) (omega arith)).low in
+    omega arith
+-}
