@@ -12,16 +12,6 @@ use Rattle.face_c.specs.Words.{pack_of, unknown, step_word, step_left}
 use Rattle.face_c.proofs.Counts.{moved-is, moved-small}
 use Rattle.face_c.proofs.tarpudhriv_step.Goals as goal
 
-pub packed-requires : goal.packed-requires
-packed-requires c = rw c.step_file.ensures.0 (moved-small _ _)
-
-pub returns-in-Is : goal.returns-in-Is
-returns-in-Is c = step-known _ _ _ _ (sym c.action_of.ensures ∙ c.in-Is.is) _ _ _ c.packed.ensures c.step_file.ensures
-
-pub returns-in-None : goal.returns-in-None
-returns-in-None c = step-unknown _ _ _ (sym c.action_of.ensures ∙ c.in-None.is)
-
-{- LEFT
 module _ (q : Asked) (file out : List ℕ) where
   step-known : (a : Action) → q ≡ Is a → (m : Moved) (new : List ℕ) (r : ℕ) → r ≡ pack_of m.wrote
       → (m ≡ moved_by (next_of (loaded_of file) a) out) × (new ≡ left_by (next_of (loaded_of file) a) out)
@@ -33,4 +23,12 @@ module _ (q : Asked) (file out : List ℕ) where
   step-unknown : q ≡ None → (unknown ≡ step_word q file out) × (out ≡ step_left q file out)
   unfolding step_word step_left
   step-unknown e = (rw e, rw e)
--}
+
+pub packed-requires : goal.packed-requires
+packed-requires c = rw c.step_file.ensures.0 (moved-small _ _)
+
+pub returns-in-Is : goal.returns-in-Is
+returns-in-Is c = step-known _ _ _ _ (sym c.action_of.ensures ∙ c.in-Is.is) _ _ _ c.packed.ensures c.step_file.ensures
+
+pub returns-in-None : goal.returns-in-None
+returns-in-None c = step-unknown _ _ _ (sym c.action_of.ensures ∙ c.in-None.is)

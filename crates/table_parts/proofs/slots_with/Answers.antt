@@ -14,6 +14,7 @@ use Rattle.table_type.specs.Table.{node_at}
 use Rattle.table_parts.specs.InnerSlots.{slots_with}
 use Rattle.marks.proofs.Laws.{gather-next}
 use Rattle.table_parts.proofs.slots_with.Goals as goal
+use Rattle.table_parts.proofs.slots_with.Goals.{then-status_number-number, else-status_number-number}
 
 abbrev is_with : Table → ℕ → ℕ → Bool
 is_with t number s = eqb (status_number (node_at t s).status) number
@@ -26,8 +27,10 @@ pub loop-s-preserved : goal.loop-s-preserved
 loop-s-preserved c = let e = c.status_number.ensures in (
       omega arith,
       gather-next (is_with c.args.t c.args.number) c.loop-s.s c.loop-s.out c.if-status_number-number.out (omega arith) c.loop-s.invariant.1
-          (⊎_elim (λ w. inl (eq-eqb _ _ (sym e ∙ w.0.taken), w.2 ∙ w.1.ensures))
-          (λ w. inr (ne_eqb _ _ (λ q. w.0.left (e ∙ q)), w.1)) c.if-status_number-number.branch),
+          (elim c.if-status_number-number.branch [
+            then-status_number-number w ↦ inl (eq-eqb _ _ (sym e ∙ w.if-status_number-number.true), w.out-is ∙ w.added-out.ensures)
+          | else-status_number-number w ↦ inr (ne_eqb _ _ (λ q. w.if-status_number-number.false (e ∙ q)), w.out-is)
+          ]),
     )
 
 pub returns : goal.returns

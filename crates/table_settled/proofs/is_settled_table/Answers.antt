@@ -17,6 +17,7 @@ use Rattle.table_type.specs.Table.{node_at, ids_of, ring_of}
 use Rattle.table.specs.Settled.{ready_set, settled_at}
 use Rattle.table_settled.proofs.Laws.{calm_in, calm-ready, calm-other, settled-none, settled-not, settled-all}
 use Rattle.table_settled.proofs.is_settled_table.Goals as goal
+use Rattle.table_settled.proofs.is_settled_table.Goals.{then-is_ready, else-is_ready}
 
 -- what was asked once, before the loop, is of the table
 asked : (g : Ring) (ids : List ℕ) (ready i : ℕ) (v : Node) (t : Table) → g ≡ ring_of t → ids ≡ ids_of t → ready ≡ ready_set t
@@ -80,10 +81,10 @@ loop-i-preserved c = let table_at : Table = c.args.t in
     let turn-other : (r : Bool) → is_ready (node_in).status ≡ false → r ≡ is_dead (node_in).status → calm_in (table_at) c.loop-i.i ≡ r = λ r up s. calm-other _ _ _ up ∙ sym s in
     (
       omega arith,
-      more c.loop-i.i (calm_in (table_at)) c.loop-i.invariant.1 (⊎_elim
-          (λ w. turn-ready w.2.result (sym c.is_ready.ensures ∙ w.0.taken) w.2.ensures ∙ not-false _ w.3.left)
-          (λ w. turn-other w.1.result (sym c.is_ready.ensures ∙ w.0.left) w.1.ensures ∙ not-false _ w.2.left)
-          c.if-is_ready.branch),
+      more c.loop-i.i (calm_in (table_at)) c.loop-i.invariant.1 (elim c.if-is_ready.branch [
+        then-is_ready w ↦ turn-ready w.settled_at.result (sym c.is_ready.ensures ∙ w.if-is_ready.true) w.settled_at.ensures ∙ w.if-not-settled_at.false
+      | else-is_ready w ↦ turn-other w.is_dead.result (sym c.is_ready.ensures ∙ w.if-is_ready.false) w.is_dead.ensures ∙ w.if-not-is_dead.false
+      ]),
     )
 
 pub returns : goal.returns

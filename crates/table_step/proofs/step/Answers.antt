@@ -397,33 +397,9 @@ returns c = let y = ready ⟦After-left_count⟧ in
     (going j).what.given.1 c.slot_of-i.ensures
 
 {- LEFT
--- LOST enum-known-what : enum-known-what
-enum-known-what : tie.Need-enum-known-what invariant-gap decreases-gap invariant-slots decreases-slots invariant-blanks decreases-blanks
-enum-known-what c = search rules
-
--- LOST enum_told : enum-told
-enum_told : tie.Need-enum-told invariant-gap decreases-gap invariant-slots decreases-slots invariant-blanks decreases-blanks
-enum_told c = search rules
-
--- LOST enum-known-one : enum-known-one
-enum-known-one : tie.Need-enum-known-one invariant-gap decreases-gap invariant-slots decreases-slots invariant-blanks decreases-blanks
-enum-known-one c = search rules
-
 -- LOST mul-t82 : overflow-mul-t82
 mul-t82 : tie.Need-overflow-mul-t82 invariant-gap decreases-gap invariant-slots decreases-slots invariant-blanks decreases-blanks
 mul-t82 c = omega (arith, low-one c)
-
--- LOST enum-told-2 : enum-told-2
-enum-told-2 : tie.Need-enum-told-2 invariant-gap decreases-gap invariant-slots decreases-slots invariant-blanks decreases-blanks
-enum-told-2 c = search rules
-
--- LOST enum-known-next : enum-known-next
-enum-known-next : tie.Need-enum-known-next invariant-gap decreases-gap invariant-slots decreases-slots invariant-blanks decreases-blanks
-enum-known-next c = search rules
-
--- LOST enum-told-3 : enum-told-3
-enum-told-3 : tie.Need-enum-told-3 invariant-gap decreases-gap invariant-slots decreases-slots invariant-blanks decreases-blanks
-enum-told-3 c = search rules
 
 -- LOST mul-t87 : overflow-mul-t87
 mul-t87 : tie.Need-overflow-mul-t87 invariant-gap decreases-gap invariant-slots decreases-slots invariant-blanks decreases-blanks
