@@ -14,11 +14,8 @@ use Rattle.words.proofs.Codec.{decode-at}
 use Rattle.file.specs.Format.{node_widths, nodes_at, total_of}
 use Rattle.file.specs.Load.{file_n, file_count, statuses_fit}
 use Rattle.file_read.proofs.Laws.{offsets-long}
+use Rattle.file_read.proofs.statuses_fit.Invariants.{fits_at}
 use Rattle.file_read.proofs.statuses_fit.Goals as goal
-
--- the status of node s is one of 0 to 3
-abbrev fits_at : List ℕ → ℕ → Bool
-fits_at bs s = leb (get_or (decode node_widths (drop (nodes_at + 64 * s) bs)) 1 0) 3
 
 pub word-n-requires : goal.word-n-requires
 word-n-requires c = (omega arith, c.requires.0)

@@ -11,11 +11,9 @@ use lib.Dec.{ltb}
 use Rattle.marks.specs.Marks.{gather}
 use Rattle.marks.proofs.Laws.{gather-next}
 use Rattle.counts.specs.Counts.{count_at}
+use Rattle.over_counts.proofs.nodes_counted.Invariants.{some_for}
 use Rattle.over_counts.proofs.nodes_counted.Goals as goal
 use Rattle.over_counts.proofs.nodes_counted.Goals.{then-counts-i-gt0, else-counts-i-gt0}
-
-abbrev some_for : List ℕ → ℕ → Bool
-some_for c i = ltb 0 (count_at c i)
 
 pub loop-i-init : goal.loop-i-init
 unfolding gather

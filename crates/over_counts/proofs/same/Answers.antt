@@ -9,10 +9,8 @@ use lib.Dec.{eqb}
 use lib.ListN.{get_or}
 use Rattle.marks.specs.Marks.{all_to}
 use Rattle.marks.proofs.Laws.{more, fails}
+use Rattle.over_counts.proofs.same.Invariants.{same_at}
 use Rattle.over_counts.proofs.same.Goals as goal
-
-abbrev same_at : List ℕ → List ℕ → ℕ → Bool
-same_at a b i = eqb (get_or a i 0) (get_or b i 0)
 
 pub loop-i-init : goal.loop-i-init
 unfolding all_to

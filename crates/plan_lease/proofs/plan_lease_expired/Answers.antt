@@ -23,8 +23,8 @@ unfolding plan_lease_expired
 returns c = let next : let a = c.args in 
     c.if-is_ready-near.next ≡ cond (is_ready a.v.status && is_neighbour a.g a.ids.now a.i a.v a.j) status.Ok a.v.status = rw (← c.is_ready.ensures, ← c.neighbours-near.ensures)
     (elim c.if-is_ready-near.branch [
-      then-is_ready-near w ↦ rw w.if-is_ready-near.true w.status-is
-    | else-is_ready-near w ↦ rw w.if-is_ready-near.false w.status-is
+      then-is_ready-near w ↦ rw w.if-is_ready-near.true w.next-is
+    | else-is_ready-near w ↦ rw w.if-is_ready-near.false w.next-is
     ]) in
     rw (← c.is_up.ensures, c.if-not-is_up.false-raw, ← c.is_in.ensures, c.if-i-j.false)
     (rw (c.quiet_plan.ensures, c.with_leases-node.ensures, c.removed.ensures, next))

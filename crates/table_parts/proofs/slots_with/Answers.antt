@@ -13,11 +13,9 @@ use Rattle.table_type.specs.declared.Table.{Table}
 use Rattle.table_type.specs.Table.{node_at}
 use Rattle.table_parts.specs.InnerSlots.{slots_with}
 use Rattle.marks.proofs.Laws.{gather-next}
+use Rattle.table_parts.proofs.slots_with.Invariants.{is_with}
 use Rattle.table_parts.proofs.slots_with.Goals as goal
 use Rattle.table_parts.proofs.slots_with.Goals.{then-status_number-number, else-status_number-number}
-
-abbrev is_with : Table → ℕ → ℕ → Bool
-is_with t number s = eqb (status_number (node_at t s).status) number
 
 pub loop-s-init : goal.loop-s-init
 unfolding gather

@@ -35,6 +35,7 @@ use Rattle.table_laws.proofs.Sound.{sound, is-valid}
 use Rattle.table_step.proofs.Lowered.{lowered-valid}
 use Rattle.table_step.proofs.Settles.{sound-is, step-invalid, step_range, calls, plan-slotted}
 use Rattle.table_step.proofs.Settles.{read_of, reads, acts-low, refuses, carries, first-told, timed-slot, timed-partner, times-out}
+use Rattle.table_step.proofs.step.Invariants.{told, closed}
 use Rattle.table_step.proofs.step.Goals as goal
 
 abbrev Tested : Type 0
@@ -75,11 +76,6 @@ Closing = tie.After-gap invariant-gap decreases-gap invariant-slots decreases-sl
 
 abbrev Putting : Type 0
 Putting = tie.At-match2-branch invariant-gap decreases-gap invariant-slots decreases-slots invariant-blanks decreases-blanks
-
-told : (c : Tested) → c.is-valid.result ≡ valid_of c.before.before.before.args.t c.before.before.before.args.p
-told c =
-    let s = c.before.before.before.args in
-    c.is-valid.ensures ∙ rw (c.before.at-most2.ensures, c.before.before.at_most.ensures) (lowered-valid s.t s.p)
 
 abbrev begun : (c : Sure) → Start
 begun c = c.before.before.before.before
@@ -199,14 +195,6 @@ left-slot c = let e = aim (leaving c) in timed-slot (called e) (left-asks c) (as
 
 left-partner : (c : Leaving) → (left-asks c).partner < 64
 left-partner c = let e = aim (leaving c) in timed-partner (called e) (left-asks c) (asks-is (asks e)) c.before.if4.true
-
-closed : (c : Closing)
-    → let k = (ready c.before.before).before.before in
-    take c.before.before.left-count.result c.before.gap.q.places ≡ left_of (pool-of k) (told-gone k)
-closed c =
-    let l = c.before.before in
-    let k = (ready l).before.before in
-    closed-end _ _ (pool-of k) (counted_of k) (long k) l.left-count.ensures _ _ c.gap-test.false c.before.gap.invariant
 
 put_is : (c : Putting)
     → let l = c.before.before.before in

@@ -10,10 +10,8 @@ use Rattle.rules.specs.Nodes.{no_node}
 use Rattle.table_type.specs.Table.{id_of}
 use Rattle.table_type.proofs.IdLaws.{ids_at}
 use Rattle.table_type.proofs.Laws.{Filled, fill-begin, fill_more, fill_end, length-mapped}
+use Rattle.table_type.proofs.ids.Invariants.{id_in}
 use Rattle.table_type.proofs.ids.Goals as goal
-
-abbrev id_in : List Node → ℕ → ℕ
-id_in vs i = (get_or vs i no_node).id
 
 ids-end : (vs : List Node) (s : ℕ) (r : List ℕ) → length vs ≡ 64 → 64 ≤ s → Filled 0 (id_in vs) s r → r ≡ map id_of vs
 ids-end vs s r l h k =

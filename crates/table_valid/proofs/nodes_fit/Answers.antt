@@ -12,10 +12,8 @@ use Rattle.table_type.specs.declared.Table.{Table}
 use Rattle.table_type.specs.Table.{node_at, ids_of, ring_of}
 use Rattle.table.specs.Valid.{nodes_fit}
 use Rattle.table_valid.proofs.Slots.{low_at, low-next, slot-listed, slot-blank}
+use Rattle.table_valid.proofs.nodes_fit.Invariants.{fits_at}
 use Rattle.table_valid.proofs.nodes_fit.Goals as goal
-
-abbrev fits_at : Table → ℕ → Bool
-fits_at t s = slot_fits (ring_of t) (ids_of t) s (node_at t s)
 
 pub loop-s-init : goal.loop-s-init
 unfolding all_to low_at

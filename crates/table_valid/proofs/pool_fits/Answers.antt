@@ -17,10 +17,8 @@ use Rattle.rules.specs.Pool.{message_at, waiting}
 use Rattle.table.specs.Valid.{messages_fit, pool_fits}
 use Rattle.pool_laws.proofs.Places.{places-length}
 use Rattle.pool_laws.proofs.Chain.{Differ, differ-none, differ-more, differ-all, differ-not, Chained, Walk, none, starts, onward, more}
+use Rattle.table_valid.proofs.pool_fits.Invariants.{fits_at}
 use Rattle.table_valid.proofs.pool_fits.Goals as goal
-
-abbrev fits_at : Ring → List ℕ → Pool → ℕ → Bool
-fits_at g ids p q = message_fits g (message_at p q) && hops_fit g ids (message_at p q)
 
 -- one that does not fit decides
 one-fails : (g : Ring) (ids : List ℕ) (p : Pool) (k : ℕ) → p.count ≤ 256 → k < p.count → fits_at g ids p k ≡ false → false ≡ pool_fits g ids p
