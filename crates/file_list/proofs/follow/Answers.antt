@@ -66,7 +66,7 @@ hops-preserved c =
     told a.t c.ring_of-g.ensures c.ids-ids.ensures c.dead_set-dead.ensures c.hops.i (message_at a.p c.lookups.q).word
     _ _ c.turn_at-turn.ensures c.in-Goes.is in
     rw c.letter_of.ensures
-    (goes_on (lone a.t a.p c.requires.0 c.lookups.q c.lookups-test.true c.if-m-eq1.true) c.hops.invariant c.hops-test.true goes)
+    (goes_on (lone a.t a.p c.requires.0 c.lookups.q c.lookups-test.true c.if-m-eq1.true) c.hops.invariant (omega arith) goes)
 
 pub put_line-at-requires : goal.put_line-at-requires
 put_line-at-requires c =
