@@ -15,7 +15,6 @@ use Rattle.rules.specs.Pool.{waiting}
 use Rattle.table_laws.proofs.Sound.{sound, Sound, is-valid}
 use Rattle.step.specs.Step.{is_sound}
 use Rattle.table.specs.Valid.{valid_of}
-use Rattle.face.specs.declared.Rest.TheVariants.{NotAsked}
 use Rattle.counts.specs.declared.Counted.{Counted}
 use Rattle.counts.specs.declared.First.TheVariants as first
 use Rattle.counts.specs.declared.Has.TheVariants as has

@@ -1,10 +1,10 @@
 -- What a step says of its next hop once it is written, computed by the checker: the letter beside a file, and none beside a refused write. Assumes nothing.
 use mathlib.Core.Path.{◌≡◌, refl}
-use mathlib.Core.List.{List, [], ◌∷◌}
+use mathlib.Core.List.{[], ◌∷◌}
 use Prim.Native.Nat.{ℕ}
 use lib.ListN.{replicate}
 use Rattle.marks.specs.Marks.{has, tally, all_to, size_of, listed}
-use Rattle.rules.specs.declared.Answer.TheVariants.{Done, Refused}
+use Rattle.rules.specs.declared.Answer.TheVariants.{Done}
 use Rattle.rules.specs.declared.Refusal.TheVariants as no
 use Rattle.rules.specs.declared.Status.TheVariants.{Ready}
 use Rattle.rules.specs.declared.Via.TheVariants.{Unrouted, Leaf}

@@ -1,7 +1,6 @@
 -- What callers outside are told, computed by the checker: 01's worked values through the answers, the sign of the distance, the tie, and what is out of range.
 -- Assumes nothing.
 use mathlib.Core.Path.{◌≡◌, refl}
-use Prim.Native.Nat.{ℕ}
 use lib.IntN.{pos, neg_ℤ}
 use Rattle.ring.specs.Distance.{fall_of, signed_of, abs_dist_of, rises_to, nearer, left_cover_of, right_cover_of, covers_key}
 use Rattle.face_dist.specs.declared.Measured.TheVariants.{Is, OutOfRange}

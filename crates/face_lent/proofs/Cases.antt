@@ -3,7 +3,6 @@
 use mathlib.Core.Path.{◌≡◌, refl}
 use mathlib.Core.List.{List, [], ◌∷◌}
 use Prim.Native.Nat.{ℕ}
-use lib.ListN.{length, replicate}
 use Rattle.ring.specs.Distance.{fall_of}
 use Rattle.marks.specs.Marks.{has, gather, tally, all_to, single, listed}
 use Rattle.rules.specs.declared.Message.{Message}
@@ -13,7 +12,7 @@ use Rattle.rules.specs.declared.Via.TheVariants.{Unrouted, Leaf, Routing}
 use Rattle.rules.specs.Closest.{closest}
 use Rattle.rules.specs.Leaf.{leaf_with}
 use Rattle.rules.specs.Letters.{lookup}
-use Rattle.rules.specs.Pool.{blank, laid}
+use Rattle.rules.specs.Pool.{laid}
 use Rattle.table_type.specs.declared.Stepped.{Stepped}
 use Rattle.start.specs.Start.{slot_ids, slots_to, start_node, start_nodes, start_fits, ids_rise, list_fits}
 use Rattle.table_type.specs.Start.{start_of, no_table}

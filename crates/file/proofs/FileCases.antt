@@ -1,9 +1,8 @@
 -- The table file computed by the checker: the bytes of a small table, written out; files that load, and one for each refusal; writes. Assumes nothing.
 use mathlib.Core.Path.{◌≡◌, refl}
-use mathlib.Core.Bool.{Bool, true, false}
 use mathlib.Core.List.{List, [], ◌∷◌, ◌++◌}
 use Prim.Native.Nat.{ℕ}
-use lib.ListN.{length, take, replicate}
+use lib.ListN.{take, replicate}
 use Rattle.ring.specs.Distance.{fall_of, signed_of, abs_dist_of, rises_to, nearer}
 use Rattle.marks.specs.Marks.{has, tally, all_to, size_of, listed}
 use Rattle.rules.specs.declared.Status.{Status}
@@ -12,7 +11,6 @@ use Rattle.rules.specs.declared.Node.{Node}
 use Rattle.rules.specs.declared.Message.{Message}
 use Rattle.rules.specs.declared.Pool.{Pool}
 use Rattle.rules.specs.declared.Refusal.TheVariants as no
-use Rattle.rules.specs.declared.Answer.TheVariants.{Done, Refused}
 use Rattle.rules.specs.Fits.{numbers_fit, id_fits, side_fits, leaf_fits, others_fit, node_fits, is_blank, slot_fits}
 use Rattle.rules.specs.Fits.{word_fits, flag_fits, carried_fits, owner_fits, routing_fits, failed_fits, fields_fit, message_fits, farther_than, hops_fit}
 use Rattle.rules.specs.Mail.{alike, all_different}
@@ -23,7 +21,6 @@ use Rattle.table_type.specs.declared.Table.{Table}
 use Rattle.table.specs.Settle.{refused_of, done_of}
 use Rattle.step.specs.Step.{is_sound}
 use Rattle.table.specs.Valid.{nodes_fit, messages_fit, pool_fits, valid_of}
-use Rattle.file.specs.declared.Wrote.{Wrote}
 use Rattle.words.specs.Bytes.{bytes_of, number_of, encode, decode, encode_all, decode_all}
 use Rattle.file.specs.Format.{file_of}
 use Rattle.file.specs.Load.{header_fits, offsets_fit, statuses_fit, file_table, part_pool, file_pool, load_of}

@@ -5,10 +5,10 @@ use mathlib.Core.Bool.{Bool, true}
 use mathlib.Core.List.{List, [], ◌∷◌}
 use Prim.Native.Nat.{ℕ}
 use lib.Dec.{eqb}
-use Rattle.ring.specs.Distance.{fall_of, wrapped, signed_of, abs_dist_of, rises_to, nearer, left_cover_of, right_cover_of, covers_key}
+use Rattle.ring.specs.Distance.{fall_of, signed_of, abs_dist_of, rises_to, nearer, left_cover_of, right_cover_of, covers_key}
 use Rattle.marks.specs.Marks.{has, gather, tally, first_to, all_to, single, union, meet, without, add_of, remove_of, size_of, lowest_of, listed}
 use Rattle.rules.specs.declared.Status.{Status}
-use Rattle.rules.specs.declared.Status.TheVariants.{Dead, Wait, Ok, Ready}
+use Rattle.rules.specs.declared.Status.TheVariants.{Dead, Ready}
 use Rattle.rules.specs.declared.Action.{Action}
 use Rattle.rules.specs.declared.Action.TheVariants.{Join, RequestLease, Take}
 use Rattle.rules.specs.declared.Answer.{Answer}

@@ -1,7 +1,7 @@
 -- The actions and kinds that leave every leaf set as it stands: Lookup, RequestLease, LeaseExpired, GrantExpired, Deliver, Forward, and Take of a
 -- JoinRequest that is passed on, and of a LeaseRequest. One law for each. Assumes nothing.
 use mathlib.Core.Path.{◌≡◌, refl, sym, ◌∙◌}
-use mathlib.Core.Logic.{◌⊎◌, inl, inr, ⊎_elim}
+use mathlib.Core.Logic.{inr, ⊎_elim}
 use mathlib.Core.Bool.{Bool, true, false, cond, ◌&&◌}
 use Prim.Native.Nat.{ℕ, ◌+◌, ◌<◌}
 use native.Mathlib.Omega.{arith}

@@ -2,17 +2,14 @@
 -- `settle` of what is planned, so the steps agree where the plans do, and the plans differ in their tests alone; at a ready node one of the
 -- two has a plan, which is done (Taking). Along a run a lookup leaves a node by Deliver or Forward only (Tracks). Assumes nothing.
 use mathlib.Core.Path.{◌≡◌, refl, sym, ◌∙◌, ap, subst}
-use mathlib.Core.Bool.{Bool, true, false, cond, not}
-use mathlib.Core.List.{List, [], ◌∷◌}
+use mathlib.Core.Bool.{Bool, true, false}
+use mathlib.Core.List.{[], ◌∷◌}
 use mathlib.Core.Logic.{◌⊎◌, inl, inr}
-use Prim.Native.Nat.{ℕ, ◌<◌}
+use Prim.Native.Nat.{ℕ}
 use lib.Dec.{eqb, ltb}
-use native.Mathlib.Omega.{arith}
 use borrow.Author.Tests.{eq-eqb, ne_eqb, eqb-true, lt-ltb, ltb-true}
-use Rattle.marks.proofs.Bools.{opposed, and_left}
-use Rattle.rules.specs.declared.Action.{Action}
+use Rattle.marks.proofs.Bools.{and_left}
 use Rattle.rules.specs.declared.Action.TheVariants.{Take, Deliver, Forward}
-use Rattle.rules.specs.declared.Answer.TheVariants.{Done}
 use Rattle.rules.specs.declared.Message.{Message}
 use Rattle.rules.specs.declared.Planned.{Planned}
 use Rattle.rules.specs.declared.Planned.TheVariants.{No}
@@ -23,9 +20,7 @@ use Rattle.take.specs.Take.{plan_deliver, plan_forward, plan_take}
 use Rattle.table_type.specs.declared.Stepped.{Stepped}
 use Rattle.table_type.specs.declared.Table.{Table}
 use Rattle.table.specs.Settle.{refused_of, settle}
-use Rattle.table.specs.Settled.{dead_set}
 use Rattle.step.specs.Step.{takes, taken_of, delivered_of, forwarded_of, remaining, act_of, is_sound, step_of}
-use Rattle.table_type.specs.Table.{node_at, ids_of, ring_of}
 use Rattle.table.specs.Valid.{valid_of}
 use Rattle.table_laws.proofs.Sound.{sound, is-valid}
 use Rattle.lookup_laws.specs.Claims.{Ready}

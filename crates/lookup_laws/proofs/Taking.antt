@@ -2,7 +2,7 @@
 -- makes a plan, and the pool has room, since one message goes and at most one comes. So the fate is what the node does: delivered, or on to
 -- the next hop. Assumes nothing.
 use mathlib.Core.Path.{◌≡◌, refl, sym, ◌∙◌, ap}
-use mathlib.Core.Bool.{Bool, true, false, cond}
+use mathlib.Core.Bool.{true, false}
 use mathlib.Core.List.{List}
 use Prim.Native.Nat.{ℕ, ◌+◌, ◌<◌, ◌≤◌}
 use native.Mathlib.Omega.{arith}
@@ -11,7 +11,6 @@ use borrow.Author.Tests.{eq-eqb, lt-ltb}
 use Rattle.marks.proofs.Bools.{opposed}
 use Rattle.marks.specs.Marks.{size_of}
 use Rattle.marks.proofs.Laws.{size-zero}
-use Rattle.rules.specs.declared.Status.TheVariants as status
 use Rattle.rules.specs.declared.Message.{Message}
 use Rattle.rules.specs.declared.Pool.{Pool}
 use Rattle.rules.specs.declared.Plan.{Plan}

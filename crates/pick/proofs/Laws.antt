@@ -1,13 +1,13 @@
 -- The loop of `best`: members below some slot b are looked at, and rest holds those from b on. Taking the lowest of rest passes over no member. Assumes nothing.
 use mathlib.Core.Path.{◌≡◌, refl, sym, ◌∙◌, ap}
-use mathlib.Core.Logic.{◌⊎◌, inl, inr, ⊎_elim}
+use mathlib.Core.Logic.{◌⊎◌, inl, inr}
 use mathlib.Core.Bool.{Bool, true, false, ◌&&◌, not}
 use Prim.Native.Nat.{ℕ, ◌+◌, ◌^◌, ◌<◌, ◌≤◌}
 use native.Mathlib.Omega.{arith}
 use lib.Dec.{leb, eqb}
 use borrow.Author.Tests.{le-leb, lt-leb, eq-eqb, ne_eqb, leb-true}
 use Rattle.marks.specs.Marks.{has, remove_of, lowest_of, size_of}
-use Rattle.marks.proofs.Bools.{and_left, and_right, and_both, and-fails-left, bool_false, opposed, lt-or-le, eq-or-ne}
+use Rattle.marks.proofs.Bools.{and_left, and_right, and_both, bool_false, opposed, lt-or-le, eq-or-ne}
 use Rattle.marks.proofs.Laws.{First, has-remove, lowest-found, lowest-none, has-zero, size-remove, remove-below}
 use Rattle.marks.specs.declared.Found.{Found}
 use Rattle.marks.specs.declared.Found.TheVariants.{At, Nothing}

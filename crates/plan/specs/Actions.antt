@@ -8,7 +8,6 @@ use Rattle.rules.specs.Names.{Slot, Marks, Ids, Key}
 use Rattle.rules.specs.declared.Ring.{Ring}
 use Rattle.rules.specs.declared.Sides.{Sides}
 use Rattle.rules.specs.Leaf.{is_empty, left_neighbour, right_neighbour}
-use Rattle.rules.specs.declared.Status.{Status}
 use Rattle.rules.specs.declared.Status.TheVariants as status
 use Rattle.rules.specs.declared.Node.{Node}
 use Rattle.rules.specs.declared.Refusal.TheVariants as no

@@ -9,7 +9,7 @@ use native.Mathlib.Omega.{arith}
 use borrow.Author.Count.{below_more}
 use borrow.Author.Tests.{eq-eqb, ne_eqb}
 use lib.Dec.{eqb}
-use lib.ListN.{length, length-map, get_or, take}
+use lib.ListN.{length, get_or, take}
 use lib.Seq.{length-take-le, get_or-take, take-suc}
 use mir.Val.{Val}
 use denote.Laws.{Is}

@@ -1,5 +1,5 @@
 -- A number that orders ids by nearness to a key: what the code compares. Definitions only. Assumes nothing.
-use Rattle.std.specs.Prelude.{cond, not, ℕ, ◌+◌, ◌*◌}
+use Rattle.std.specs.Prelude.{cond, ℕ, ◌+◌, ◌*◌}
 use Rattle.ring.specs.Distance.{abs_dist_of, rises_to}
 
 -- twice the distance, and one more where k is not reached from a by rising

@@ -1,7 +1,7 @@
 -- Which leaf sets are complete, as T-02 has it. The idea: of a set D added to an empty leaf set each side holds the L nearest, so where D has L nodes
 -- other than the owner both sides are full, and where it has fewer, but one, both hold all of them and share it. Where n is at most L + 1 a side has room
 -- for every other node, so a node that is told of all of them holds each on both sides. Assumes nothing.
-use mathlib.Core.Path.{◌≡◌, refl, sym, ◌∙◌}
+use mathlib.Core.Path.{◌≡◌, refl}
 use mathlib.Core.Logic.{◌⊎◌, inl, inr, ⊎_elim}
 use mathlib.Core.List.{List}
 use mathlib.Core.Bool.{Bool, true, false, ◌&&◌, ◌||◌, not, and-false}
@@ -10,7 +10,7 @@ use native.Mathlib.Omega.{arith}
 use native.Mathlib.Nat.{lt_of_lt_of_le}
 use borrow.Author.Tests.{eq-eqb, ne_eqb, eqb-true, lt-ltb, ltb-true, not-true}
 use lib.Dec.{eqb, ltb}
-use Rattle.marks.specs.Marks.{has, tally, gather, size_of}
+use Rattle.marks.specs.Marks.{has, tally, size_of}
 use Rattle.marks.proofs.Bools.{opposed, bool_cases, bool_false, and_left, and_right, and_both, or_left, or_right, or_cases, lt-or-le}
 use Rattle.marks.proofs.Laws.{has-zero, size-zero, size-gather, listed_has}
 use Rattle.marks.proofs.Slots.{tally-mono, tally-strict, tally-le}
@@ -20,7 +20,7 @@ use Rattle.rules.specs.InnerAsks.{Listed}
 use Rattle.rules.specs.Closest.{nearer_than, closest}
 use Rattle.rules.specs.Leaf.{way_up, way_down, joined_with, leaf_with, overlaps, is_full, is_complete, is_empty}
 use Rattle.rules.specs.Letters.{no_sides}
-use Rattle.rules_laws.proofs.Closest.{Most, nearest, closest-has, closest-lacks, closest-all, has-closest}
+use Rattle.rules_laws.proofs.Closest.{Most, nearest, closest-all}
 use Rattle.rules_laws.proofs.Leaf.{Joined, left-fits, right-fits, leaf-fits, leaf-left, leaf-right, left-from, right-from, overlaps-of, overlaps-at, empty-sides, empty_of}
 use Rattle.rules_laws.proofs.Leaf.{leaf-left-below, leaf-right-below}
 

@@ -13,7 +13,7 @@ use Rattle.ring.proofs.Falls.{fall-lt}
 use Rattle.marks.proofs.Bools.{opposed, bool_same, bool_false, and_left, and_right, and_both, or_left, or_right, or_cases, false-not}
 use Rattle.marks.specs.Marks.{has, tally, union, meet, remove_of, single, size_of, listed}
 use Rattle.marks.proofs.Laws.{ext, has-zero, has-union, has-add, has-remove, has_meet, add-below, meet_below, member, member-pos, empty}
-use Rattle.marks.proofs.Laws.{gather-same, tally-mono, tally-more, size-zero}
+use Rattle.marks.proofs.Laws.{gather-same, tally-mono, tally-more}
 use Rattle.marks.proofs.Laws.{listed_has, listed-lt, listed-zero, listed-union, listed-add, listed-remove, listed-every}
 use Rattle.marks.specs.declared.Found.{Found}
 use Rattle.marks.specs.declared.Found.TheVariants.{At, Nothing}
@@ -26,7 +26,7 @@ use Rattle.rules.specs.Pick.{id_at, ahead_of, best_of}
 use Rattle.rules.specs.Closest.{closest}
 use Rattle.rules.specs.Fits.{side_fits, leaf_fits}
 use Rattle.rules.specs.Leaf.{or_owner, content_of, seen_from, left_neighbour, right_neighbour, way_up, way_down, joined_with}
-use Rattle.rules.specs.Leaf.{leaf_with, leaf_with_one, overlaps, is_complete, is_empty}
+use Rattle.rules.specs.Leaf.{leaf_with, leaf_with_one, overlaps, is_empty}
 use Rattle.rules.specs.Letters.{no_sides}
 use Rattle.rules_laws.proofs.Best.{Finds, Best, Leads, score_at, best-finds, best_none, best_of_lem, best-unique, keyed-scored, listed-keyed}
 use Rattle.rules_laws.proofs.Closest.{closest-listed, closest-below, closest-below-64, closest-in, closest-passes}

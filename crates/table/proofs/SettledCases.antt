@@ -1,7 +1,7 @@
 -- Settled, computed by the checker on 01's worked ids, with one table for each of its parts. Assumes nothing.
 use mathlib.Core.Path.{◌≡◌, refl}
 use mathlib.Core.Bool.{Bool, true, false}
-use mathlib.Core.List.{List, [], ◌∷◌}
+use mathlib.Core.List.{[], ◌∷◌}
 use Prim.Native.Nat.{ℕ}
 use Rattle.ring.specs.Distance.{fall_of}
 use Rattle.marks.specs.Marks.{has, gather, all_to, meet, remove_of}

@@ -1,9 +1,9 @@
 -- Valid tables, and what a plan that is carried out leaves, computed by the checker: one table for each part of the test, and the pool at 256 and 257.
 -- Assumes nothing.
 use mathlib.Core.Path.{◌≡◌, refl}
-use mathlib.Core.Bool.{Bool, true, false}
+use mathlib.Core.Bool.{true, false}
 use mathlib.Core.List.{List, [], ◌∷◌, ◌++◌}
-use Prim.Native.Nat.{ℕ, ◌-◌}
+use Prim.Native.Nat.{ℕ}
 use lib.ListN.{length, replicate}
 use Rattle.ring.specs.Distance.{fall_of, signed_of, abs_dist_of, rises_to, nearer}
 use Rattle.marks.specs.Marks.{has, tally, all_to, size_of, listed}

@@ -1,6 +1,6 @@
 -- Settled. Definitions only. Assumes nothing.
-use Rattle.std.specs.Prelude.{Bool, true, false, ◌&&◌, ◌||◌, not, eqb}
-use Rattle.marks.specs.Marks.{has, gather, all_to, meet, remove_of}
+use Rattle.std.specs.Prelude.{Bool, ◌&&◌, ◌||◌, not, eqb}
+use Rattle.marks.specs.Marks.{gather, all_to, meet, remove_of}
 use Rattle.rules.specs.Names.{Slot, Marks, Ids}
 use Rattle.rules.specs.declared.Way.TheVariants.{Up, Down}
 use Rattle.rules.specs.declared.Ring.{Ring}

@@ -1,10 +1,9 @@
 -- A step says where the next hop came from only where it routed: it is a Forward, or the Take of a JoinRequest (T-01). Every other plan says none, which is followed along
 -- the chain of tests of each action and kind. Assumes nothing.
 use mathlib.Core.Path.{◌≡◌, refl}
-use mathlib.Core.Bool.{true, false}
+use mathlib.Core.Bool.{true}
 use Prim.Native.Nat.{ℕ, ◌<◌}
-use borrow.Author.Tests.{ltb-true, eq-eqb}
-use Rattle.marks.proofs.Bools.{opposed}
+use borrow.Author.Tests.{ltb-true}
 use Rattle.rules.specs.declared.Pool.{Pool}
 use Rattle.rules.specs.declared.Plan.{Plan}
 use Rattle.rules.specs.declared.Refusal.{Refusal}

@@ -19,7 +19,7 @@ use Rattle.rules.specs.declared.Status.{Status}
 use Rattle.rules.specs.declared.Hop.TheVariants.{To}
 use Rattle.rules.specs.InnerAsks.{Listed}
 use Rattle.rules.specs.Hop.{next_hop}
-use Rattle.rules.specs.Fits.{has_key, has_node, has_leaf, leaf_fits}
+use Rattle.rules.specs.Fits.{has_node, has_leaf, leaf_fits}
 use Rattle.rules.specs.Leaf.{content_of, leaf_with, leaf_with_one}
 use Rattle.rules.specs.Letters.{ls_probe, ls_probe_reply}
 use Rattle.rules.specs.Nodes.{sides_of, carried_of, placed}

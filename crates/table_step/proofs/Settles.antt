@@ -1,12 +1,12 @@
 -- What the step comes to in each case, in terms of what the code has told by then (Asks): it is refused and changes nothing, or its plan is
 -- carried out on the messages that are left. Assumes nothing.
 use mathlib.Core.Path.{◌≡◌, refl, sym, ◌∙◌, ap}
-use mathlib.Core.Bool.{Bool, true, false, cond, not, ◌&&◌}
+use mathlib.Core.Bool.{Bool, true, false, not, ◌&&◌}
 use mathlib.Core.List.{List}
 use mathlib.Core.Logic.{◌⊎◌, inl, inr}
 use Prim.Native.Nat.{ℕ, ◌%◌, ◌<◌, ◌≤◌}
 use native.Mathlib.Omega.{arith}
-use lib.Dec.{eqb, ltb}
+use lib.Dec.{eqb}
 use borrow.Author.Tests.{not-false, ltb-true, lt-ltb, le-leb}
 use lib.ListN.{length}
 use Rattle.marks.proofs.Bools.{clash, and_cases}

@@ -1,5 +1,4 @@
 -- `dist::nearer` meets its contract: the order of 01 is the order of ranks. Assumes nothing.
-use Rattle.std.proofs.Common.{rules}
 use Rattle.ring.proofs.Order.{nearer-rank}
 use Rattle.dist.proofs.nearer.Goals as goal
 

@@ -1,5 +1,4 @@
 -- `dist::right_cover` meets its contract. Assumes nothing.
-use Rattle.std.proofs.Common.{rules}
 use Rattle.ring.specs.Distance.{right_cover_of}
 use Rattle.dist.proofs.Bounds.{rem-fits}
 use Rattle.dist.proofs.right_cover.Goals as goal

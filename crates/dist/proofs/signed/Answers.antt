@@ -3,7 +3,7 @@
 -- Assumes nothing.
 -- ---- differences and sums of whole numbers
 -- ---- the numbers of the code, n being 2^m: the difference, and what it is compared with
-use Rattle.std.proofs.Common.{◌≡◌, ℕ, zero, suc, ◌+◌, ◌/◌, ◌^◌, ◌≤◌, true, false, ℤ, pos, negsuc, ◌+ℤ◌, ◌-ℤ◌, neg_ℤ, refl, ap, ⊎_elim, arith, pow_mono, to_z-of_z, w64, SFits, to_z, of_z, rules, le-ltb, lt-ltb}
+use Rattle.std.proofs.Common.{◌≡◌, ℕ, zero, suc, ◌+◌, ◌/◌, ◌^◌, ◌≤◌, true, false, ℤ, pos, negsuc, ◌+ℤ◌, ◌-ℤ◌, neg_ℤ, refl, ap, ⊎_elim, arith, pow_mono, to_z-of_z, w64, SFits, to_z, of_z, le-ltb, lt-ltb}
 use lib.IntN.{sub_ℕ}
 use lib.Signed.{mag, lt_z}
 use Rattle.ring.specs.Distance.{signed_of}
@@ -38,6 +38,7 @@ D x y = to_z w64 (of_z w64 (to_z w64 x -ℤ to_z w64 y))
 
 abbrev Low : ℕ → ℤ
 Low n = to_z w64 (of_z w64 (pos 0 -ℤ to_z w64 (n / 2)))
+
 module _ {m x y n : ℕ} (h : Inside m x y) (e : n ≡ 2 ^ m) where
   top : n ≤ 2 ^ 32
   top = rw e (pow_mono h.width.high)

@@ -1,9 +1,6 @@
 -- `face_adding::slot_ids` meets its contract. The invariant: the first s ids are written. The measure: the slots left. Assumes nothing.
-use borrow.Author.Rules.{rules}
-use mathlib.Core.Path.{refl}
 use Prim.Native.Nat.{◌-◌}
-use native.Mathlib.Omega.{arith}
-use Rattle.table_type.proofs.Laws.{Filled, fill-begin, fill_more}
+use Rattle.table_type.proofs.Laws.{Filled}
 use Rattle.face_adding.proofs.slot_ids.Given as goal
 
 abbrev pub invariant-loop-s : goal.invariant-loop-s

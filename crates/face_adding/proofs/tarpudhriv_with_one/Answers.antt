@@ -1,5 +1,4 @@
 -- `face_adding::tarpudhriv_with_one` meets what adding asks of it: ids that rise, and an owner that is listed. Assumes nothing.
-use borrow.Author.Rules.{rules}
 use native.Mathlib.Omega.{arith}
 use Rattle.face_adding.proofs.Slots.{slots-listed}
 use Rattle.face_adding.proofs.tarpudhriv_with_one.Goals as goal

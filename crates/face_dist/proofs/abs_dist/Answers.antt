@@ -2,7 +2,6 @@
 use mathlib.Core.Path.{◌∙◌, sym}
 use Prim.Native.Nat.{◌^◌, ◌<◌}
 use native.Mathlib.Omega.{arith}
-use borrow.Author.Rules.{rules}
 use Rattle.dist.proofs.Bounds.{back-pos, abs_dist-small}
 use Rattle.face_dist.proofs.Laws.{two}
 use Rattle.face_dist.proofs.abs_dist.Goals as goal

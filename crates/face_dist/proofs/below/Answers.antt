@@ -3,7 +3,6 @@ use mathlib.Core.Path.{sym}
 use native.Mathlib.Nat.{one-mul, mod-eq_of_lt, lt_of_lt_of_le}
 use lib.Pow.{pow-lt, pow_mono}
 use borrow.Author.Tests.{lt-ltb}
-use borrow.Author.Rules.{rules}
 use Rattle.face_dist.proofs.below.Goals as goal
 
 pub returns-then-m-lt32 : goal.returns-then-m-lt32

@@ -1,6 +1,5 @@
 -- `face_dist::does_cover` meets its contract. Assumes nothing.
 use mathlib.Core.Path.{◌∙◌, sym}
-use borrow.Author.Rules.{rules}
 use Rattle.face_dist.proofs.Laws.{four}
 use Rattle.face_dist.proofs.does_cover.Goals as goal
 

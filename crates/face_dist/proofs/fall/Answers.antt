@@ -2,7 +2,6 @@
 use mathlib.Core.Path.{◌∙◌, sym}
 use Prim.Native.Nat.{◌^◌, ◌<◌}
 use native.Mathlib.Omega.{arith}
-use borrow.Author.Rules.{rules}
 use Rattle.dist.proofs.Bounds.{back-pos, fall-small}
 use Rattle.face_dist.proofs.Laws.{two}
 use Rattle.face_dist.proofs.fall.Goals as goal

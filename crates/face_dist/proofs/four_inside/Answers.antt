@@ -1,5 +1,4 @@
 -- `face_dist::four_inside` meets its contract. Assumes nothing.
-use borrow.Author.Rules.{rules}
 use Rattle.face_dist.proofs.four_inside.Goals as goal
 
 pub returns : goal.returns

@@ -1,6 +1,5 @@
 -- `face_dist::is_nearer` meets its contract. Assumes nothing.
 use mathlib.Core.Path.{◌∙◌, sym}
-use borrow.Author.Rules.{rules}
 use Rattle.face_dist.proofs.Laws.{three}
 use Rattle.face_dist.proofs.is_nearer.Goals as goal
 

@@ -2,7 +2,6 @@
 use mathlib.Core.Path.{◌∙◌, sym}
 use mir.Syntax.{w64}
 use mir.Facts.{to_z-of_z}
-use borrow.Author.Rules.{rules}
 use Rattle.face_dist.proofs.Laws.{two}
 use Rattle.face_dist.proofs.signed_distance.Goals as goal
 

@@ -1,5 +1,4 @@
 -- `face_dist::two_inside` meets its contract. Assumes nothing.
-use borrow.Author.Rules.{rules}
 use Rattle.face_dist.proofs.two_inside.Goals as goal
 
 pub returns : goal.returns

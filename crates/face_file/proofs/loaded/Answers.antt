@@ -1,5 +1,4 @@
 -- `face_file::loaded` meets its contract: the file is read over no table and no messages. Assumes nothing.
-use borrow.Author.Rules.{rules}
 use mathlib.Core.Path.{◌≡◌, ◌∙◌}
 use mathlib.Core.List.{List, []}
 use Prim.Native.Nat.{ℕ}

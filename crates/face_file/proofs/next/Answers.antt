@@ -1,5 +1,4 @@
 -- `face_file::next` meets its contract: the answer before the step decides the definition's case. Assumes nothing.
-use borrow.Author.Rules.{rules}
 use mathlib.Core.Path.{◌≡◌, ◌∙◌}
 use Rattle.rules.specs.declared.Action.{Action}
 use Rattle.rules.specs.declared.Answer.TheVariants.{Done, Refused}

@@ -1,5 +1,4 @@
 -- `face_file::step_file` meets its contract: it is the step written, with what it says of the next hop. Assumes nothing.
-use borrow.Author.Rules.{rules}
 use mathlib.Core.Path.{◌≡◌}
 use mathlib.Core.List.{List}
 use Prim.Native.Nat.{ℕ}

@@ -1,5 +1,4 @@
 -- `face_file::written` meets its contract: the answer before the write decides the definition's case. Assumes nothing.
-use borrow.Author.Rules.{rules}
 use mathlib.Core.Path.{◌≡◌}
 use mathlib.Core.List.{List}
 use Prim.Native.Nat.{ℕ}

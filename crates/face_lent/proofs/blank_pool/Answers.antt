@@ -1,5 +1,4 @@
 -- `face_lent::blank_pool` meets its contract: every place is blank, whatever the count. Assumes nothing.
-use borrow.Author.Rules.{rules}
 use Rattle.face_lent.proofs.blank_pool.Goals as goal
 
 pub returns : goal.returns

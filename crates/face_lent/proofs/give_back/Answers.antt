@@ -1,5 +1,5 @@
 -- `face_lent::give_back` meets its contract: a pool is copied to a list of 256 places, one place a turn; any other list is left as it is. Assumes nothing.
-use Rattle.std.proofs.Common.{◌≡◌, refl, sym, ◌∙◌, length, arith}
+use Rattle.std.proofs.Common.{refl, ◌∙◌, arith}
 use Rattle.rules.specs.Pool.{blank}
 use lib.ListN.{length-set}
 use Rattle.pool_laws.proofs.Places.{places-length}

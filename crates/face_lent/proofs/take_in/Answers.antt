@@ -1,5 +1,5 @@
 -- `face_lent::take_in` meets its contract: a list of 256 places is copied in, one place a turn; for any other there are blank ones. Assumes nothing.
-use Rattle.std.proofs.Common.{◌≡◌, sym, ap, ◌∙◌, ap, length, arith}
+use Rattle.std.proofs.Common.{ap, ◌∙◌, ap, length, arith}
 use Rattle.rules.specs.Pool.{blank}
 use lib.ListN.{length-set, length-replicate}
 use Rattle.face_lent.specs.Lent.{pool_of, blanks, taken_of}
@@ -46,5 +46,5 @@ returns c =
     let v = c.loop-i.invariant in
     let some = either _ _ c.places-n.ensures in
     let all = copied-done blank c.args.pool.now c.loop-i.x.places blanks _ _ c.loop-i.i some c.loop-i-test.false v.few (λ e. e) (λ e. v.long) v.copied
-        (λ e. absurd (c.if-n-eq0.false (omega (arith, e)))) in
+    (λ e. absurd (c.if-n-eq0.false (omega (arith, e)))) in
     same_pool c.loop-i.x v.counted all

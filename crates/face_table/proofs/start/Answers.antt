@@ -1,5 +1,4 @@
 -- `face_table::start` meets its contract: the length and the answer of the table's own start decide the definition's case. Assumes nothing.
-use borrow.Author.Rules.{rules}
 use borrow.Author.Tests.{eq-eqb, ne_eqb}
 use mathlib.Core.Path.{◌≡◌, ◌∙◌}
 use mathlib.Core.List.{List, []}

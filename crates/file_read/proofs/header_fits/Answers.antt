@@ -1,5 +1,4 @@
 -- `file_read::header_fits` meets its contract: the definition's tests, on the words that were read. Assumes nothing.
-use borrow.Author.Rules.{rules}
 use Rattle.file.specs.Load.{header_fits}
 use Rattle.file_read.proofs.header_fits.Goals as goal
 

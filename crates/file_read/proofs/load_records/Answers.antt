@@ -1,6 +1,4 @@
 -- `file_read::load_records` meets its contract: each of its three returns is one of the ways in which the records end. Assumes nothing.
-use borrow.Author.Rules.{rules}
-use borrow.Author.Tests.{not-true, not-false}
 use mathlib.Core.Path.{sym, ◌∙◌}
 use native.Mathlib.Omega.{arith}
 use Rattle.file_read.proofs.Laws.{offsets-long}
@@ -11,7 +9,7 @@ pub statuses_fit-requires : goal.statuses_fit-requires
 statuses_fit-requires c = (omega (arith, offsets-long c.args.file.now c.requires.offsets), c.requires.offsets)
 
 pub returns-then-not-statuses_fit : goal.returns-then-not-statuses_fit
-returns-then-not-statuses_fit c = let a = c.args in 
+returns-then-not-statuses_fit c = let a = c.args in
     c.refused.ensures
     ∙ sym (records-status a.file.now a.t a.p (sym c.statuses_fit.ensures ∙ c.if-not-statuses_fit.true))
 
@@ -22,13 +20,13 @@ pub read_messages-q-requires : goal.read_messages-q-requires
 read_messages-q-requires c = c.requires
 
 pub returns-then-not-is_valid : goal.returns-then-not-is_valid
-returns-then-not-is_valid c = let a = c.args in 
+returns-then-not-is_valid c = let a = c.args in
     let e = sym c.is_valid.ensures ∙ c.if-not-is_valid.true in
     c.refused-then-not-is_valid.ensures
     ∙ sym (records-invalid a.file.now a.t a.p (rw (c.read_messages-q.ensures, c.read_table-u.ensures) at e))
 
 pub returns : goal.returns
-returns c = let a = c.args in 
+returns c = let a = c.args in
     let e = sym c.is_valid.ensures ∙ c.if-not-is_valid.false in
     rw (c.done.ensures, c.read_messages-q.ensures, c.read_table-u.ensures)
     (sym (records-done a.file.now a.t a.p (sym c.statuses_fit.ensures ∙ c.if-not-statuses_fit.false)

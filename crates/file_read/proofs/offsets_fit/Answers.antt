@@ -1,5 +1,4 @@
 -- `file_read::offsets_fit` meets its contract: the definition's tests, on the words that were read. Assumes nothing.
-use borrow.Author.Rules.{rules}
 use Rattle.file.specs.Load.{offsets_fit}
 use Rattle.file_read.proofs.offsets_fit.Goals as goal
 

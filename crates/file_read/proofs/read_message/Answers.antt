@@ -1,11 +1,10 @@
 -- `file_read::read_message` meets its contract: each field stands behind the one before it. Assumes nothing.
-use borrow.Author.Rules.{rules}
 use mathlib.Core.Path.{sym}
 use Rattle.file_read.proofs.Laws.{message-read}
 use Rattle.file_read.proofs.read_message.Goals as goal
 
 pub returns : goal.returns
-returns c = let a = c.args in 
+returns c = let a = c.args in
     rw (
       c.read64-failed.ensures,
       c.read64-right.ensures,

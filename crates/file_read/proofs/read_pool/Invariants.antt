@@ -1,13 +1,10 @@
 -- `file_read::read_pool` meets its contract. The invariant: the first q places hold the messages passed, and the others are blank. The
 -- measure: the messages left. Assumes nothing.
-use borrow.Author.Rules.{rules}
-use mathlib.Core.Path.{◌≡◌, sym}
-use Prim.Native.Nat.{◌-◌, ◌≤◌, zero-le}
-use native.Mathlib.Omega.{arith}
+use mathlib.Core.Path.{◌≡◌}
+use Prim.Native.Nat.{◌-◌, ◌≤◌}
 use Rattle.rules.specs.Pool.{blank}
 use Rattle.file.specs.Format.{message_widths, message_from}
-use Rattle.file.specs.Load.{part_pool}
-use Rattle.file_read.proofs.Laws.{passed, passed_none, passed-more, rows_long}
+use Rattle.file_read.proofs.Laws.{passed}
 use Rattle.file_read.proofs.read_pool.Given as goal
 
 abbrev pub invariant-loop-q : goal.invariant-loop-q

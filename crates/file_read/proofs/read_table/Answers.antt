@@ -1,14 +1,13 @@
 -- The answers. Assumes nothing.
-use borrow.Author.Rules.{rules}
 use mathlib.Core.Path.{◌≡◌, sym}
-use Prim.Native.Nat.{◌*◌, ◌-◌, ◌≤◌, zero-le}
+use Prim.Native.Nat.{◌*◌, ◌≤◌, zero-le}
 use native.Mathlib.Omega.{arith}
 use lib.ListN.{length, drop}
 use lib.Seq.{drop-drop}
 use Rattle.rules.specs.Nodes.{no_node}
 use Rattle.file.specs.Format.{node_widths, nodes_at, total_of, node_from}
 use Rattle.file.specs.Load.{file_n, file_count, file_table}
-use Rattle.file_read.proofs.Laws.{passed, passed_none, passed-more, offsets-long, header-counts}
+use Rattle.file_read.proofs.Laws.{passed_none, passed-more, offsets-long, header-counts}
 use Rattle.file_read.proofs.read_table.Goals as goal
 
 pub word-m-requires : goal.word-m-requires
@@ -24,7 +23,7 @@ word-n-requires c = let long : length c.args.bs.now ≡ total_of (file_n c.args.
     (omega arith, omega (arith, long))
 
 pub loop-s-init : goal.loop-s-init
-loop-s-init c = let bs = c.args.bs.now in 
+loop-s-init c = let bs = c.args.bs.now in
     (zero-le, rw c.no_node-none.ensures (sym (passed_none 64 no_node node_from node_widths 64 (drop nodes_at bs))))
 
 pub overflow_mul-s : goal.overflow_mul-s
@@ -61,6 +60,6 @@ loop-s-preserved c = let narrow : c.word-n.result ≤ 64 = omega (arith, c.word-
 
 pub returns : goal.returns
 unfolding file_table
-returns c = let bs = c.args.bs.now in 
+returns c = let bs = c.args.bs.now in
     let e : c.loop-s.s ≡ file_n bs = omega arith in
     rw (c.loop-s.invariant.1, e, c.word-n.ensures, c.word-l.ensures, c.word-m.ensures)

@@ -1,15 +1,11 @@
 -- `file_read::read_table` meets its contract. The invariant: the first s slots hold the nodes passed, and the others no node. The measure: the
 -- nodes left. Assumes nothing.
-use borrow.Author.Rules.{rules}
-use mathlib.Core.Path.{◌≡◌, sym}
-use Prim.Native.Nat.{◌*◌, ◌-◌, ◌≤◌, zero-le}
-use native.Mathlib.Omega.{arith}
-use lib.ListN.{length, drop}
-use lib.Seq.{drop-drop}
+use mathlib.Core.Path.{◌≡◌}
+use Prim.Native.Nat.{◌-◌, ◌≤◌}
+use lib.ListN.{drop}
 use Rattle.rules.specs.Nodes.{no_node}
-use Rattle.file.specs.Format.{node_widths, nodes_at, total_of, node_from}
-use Rattle.file.specs.Load.{file_n, file_count, file_table}
-use Rattle.file_read.proofs.Laws.{passed, passed_none, passed-more, offsets-long, header-counts}
+use Rattle.file.specs.Format.{node_widths, nodes_at, node_from}
+use Rattle.file_read.proofs.Laws.{passed}
 use Rattle.file_read.proofs.read_table.Given as goal
 
 abbrev pub invariant-loop-s : goal.invariant-loop-s

@@ -14,6 +14,6 @@ pub returns-in-3 : goal.returns-in-3
 returns-in-3 c = sym (ap status_of c.in-3.is)
 
 pub returns-in_default : goal.returns-in_default
-returns-in_default c = let x = c.args.x in 
-    let r = c.in_default.in_default-own.rest in 
+returns-in_default c = let x = c.args.x in
+    let r = c.in_default.in_default-own.rest in
     rw (ne_eqb x 1 r.0.0.1, ne_eqb x 2 r.0.1, ne_eqb x 3 r.1)

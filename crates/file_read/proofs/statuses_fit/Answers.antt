@@ -1,11 +1,8 @@
 -- The answers. Assumes nothing.
 use mathlib.Core.Path.{◌≡◌, refl, sym, ◌∙◌}
-use mathlib.Core.Bool.{Bool, true}
-use mathlib.Core.List.{List}
-use Prim.Native.Nat.{ℕ, ◌+◌, ◌*◌, ◌-◌, ◌≤◌, zero-le}
+use Prim.Native.Nat.{◌+◌, ◌*◌, zero-le}
 use native.Mathlib.Omega.{arith}
 use borrow.Author.Tests.{le-leb, lt-leb}
-use lib.Dec.{leb}
 use lib.ListN.{length, get_or, drop}
 use Rattle.marks.specs.Marks.{all_to}
 use Rattle.marks.proofs.Laws.{more, fails}
@@ -42,17 +39,17 @@ read32-requires c = let long : length c.args.bs.now ≡ total_of (file_n c.args.
 
 pub returns-then-read32-gt3 : goal.returns-then-read32-gt3
 unfolding statuses_fit
-returns-then-read32-gt3 c = let status : let bs = c.args.bs.now in 
-    get_or (decode node_widths (drop (nodes_at + 64 * c.loop-s.s) bs)) 1 0 ≡ c.read32.result = let bs = c.args.bs.now in 
+returns-then-read32-gt3 c = let status : let bs = c.args.bs.now in
+    get_or (decode node_widths (drop (nodes_at + 64 * c.loop-s.s) bs)) 1 0 ≡ c.read32.result = let bs = c.args.bs.now in
     decode-at node_widths bs (nodes_at + 64 * c.loop-s.s) 1 (omega arith) ∙ sym c.read32.ensures in
-    let bs = c.args.bs.now in 
+    let bs = c.args.bs.now in
     sym (fails (file_n bs) (fits_at bs) c.loop-s.s (omega arith) (rw (status) (lt-leb _ 3 c.if-read32-gt3.true)))
 
 pub loop-s-preserved : goal.loop-s-preserved
-loop-s-preserved c = let status : let bs = c.args.bs.now in 
-    get_or (decode node_widths (drop (nodes_at + 64 * c.loop-s.s) bs)) 1 0 ≡ c.read32.result = let bs = c.args.bs.now in 
+loop-s-preserved c = let status : let bs = c.args.bs.now in
+    get_or (decode node_widths (drop (nodes_at + 64 * c.loop-s.s) bs)) 1 0 ≡ c.read32.result = let bs = c.args.bs.now in
     decode-at node_widths bs (nodes_at + 64 * c.loop-s.s) 1 (omega arith) ∙ sym c.read32.ensures in
-    let bs = c.args.bs.now in 
+    let bs = c.args.bs.now in
     (omega arith, more c.loop-s.s (fits_at bs) c.loop-s.invariant.1 (rw (status) (le-leb _ 3 c.if-read32-gt3.false)))
 
 pub returns : goal.returns

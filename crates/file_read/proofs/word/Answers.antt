@@ -1,5 +1,4 @@
 -- `file_read::word` meets its contract: word i begins at 4 i. Assumes nothing.
-use borrow.Author.Rules.{rules}
 use mathlib.Core.Path.{sym, ◌∙◌}
 use Rattle.file_read.proofs.Laws.{header-word}
 use Rattle.file_read.proofs.word.Goals as goal

@@ -1,5 +1,4 @@
 -- `file_write::pair64` meets its contract: the one, then the other. Assumes nothing.
-use borrow.Author.Rules.{rules}
 use Rattle.words.proofs.Puts.{follow}
 use Rattle.file_write.proofs.pair64.Goals as goal
 

@@ -1,5 +1,4 @@
 -- `file_write::put_file` meets its contract: the header, the nodes and the messages, one after the other, are the file. Assumes nothing.
-use borrow.Author.Rules.{rules}
 use Rattle.file_write.proofs.Laws.{file-run}
 use Rattle.file_write.proofs.put_file.Goals as goal
 

@@ -1,5 +1,4 @@
 -- `file_write::put_header` meets its contract: eight words one after the other are the header. Assumes nothing.
-use borrow.Author.Rules.{rules}
 use Rattle.file_write.proofs.Laws.{header-run}
 use Rattle.file_write.proofs.put_header.Goals as goal
 

@@ -1,5 +1,4 @@
 -- `file_write::put_message` meets its contract: ten numbers one after the other are the record. Assumes nothing.
-use borrow.Author.Rules.{rules}
 use Rattle.file_write.proofs.Laws.{message-run}
 use Rattle.file_write.proofs.put_message.Goals as goal
 

@@ -1,5 +1,4 @@
 -- `file_write::put_node` meets its contract: nine numbers one after the other are the record. Assumes nothing.
-use borrow.Author.Rules.{rules}
 use Rattle.file_write.proofs.Laws.{node-run}
 use Rattle.file_write.proofs.put_node.Goals as goal
 

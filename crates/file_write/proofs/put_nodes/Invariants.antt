@@ -1,18 +1,11 @@
 -- `file_write::put_nodes` meets its contract. The invariant: the records passed stand in the buffer, one after the other. The measure: the
 -- slots left. Assumes nothing.
-use borrow.Author.Rules.{rules}
-use mathlib.Core.Path.{◌≡◌}
 use mathlib.Core.List.{map}
-use Prim.Native.Nat.{◌*◌, ◌-◌, ◌≤◌, zero-le}
-use native.Mathlib.Omega.{arith}
-use lib.ListN.{length, take}
-use Rattle.rules.specs.Nodes.{no_node}
-use Rattle.table_type.proofs.Laws.{length-mapped}
+use Prim.Native.Nat.{◌*◌, ◌-◌, ◌≤◌}
+use lib.ListN.{take}
 use Rattle.words.specs.Bytes.{encode_all}
 use Rattle.file.specs.Format.{node_widths, node_row}
 use Rattle.words.specs.InnerPut.{Put}
-use Rattle.words.proofs.Puts.{put-length, stay}
-use Rattle.file_write.proofs.Laws.{rows_more}
 use Rattle.file_write.proofs.put_nodes.Given as goal
 
 abbrev pub invariant-loop-s : goal.invariant-loop-s

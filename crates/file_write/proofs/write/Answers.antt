@@ -1,6 +1,4 @@
 -- `file_write::write` meets its contract: each of its four returns is one of the ways in which a write ends. Assumes nothing.
-use borrow.Author.Rules.{rules}
-use borrow.Author.Tests.{not-true, not-false}
 use mathlib.Core.Path.{◌≡◌, sym, ◌∙◌}
 use mathlib.Core.Bool.{true}
 use native.Mathlib.Omega.{arith}
@@ -9,11 +7,11 @@ use Rattle.file_write.proofs.Ends.{counts, ends-places, ends-invalid, ends-room,
 use Rattle.file_write.proofs.write.Goals as goal
 
 pub returns-then-len-ne256 : goal.returns-then-len-ne256
-returns-then-len-ne256 c = let a = c.args in 
+returns-then-len-ne256 c = let a = c.args in
     ends-places a.t a.p a.len a.buf.now c.if-len-ne256.true _ c.not_written.ensures
 
 pub returns-then-not-is_valid : goal.returns-then-not-is_valid
-returns-then-not-is_valid c = let a = c.args in 
+returns-then-not-is_valid c = let a = c.args in
     ends-invalid a.t a.p a.len a.buf.now (sym c.is_valid.ensures ∙ c.if-not-is_valid.true) _
     c.not_written-then-not-is_valid.ensures
 
@@ -23,7 +21,7 @@ total_of-requires c = let told : valid_of c.args.t c.args.p ≡ true = sym c.is_
 
 pub returns-then-buf-total_of : goal.returns-then-buf-total_of
 returns-then-buf-total_of c = let told : valid_of c.args.t c.args.p ≡ true = sym c.is_valid.ensures ∙ c.if-not-is_valid.false in
-    let a = c.args in 
+    let a = c.args in
     ends-room a.t a.p a.len a.buf.now c.if-len-ne256.false (told) (omega arith) _ c.not_written-then-buf-total_of.ensures
 
 pub put_file-count-requires : goal.put_file-count-requires
@@ -33,5 +31,5 @@ put_file-count-requires c = let told : valid_of c.args.t c.args.p ≡ true = sym
 
 pub returns : goal.returns
 returns c = let told : valid_of c.args.t c.args.p ≡ true = sym c.is_valid.ensures ∙ c.if-not-is_valid.false in
-    let a = c.args in 
+    let a = c.args in
     ends-done a.t a.p a.len a.buf.now c.if-len-ne256.false (told) (omega arith) _ _ c.put_file-count.ensures

@@ -1,5 +1,4 @@
 -- `hop::by_leaf` meets its contract: what is seen from the owner is a slot, so its id is in range. Assumes nothing.
-use borrow.Author.Rules.{rules}
 use Prim.Native.Nat.{◌<◌}
 use native.Mathlib.Omega.{arith}
 use Rattle.rules.specs.Hop.{by_leaf}
@@ -28,13 +27,13 @@ bounds-ids-r c = let below-low : c.seen-r.result < 64 = rw c.seen-r.ensures (see
 
 pub fall-requires : goal.fall-requires
 fall-requires c = let above_low : c.seen-l.result < 64 = rw c.seen-l.ensures (seen_low _ _ _ _ _ c.requires.1) in
-    let h = c.requires in 
+    let h = c.requires in
     record { width = h.0.width; first = h.0.ids-in _ (above_low); second = h.0.ids-in _ h.1 }
 
 pub fall-requires-2 : goal.fall-requires-2
 fall-requires-2 c = let above_low : c.seen-l.result < 64 = rw c.seen-l.ensures (seen_low _ _ _ _ _ c.requires.1) in
     let below-low : c.seen-r.result < 64 = rw c.seen-r.ensures (seen_low _ _ _ _ _ c.requires.1) in
-    let h = c.requires in 
+    let h = c.requires in
     record { width = h.0.width; first = h.0.ids-in _ (above_low); second = h.0.ids-in _ (below-low) }
 
 pub returns : goal.returns

@@ -1,5 +1,4 @@
 -- `hop::leaf_candidates` meets its contract. Assumes nothing.
-use borrow.Author.Rules.{rules}
 use Rattle.rules.specs.Hop.{leaf_candidates}
 use Rattle.hop.proofs.leaf_candidates.Goals as goal
 

@@ -1,5 +1,4 @@
 -- `hop::legal` meets its contract. Assumes nothing.
-use borrow.Author.Rules.{rules}
 use Rattle.hop.proofs.legal.Goals as goal
 
 pub returns : goal.returns

@@ -1,9 +1,7 @@
 -- `hop::next_hop` meets its contract: both branches are one search over the candidates of the branch taken (next_hop-nearest). Assumes
 -- nothing.
-use borrow.Author.Rules.{rules}
 use mathlib.Core.Path.{◌≡◌, sym, ◌∙◌, subst}
 use mathlib.Core.Bool.{Bool, true, false}
-use mathlib.Core.Logic.{⊎_elim}
 use Prim.Native.Nat.{ℕ, ◌^◌, ◌<◌, ◌≤◌}
 use native.Mathlib.Omega.{arith}
 use borrow.Author.Tests.{lt-ltb, le-ltb}
@@ -33,20 +31,20 @@ no-closer N k a b x y p q h = nearer-rank N k a b ∙ rw (← p, ← q) (le-ltb 
 pub returns-in_default : goal.returns-in_default
 unfolding candidates_of
 returns-in_default c = let chosen : let a = c.args in c.if-by_leaf.candidates ≡ candidates_of a.g a.ids.now a.dead a.i a.v = elim c.if-by_leaf.branch [
-      then-by_leaf w ↦ rw (← c.by_leaf.ensures, w.if-by_leaf.true) (w.candidates-is ∙ w.leaf_candidates-candidates.ensures)
-    | else-by_leaf w ↦ rw (← c.by_leaf.ensures, w.if-by_leaf.false) (w.candidates-is ∙ w.route_candidates-candidates.ensures)
-    ] in
-    let found : let a = c.args in 
+  | then-by_leaf w ↦ rw (← c.by_leaf.ensures, w.if-by_leaf.true) (w.candidates-is ∙ w.leaf_candidates-candidates.ensures)
+  | else-by_leaf w ↦ rw (← c.by_leaf.ensures, w.if-by_leaf.false) (w.candidates-is ∙ w.route_candidates-candidates.ensures)
+] in
+    let found : let a = c.args in
     c.best.result ≡ best_of Near (2 ^ a.g.m) a.k a.ids.now (candidates_of a.g a.ids.now a.dead a.i a.v) = rw (chosen) at c.best.ensures in
     rw (next_hop-nearest, ← found, c.in_default.is)
 
 pub offset_bounds-ids-h : goal.offset_bounds-ids-h
 unfolding candidates_of
 offset_bounds-ids-h c = let chosen : let a = c.args in c.if-by_leaf.candidates ≡ candidates_of a.g a.ids.now a.dead a.i a.v = elim c.if-by_leaf.branch [
-      then-by_leaf w ↦ rw (← c.by_leaf.ensures, w.if-by_leaf.true) (w.candidates-is ∙ w.leaf_candidates-candidates.ensures)
-    | else-by_leaf w ↦ rw (← c.by_leaf.ensures, w.if-by_leaf.false) (w.candidates-is ∙ w.route_candidates-candidates.ensures)
-    ] in
-    let found : let a = c.args in 
+  | then-by_leaf w ↦ rw (← c.by_leaf.ensures, w.if-by_leaf.true) (w.candidates-is ∙ w.leaf_candidates-candidates.ensures)
+  | else-by_leaf w ↦ rw (← c.by_leaf.ensures, w.if-by_leaf.false) (w.candidates-is ∙ w.route_candidates-candidates.ensures)
+] in
+    let found : let a = c.args in
     c.best.result ≡ best_of Near (2 ^ a.g.m) a.k a.ids.now (candidates_of a.g a.ids.now a.dead a.i a.v) = rw (chosen) at c.best.ensures in
     let there-low : c.in-At.h < 64 = best-low _ _ _ (sym (found) ∙ c.in-At.is) in
     omega (arith, there-low)
@@ -54,10 +52,10 @@ offset_bounds-ids-h c = let chosen : let a = c.args in c.if-by_leaf.candidates �
 pub bounds-ids-h : goal.bounds-ids-h
 unfolding candidates_of
 bounds-ids-h c = let chosen : let a = c.args in c.if-by_leaf.candidates ≡ candidates_of a.g a.ids.now a.dead a.i a.v = elim c.if-by_leaf.branch [
-      then-by_leaf w ↦ rw (← c.by_leaf.ensures, w.if-by_leaf.true) (w.candidates-is ∙ w.leaf_candidates-candidates.ensures)
-    | else-by_leaf w ↦ rw (← c.by_leaf.ensures, w.if-by_leaf.false) (w.candidates-is ∙ w.route_candidates-candidates.ensures)
-    ] in
-    let found : let a = c.args in 
+  | then-by_leaf w ↦ rw (← c.by_leaf.ensures, w.if-by_leaf.true) (w.candidates-is ∙ w.leaf_candidates-candidates.ensures)
+  | else-by_leaf w ↦ rw (← c.by_leaf.ensures, w.if-by_leaf.false) (w.candidates-is ∙ w.route_candidates-candidates.ensures)
+] in
+    let found : let a = c.args in
     c.best.result ≡ best_of Near (2 ^ a.g.m) a.k a.ids.now (candidates_of a.g a.ids.now a.dead a.i a.v) = rw (chosen) at c.best.ensures in
     let there-low : c.in-At.h < 64 = best-low _ _ _ (sym (found) ∙ c.in-At.is) in
     there-low
@@ -65,26 +63,26 @@ bounds-ids-h c = let chosen : let a = c.args in c.if-by_leaf.candidates ≡ cand
 pub rank-there-requires : goal.rank-there-requires
 unfolding candidates_of
 rank-there-requires c = let chosen : let a = c.args in c.if-by_leaf.candidates ≡ candidates_of a.g a.ids.now a.dead a.i a.v = elim c.if-by_leaf.branch [
-      then-by_leaf w ↦ rw (← c.by_leaf.ensures, w.if-by_leaf.true) (w.candidates-is ∙ w.leaf_candidates-candidates.ensures)
-    | else-by_leaf w ↦ rw (← c.by_leaf.ensures, w.if-by_leaf.false) (w.candidates-is ∙ w.route_candidates-candidates.ensures)
-    ] in
-    let found : let a = c.args in 
+  | then-by_leaf w ↦ rw (← c.by_leaf.ensures, w.if-by_leaf.true) (w.candidates-is ∙ w.leaf_candidates-candidates.ensures)
+  | else-by_leaf w ↦ rw (← c.by_leaf.ensures, w.if-by_leaf.false) (w.candidates-is ∙ w.route_candidates-candidates.ensures)
+] in
+    let found : let a = c.args in
     c.best.result ≡ best_of Near (2 ^ a.g.m) a.k a.ids.now (candidates_of a.g a.ids.now a.dead a.i a.v) = rw (chosen) at c.best.ensures in
     let there-low : c.in-At.h < 64 = best-low _ _ _ (sym (found) ∙ c.in-At.is) in
-    let h = c.requires in 
+    let h = c.requires in
     record { width = h.0.width; first = h.2; second = h.0.ids-in _ (there-low) }
 
 pub rank-here-requires : goal.rank-here-requires
-rank-here-requires c = let h = c.requires in 
+rank-here-requires c = let h = c.requires in
     record { width = h.0.width; first = h.2; second = h.0.ids-in _ h.1 }
 
 pub returns-then-there-here : goal.returns-then-there-here
 unfolding candidates_of
 returns-then-there-here c = let chosen : let a = c.args in c.if-by_leaf.candidates ≡ candidates_of a.g a.ids.now a.dead a.i a.v = elim c.if-by_leaf.branch [
-      then-by_leaf w ↦ rw (← c.by_leaf.ensures, w.if-by_leaf.true) (w.candidates-is ∙ w.leaf_candidates-candidates.ensures)
-    | else-by_leaf w ↦ rw (← c.by_leaf.ensures, w.if-by_leaf.false) (w.candidates-is ∙ w.route_candidates-candidates.ensures)
-    ] in
-    let found : let a = c.args in 
+  | then-by_leaf w ↦ rw (← c.by_leaf.ensures, w.if-by_leaf.true) (w.candidates-is ∙ w.leaf_candidates-candidates.ensures)
+  | else-by_leaf w ↦ rw (← c.by_leaf.ensures, w.if-by_leaf.false) (w.candidates-is ∙ w.route_candidates-candidates.ensures)
+] in
+    let found : let a = c.args in
     c.best.result ≡ best_of Near (2 ^ a.g.m) a.k a.ids.now (candidates_of a.g a.ids.now a.dead a.i a.v) = rw (chosen) at c.best.ensures in
     let e = closer _ _ _ _ _ _ c.rank-there.ensures c.rank-here.ensures (omega arith) in
     rw (next_hop-nearest, ← found, c.in-At.is, e)
@@ -92,10 +90,10 @@ returns-then-there-here c = let chosen : let a = c.args in c.if-by_leaf.candidat
 pub returns-else-there-here : goal.returns-else-there-here
 unfolding candidates_of
 returns-else-there-here c = let chosen : let a = c.args in c.if-by_leaf.candidates ≡ candidates_of a.g a.ids.now a.dead a.i a.v = elim c.if-by_leaf.branch [
-      then-by_leaf w ↦ rw (← c.by_leaf.ensures, w.if-by_leaf.true) (w.candidates-is ∙ w.leaf_candidates-candidates.ensures)
-    | else-by_leaf w ↦ rw (← c.by_leaf.ensures, w.if-by_leaf.false) (w.candidates-is ∙ w.route_candidates-candidates.ensures)
-    ] in
-    let found : let a = c.args in 
+  | then-by_leaf w ↦ rw (← c.by_leaf.ensures, w.if-by_leaf.true) (w.candidates-is ∙ w.leaf_candidates-candidates.ensures)
+  | else-by_leaf w ↦ rw (← c.by_leaf.ensures, w.if-by_leaf.false) (w.candidates-is ∙ w.route_candidates-candidates.ensures)
+] in
+    let found : let a = c.args in
     c.best.result ≡ best_of Near (2 ^ a.g.m) a.k a.ids.now (candidates_of a.g a.ids.now a.dead a.i a.v) = rw (chosen) at c.best.ensures in
     let e = no-closer _ _ _ _ _ _ c.rank-there.ensures c.rank-here.ensures (omega arith) in
     rw (next_hop-nearest, ← found, c.in-At.is, e)

@@ -1,5 +1,4 @@
 -- `hop::route_candidates` meets its contract. Assumes nothing.
-use borrow.Author.Rules.{rules}
 use Rattle.rules.specs.Hop.{route_candidates}
 use Rattle.hop.proofs.route_candidates.Goals as goal
 

@@ -1,5 +1,4 @@
 -- `hop::via_of` meets its contract. Assumes nothing.
-use borrow.Author.Rules.{rules}
 use Rattle.rules.specs.Hop.{via_of}
 use Rattle.hop.proofs.via_of.Goals as goal
 

@@ -1,18 +1,15 @@
 -- The answers. Assumes nothing.
-use borrow.Author.Rules.{rules}
 use mathlib.Core.Path.{◌≡◌, refl, sym, ◌∙◌, ap}
 use Prim.Native.Nat.{◌+◌, ◌<◌}
 use native.Mathlib.Omega.{arith}
 use mathlib.Core.List.{[], ◌∷◌, ◌++◌}
-use lib.ListN.{length}
 use Rattle.marks.specs.Marks.{size_of, lowest_of}
 use Rattle.marks.specs.declared.Found.TheVariants.{At}
 use Rattle.marks.proofs.Laws.{lowest-found}
 use Rattle.rules.specs.declared.Message.{Message}
-use Rattle.pool_laws.specs.InnerSending.{copies}
 use Rattle.pool_laws.proofs.Gaps.{fewer}
 use Rattle.image.specs.InnerRecords.{messages_in}
-use Rattle.image_pool.proofs.Sends.{Sending, sending-low, sending-more, sending-end}
+use Rattle.image_pool.proofs.Sends.{sending-low, sending-more, sending-end}
 use Rattle.image_pool.proofs.append_all.Goals as goal
 
 pub slots-init : goal.slots-init
@@ -38,7 +35,7 @@ slots-smaller c = let lowest : lowest_of c.slots.rest ≡ At c.in-At.s = sym c.l
 
 pub slots-preserved : goal.slots-preserved
 slots-preserved c = let lowest : lowest_of c.slots.rest ≡ At c.in-At.s = sym c.lowest-next.ensures ∙ c.in-At.is in
-    let l = c.slots in 
+    let l = c.slots in
     rw c.removed-rest.ensures
     (sending-more _ (lowest) l.invariant _ c.append.auto.part
     (c.append.ensures ∙ ap (λ (z : Message). messages_in l.end l.part ++ (z ∷ [])) c.to_slot.ensures))

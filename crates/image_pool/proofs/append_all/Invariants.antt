@@ -1,18 +1,11 @@
 -- `image_pool::append_all` meets its contract. The invariant: m for the slots of `rest` is still to be written (Sending). The measure: how many they are. Assumes nothing.
-use borrow.Author.Rules.{rules}
-use mathlib.Core.Path.{◌≡◌, refl, sym, ◌∙◌, ap}
-use Prim.Native.Nat.{◌+◌, ◌<◌}
-use native.Mathlib.Omega.{arith}
-use mathlib.Core.List.{[], ◌∷◌, ◌++◌}
+use Prim.Native.Nat.{◌+◌}
+use mathlib.Core.List.{◌++◌}
 use lib.ListN.{length}
-use Rattle.marks.specs.Marks.{size_of, lowest_of}
-use Rattle.marks.specs.declared.Found.TheVariants.{At}
-use Rattle.marks.proofs.Laws.{lowest-found}
-use Rattle.rules.specs.declared.Message.{Message}
+use Rattle.marks.specs.Marks.{size_of}
 use Rattle.pool_laws.specs.InnerSending.{copies}
-use Rattle.pool_laws.proofs.Gaps.{fewer}
 use Rattle.image.specs.InnerRecords.{messages_in}
-use Rattle.image_pool.proofs.Sends.{Sending, sending-low, sending-more, sending-end}
+use Rattle.image_pool.proofs.Sends.{Sending}
 use Rattle.image_pool.proofs.append_all.Given as goal
 
 abbrev pub invariant-slots : goal.invariant-slots

@@ -1,9 +1,6 @@
 -- The answers. Assumes nothing.
-use borrow.Author.Rules.{rules}
-use Prim.Native.Nat.{◌-◌, ◌≤◌}
 use native.Mathlib.Omega.{arith}
-use Rattle.image.specs.InnerRecords.{messages_in}
-use Rattle.image_pool.proofs.Sends.{Seen, seen_none, seen_more, seen_all}
+use Rattle.image_pool.proofs.Sends.{seen_none, seen_more, seen_all}
 use Rattle.image_pool.proofs.held_slots.Goals as goal
 
 pub loop-at-init : goal.loop-at-init
@@ -11,9 +8,9 @@ loop-at-init c = (omega arith, seen_none _ _)
 
 pub loop-at-preserved : goal.loop-at-preserved
 loop-at-preserved c = let l = c.loop-at in (
-      omega arith,
-      seen_more _ _ _ _ _ _ _ (omega arith) c.read_message-q.ensures c.with_slot-set.ensures l.invariant.1,
-    )
+  omega arith,
+  seen_more _ _ _ _ _ _ _ (omega arith) c.read_message-q.ensures c.with_slot-set.ensures l.invariant.1,
+)
 
 pub returns : goal.returns
 returns c = seen_all _ _ _ _ _ (omega arith) c.loop-at.invariant.1

@@ -1,9 +1,7 @@
 -- `image_pool::held_slots` meets its contract. The invariant: the set is that of the messages before `at` (Seen). The measure: the records left. Assumes nothing.
-use borrow.Author.Rules.{rules}
 use Prim.Native.Nat.{◌-◌, ◌≤◌}
-use native.Mathlib.Omega.{arith}
 use Rattle.image.specs.InnerRecords.{messages_in}
-use Rattle.image_pool.proofs.Sends.{Seen, seen_none, seen_more, seen_all}
+use Rattle.image_pool.proofs.Sends.{Seen}
 use Rattle.image_pool.proofs.held_slots.Given as goal
 
 abbrev pub invariant-loop-at : goal.invariant-loop-at

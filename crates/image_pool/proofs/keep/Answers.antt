@@ -1,5 +1,4 @@
 -- `image_pool::keep` meets its contract: a probe is passed over, any other record comes to stand behind those that are kept. Assumes nothing.
-use borrow.Author.Rules.{rules}
 use mathlib.Core.Path.{sym, ◌∙◌}
 use native.Mathlib.Omega.{arith}
 use Rattle.image_pool.proofs.Passes.{turn-passed, turn-kept}

@@ -1,11 +1,8 @@
 -- `image_pool::move_down` meets its contract. The invariant: j bytes are copied. The measure: the bytes left. Assumes nothing.
-use borrow.Author.Rules.{rules}
-use mathlib.Core.Path.{◌≡◌, ◌∙◌, ap, refl}
-use Prim.Native.Nat.{ℕ, ◌+◌, ◌-◌, ◌≤◌, zero-le}
-use native.Mathlib.Omega.{arith}
-use lib.ListN.{length, drop, length-set}
-use lib.Seq.{paste, paste-zero}
-use Rattle.image_pool.proofs.Moves.{turn}
+use mathlib.Core.Path.{◌≡◌}
+use Prim.Native.Nat.{◌+◌, ◌-◌, ◌≤◌}
+use lib.ListN.{length, drop}
+use lib.Seq.{paste}
 use Rattle.image_pool.proofs.move_down.Given as goal
 
 abbrev pub invariant-loop-j : goal.invariant-loop-j

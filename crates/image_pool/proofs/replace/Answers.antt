@@ -1,5 +1,4 @@
 -- `image_pool::replace` meets its contract. Assumes nothing.
-use borrow.Author.Rules.{rules}
 use mathlib.Core.Path.{◌≡◌, sym, ◌∙◌, ap}
 use mathlib.Core.List.{List, [], ◌∷◌, ◌++◌}
 use Prim.Native.Nat.{ℕ, ◌+◌, ◌-◌}
@@ -11,12 +10,12 @@ use Rattle.image.proofs.Messages.{removed}
 use Rattle.image_pool.proofs.replace.Goals as goal
 
 pub returns-in-At : goal.returns-in-At
-returns-in-At c = let a = c.args in 
+returns-in-At c = let a = c.args in
     let e = sym c.first_equal-at.ensures ∙ c.in-At.is in
     removed _ _ _ _ _ c.take_out.ensures ∙ sym (added-at _ a.m _ e)
 
 pub returns-in-Nothing : goal.returns-in-Nothing
-returns-in-Nothing c = let a = c.args in 
+returns-in-Nothing c = let a = c.args in
     let e = sym c.first_equal-at.ensures ∙ c.in-Nothing.is in
     let q : a.count ≡ a.count - 1 + 1 = omega arith in
     ap (λ (k : ℕ). messages_in k c.append.new.part) q

@@ -6,7 +6,6 @@ use Rattle.marks.specs.Marks.{without}
 use Rattle.pool_laws.specs.InnerSending.{copies}
 use Rattle.pool_laws.proofs.Sending.{sent_is}
 use Rattle.image.specs.InnerRecords.{messages_in}
-use borrow.Author.Rules.{rules}
 use Rattle.image_pool.proofs.Sends.{room-few, room-there, room-count}
 use Rattle.image_pool.proofs.send_all.Goals as goal
 
@@ -14,11 +13,11 @@ pub held_slots-have-requires : goal.held_slots-have-requires
 held_slots-have-requires c = room-count _ _ _ _ c.requires
 
 pub append_all-requires : goal.append_all-requires
-append_all-requires c = let r = c.requires in 
+append_all-requires c = let r = c.requires in
     rw (c.less.ensures, c.held_slots-have.ensures) (room-few _ _ _ _ r, room-there _ _ _ _ r)
 
 pub returns : goal.returns
-returns c = let a = c.args in 
+returns c = let a = c.args in
     let xs = messages_in a.count a.part.now in
     c.append_all.ensures
     ∙ ap (λ (s : ℕ). xs ++ copies a.m s) (c.less.ensures ∙ ap (without a.set) c.held_slots-have.ensures)

@@ -1,5 +1,4 @@
 -- `image_pool::take_out` meets its contract: the records behind the gap are moved down by one. Assumes nothing.
-use borrow.Author.Rules.{rules}
 use native.Mathlib.Omega.{arith}
 use Rattle.image.proofs.Records.{cut, taken_out}
 use Rattle.image_pool.proofs.take_out.Goals as goal
@@ -14,5 +13,5 @@ pub move_down-requires : goal.move_down-requires
 move_down-requires c = let a = c.args in omega (arith, cut a.size a.p a.count (omega arith))
 
 pub returns : goal.returns
-returns c = let a = c.args in 
+returns c = let a = c.args in
     taken_out a.size a.count a.p a.part.now _ (omega arith) (omega arith) c.move_down.ensures

@@ -1,8 +1,6 @@
 -- The answers. Assumes nothing.
-use borrow.Author.Rules.{rules}
-use Prim.Native.Nat.{◌-◌, ◌≤◌}
 use native.Mathlib.Omega.{arith}
-use Rattle.image_pool.proofs.Passes.{Kept, kept-none, kept_more, kept-all}
+use Rattle.image_pool.proofs.Passes.{kept-none, kept_more, kept-all}
 use Rattle.image_pool.proofs.take_probes_out.Goals as goal
 
 pub loop-at-init : goal.loop-at-init
@@ -13,9 +11,9 @@ keep-kept-requires c = let k = c.loop-at.invariant.1 in (k.few, omega arith, ome
 
 pub loop-at-preserved : goal.loop-at-preserved
 loop-at-preserved c = let l = c.loop-at in (
-      omega arith,
-      kept_more _ _ _ _ _ _ _ _ _ (omega arith) l.invariant.1 c.keep-kept.ensures,
-    )
+  omega arith,
+  kept_more _ _ _ _ _ _ _ _ _ (omega arith) l.invariant.1 c.keep-kept.ensures,
+)
 
 pub returns : goal.returns
 returns c = kept-all _ _ _ _ _ _ _ (omega arith) c.loop-at.invariant.1

@@ -1,8 +1,6 @@
 -- `image_pool::take_probes_out` meets its contract. The invariant: the turns up to `at` are made (Kept). The measure: the records left. Assumes nothing.
-use borrow.Author.Rules.{rules}
 use Prim.Native.Nat.{◌-◌, ◌≤◌}
-use native.Mathlib.Omega.{arith}
-use Rattle.image_pool.proofs.Passes.{Kept, kept-none, kept_more, kept-all}
+use Rattle.image_pool.proofs.Passes.{Kept}
 use Rattle.image_pool.proofs.take_probes_out.Given as goal
 
 abbrev pub invariant-loop-at : goal.invariant-loop-at

@@ -1,16 +1,9 @@
 -- `image_valid::different_in` meets its contract. Before place j the table has every place below j in its chain (Chained), and no two of them are equal
 -- (Differ); on the way down a chain all at or above the link differ from j's message (Walk). The places are those of the definition's pool, of which none is
 -- made. The measures: the places left, and the link. Assumes nothing.
-use borrow.Author.Rules.{rules}
-use mathlib.Core.Path.{◌≡◌, refl, sym, ◌∙◌, ap}
-use Prim.Native.Nat.{◌-◌, ◌≤◌, zero-le}
-use native.Mathlib.Omega.{arith}
-use Rattle.rules.specs.Mail.{alike}
-use Rattle.rules.specs.Pool.{message_at}
-use Rattle.pool_laws.specs.InnerMix.{bucket_of}
-use Rattle.pool_laws.proofs.Chain.{Differ, differ-none, differ-more, differ-all, differ-not, Chained, Walk, none, starts, onward, more}
+use Prim.Native.Nat.{◌-◌, ◌≤◌}
+use Rattle.pool_laws.proofs.Chain.{Differ, Chained, Walk}
 use Rattle.file.specs.Load.{part_pool}
-use Rattle.image_valid.proofs.Records.{message-in, count-is, places-are, alike-turn}
 use Rattle.image_valid.proofs.different_in.Given as goal
 
 abbrev pub invariant-chain : goal.invariant-chain

@@ -1,6 +1,5 @@
 -- `image_valid::file_pool_fits` meets its contract: the message offset is where the definition's part begins, and the length leaves room for
 -- the messages. Assumes nothing.
-use borrow.Author.Rules.{rules}
 use mathlib.Core.Path.{◌≡◌}
 use Prim.Native.Nat.{◌+◌, ◌*◌}
 use native.Mathlib.Omega.{arith}
@@ -40,7 +39,7 @@ pool_fits_in-requires c = let told : Header c.args.file.now = header-told c.args
 pub returns : goal.returns
 unfolding file_pool
 returns c = let told : Header c.args.file.now = header-told c.args.file.now c.requires.0.header c.requires.0.offsets in
-    let file = c.args.file.now in 
+    let file = c.args.file.now in
     rw (
       c.pool_fits_in.ensures,
       rest-whole file c.word-at.result,

@@ -1,8 +1,6 @@
 -- The answers. Assumes nothing.
-use borrow.Author.Tests.{not-true, not-false}
 use mathlib.Core.Path.{◌≡◌, refl, sym, ◌∙◌}
-use mathlib.Core.Bool.{true}
-use Prim.Native.Nat.{◌-◌, ◌≤◌, zero-le}
+use Prim.Native.Nat.{zero-le}
 use native.Mathlib.Omega.{arith}
 use Rattle.marks.specs.Marks.{all_to}
 use Rattle.marks.proofs.Laws.{more}
@@ -18,16 +16,16 @@ pub place_fits-requires : goal.place_fits-requires
 place_fits-requires c = (c.requires.2, c.requires.3)
 
 pub returns-then-not-place_fits : goal.returns-then-not-place_fits
-returns-then-not-place_fits c = let turn : let a = c.args in 
-    c.place_fits.result ≡ place_in a.g a.ids.now (part_pool a.count a.part.now) c.loop-q.q = let a = c.args in 
+returns-then-not-place_fits c = let turn : let a = c.args in
+    c.place_fits.result ≡ place_in a.g a.ids.now (part_pool a.count a.part.now) c.loop-q.q = let a = c.args in
     place-turn a.count a.part.now a.g a.ids.now c.loop-q.q c.read_message-m.result _ (omega arith)
     c.read_message-m.ensures c.place_fits.ensures in
-    let a = c.args in 
+    let a = c.args in
     sym (message-fails a.count a.part.now a.g a.ids.now c.loop-q.q (omega arith) (sym (turn) ∙ c.if-not-place_fits.true))
 
 pub loop-q-preserved : goal.loop-q-preserved
-loop-q-preserved c = let turn : let a = c.args in 
-    c.place_fits.result ≡ place_in a.g a.ids.now (part_pool a.count a.part.now) c.loop-q.q = let a = c.args in 
+loop-q-preserved c = let turn : let a = c.args in
+    c.place_fits.result ≡ place_in a.g a.ids.now (part_pool a.count a.part.now) c.loop-q.q = let a = c.args in
     place-turn a.count a.part.now a.g a.ids.now c.loop-q.q c.read_message-m.result _ (omega arith)
     c.read_message-m.ensures c.place_fits.ensures in
     let a = c.args in (
@@ -37,5 +35,5 @@ loop-q-preserved c = let turn : let a = c.args in
     )
 
 pub returns : goal.returns
-returns c = let a = c.args in 
+returns c = let a = c.args in
     sym (messages-all a.count a.part.now a.g a.ids.now c.loop-q.q (omega arith) c.loop-q.invariant.1)

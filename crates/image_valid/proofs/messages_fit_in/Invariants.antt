@@ -1,13 +1,10 @@
 -- `image_valid::messages_fit_in` meets its contract. The invariant: the messages passed fit, hops included. The measure: the messages left. Assumes nothing.
-use borrow.Author.Tests.{not-true, not-false}
-use mathlib.Core.Path.{◌≡◌, refl, sym, ◌∙◌}
+use mathlib.Core.Path.{◌≡◌}
 use mathlib.Core.Bool.{true}
-use Prim.Native.Nat.{◌-◌, ◌≤◌, zero-le}
-use native.Mathlib.Omega.{arith}
+use Prim.Native.Nat.{◌-◌, ◌≤◌}
 use Rattle.marks.specs.Marks.{all_to}
-use Rattle.marks.proofs.Laws.{more}
 use Rattle.file.specs.Load.{part_pool}
-use Rattle.image_valid.proofs.Records.{place_in, place-turn, messages-all, message-fails}
+use Rattle.image_valid.proofs.Records.{place_in}
 use Rattle.image_valid.proofs.messages_fit_in.Given as goal
 
 abbrev pub invariant-loop-q : goal.invariant-loop-q

@@ -1,14 +1,12 @@
 -- The answers. Assumes nothing.
-use borrow.Author.Tests.{not-true, not-false}
 use mathlib.Core.Path.{◌≡◌, refl, sym, ◌∙◌, ap}
-use mathlib.Core.Bool.{true, ◌&&◌}
-use Prim.Native.Nat.{ℕ, ◌-◌, ◌<◌, ◌≤◌, zero-le}
+use mathlib.Core.Bool.{◌&&◌}
+use Prim.Native.Nat.{ℕ, ◌<◌, ◌≤◌, zero-le}
 use native.Mathlib.Omega.{arith}
 use lib.ListN.{length}
 use Rattle.marks.specs.Marks.{all_to}
 use Rattle.marks.proofs.Laws.{more}
 use Rattle.rules.specs.declared.Ring.{Ring}
-use Rattle.table_type.specs.Table.{ids_of}
 use Rattle.table_laws.proofs.Sound.{numbers-told}
 use Rattle.table_valid.proofs.Slots.{low_at}
 use Rattle.file.specs.Format.{total_of}

@@ -1,21 +1,13 @@
 -- `image_valid::nodes_fit_in` meets its contract. The invariant: the first s slots obey their rules, s is at most n, and low is the least id that slot s
 -- may have. The measure: the nodes left. Assumes nothing.
-use borrow.Author.Tests.{not-true, not-false}
-use mathlib.Core.Path.{◌≡◌, refl, sym, ◌∙◌, ap}
-use mathlib.Core.Bool.{true, ◌&&◌}
-use Prim.Native.Nat.{ℕ, ◌-◌, ◌<◌, ◌≤◌, zero-le}
-use native.Mathlib.Omega.{arith}
-use lib.ListN.{length}
+use mathlib.Core.Path.{◌≡◌}
+use mathlib.Core.Bool.{true}
+use Prim.Native.Nat.{◌-◌, ◌≤◌}
 use Rattle.marks.specs.Marks.{all_to}
-use Rattle.marks.proofs.Laws.{more}
-use Rattle.rules.specs.declared.Ring.{Ring}
 use Rattle.table_type.specs.Table.{ids_of}
-use Rattle.table_laws.proofs.Sound.{numbers-told}
 use Rattle.table_valid.proofs.Slots.{low_at}
-use Rattle.file.specs.Format.{total_of}
-use Rattle.file.specs.Load.{file_n, file_count, file_table}
-use Rattle.file_read.proofs.Laws.{offsets-long, header-counts}
-use Rattle.image_valid.proofs.Records.{slot_in, n-is, node-past, header-numbers, slot_turn, low_turn, slot-fails, listed-decide}
+use Rattle.file.specs.Load.{file_n, file_table}
+use Rattle.image_valid.proofs.Records.{slot_in}
 use Rattle.image_valid.proofs.nodes_fit_in.Given as goal
 
 abbrev pub invariant-loop-s : goal.invariant-loop-s

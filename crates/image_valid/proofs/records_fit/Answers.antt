@@ -1,5 +1,4 @@
 -- `image_valid::records_fit` meets its contract: the definition's tests, in its order. The header bounds M and n for them. Assumes nothing.
-use borrow.Author.Tests.{not-true, not-false}
 use mathlib.Core.Path.{sym, ◌∙◌, ap}
 use native.Mathlib.Omega.{arith}
 use Rattle.rules.specs.declared.Ring.{Ring}

@@ -1,5 +1,4 @@
 -- `image_valid::ring_in` meets its contract: the words that were read are the table's. Assumes nothing.
-use borrow.Author.Rules.{rules}
 use Rattle.file.specs.Load.{file_table}
 use Rattle.image_valid.proofs.ring_in.Goals as goal
 

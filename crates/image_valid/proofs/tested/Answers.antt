@@ -1,5 +1,4 @@
 -- `image_valid::tested` meets its contract: each of its five returns is one of the ways in which a load ends. Assumes nothing.
-use borrow.Author.Tests.{not-true, not-false}
 use mathlib.Core.Path.{sym, ◌∙◌}
 use Rattle.file_read.specs.InnerRecords.{Fitting}
 use Rattle.image_valid.proofs.Ends.{answer-short, answer-header, answer-offsets, answer-done, answer-invalid}
@@ -23,21 +22,21 @@ returns-then-not-offsets_fit c = λ t p. answer-offsets c.args.file.now t p c.if
 
 pub records_fit-requires : goal.records_fit-requires
 records_fit-requires c = let fits : Fitting c.args.file.now = record {
-      header = sym c.header_fits.ensures ∙ c.if-not-header_fits.false;
-      offsets = sym c.offsets_fit.ensures ∙ c.if-not-offsets_fit.false;
-    } in
+  header = sym c.header_fits.ensures ∙ c.if-not-header_fits.false;
+  offsets = sym c.offsets_fit.ensures ∙ c.if-not-offsets_fit.false;
+} in
     fits
 
 pub returns-then-records_fit : goal.returns-then-records_fit
 returns-then-records_fit c = let fits : Fitting c.args.file.now = record {
-      header = sym c.header_fits.ensures ∙ c.if-not-header_fits.false;
-      offsets = sym c.offsets_fit.ensures ∙ c.if-not-offsets_fit.false;
-    } in
+  header = sym c.header_fits.ensures ∙ c.if-not-header_fits.false;
+  offsets = sym c.offsets_fit.ensures ∙ c.if-not-offsets_fit.false;
+} in
     λ t p. answer-done c.args.file.now t p c.if-file-lt32.false (fits) (sym c.records_fit.ensures ∙ c.if-records_fit.true)
 
 pub returns-else-records_fit : goal.returns-else-records_fit
 returns-else-records_fit c = let fits : Fitting c.args.file.now = record {
-      header = sym c.header_fits.ensures ∙ c.if-not-header_fits.false;
-      offsets = sym c.offsets_fit.ensures ∙ c.if-not-offsets_fit.false;
-    } in
+  header = sym c.header_fits.ensures ∙ c.if-not-header_fits.false;
+  offsets = sym c.offsets_fit.ensures ∙ c.if-not-offsets_fit.false;
+} in
     λ t p. answer-invalid c.args.file.now t p c.if-file-lt32.false (fits) (sym c.records_fit.ensures ∙ c.if-records_fit.false)

@@ -1,5 +1,4 @@
 -- `leaf::along` meets its contract: of the two sums that a fall can be, each branch computes the one that holds. Assumes nothing.
-use borrow.Author.Rules.{rules}
 use mathlib.Core.Path.{◌≡◌}
 use mathlib.Core.Logic.{inl, inr}
 use Prim.Native.Nat.{ℕ, ◌<◌}

@@ -1,5 +1,4 @@
 -- `leaf::complete` meets its contract. Assumes nothing.
-use borrow.Author.Rules.{rules}
 use Rattle.rules.specs.Leaf.{is_complete}
 use Rattle.leaf.proofs.complete.Goals as goal
 

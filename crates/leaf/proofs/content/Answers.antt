@@ -1,5 +1,4 @@
 -- `leaf::content` meets its contract: both sides, and the owner. Assumes nothing.
-use borrow.Author.Rules.{rules}
 use Rattle.rules.specs.Leaf.{content_of}
 use Rattle.leaf.proofs.content.Goals as goal
 

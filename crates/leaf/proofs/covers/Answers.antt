@@ -1,5 +1,4 @@
 -- `leaf::covers` meets its contract: what is seen from the owner is a slot, so its id is in range. Assumes nothing.
-use borrow.Author.Rules.{rules}
 use Prim.Native.Nat.{◌<◌}
 use native.Mathlib.Omega.{arith}
 use Rattle.rules.specs.Leaf.{covers_of}

@@ -1,10 +1,7 @@
 -- The answers. Assumes nothing.
-use borrow.Author.Rules.{rules}
 use mathlib.Core.Path.{sym, ◌∙◌}
-use mathlib.Core.Logic.{⊎_elim}
-use Prim.Native.Nat.{◌-◌}
 use native.Mathlib.Omega.{arith}
-use Rattle.rules_laws.proofs.Steps.{Walked, walk-begin, walk-took, walk-passed, walk_looks, walk-full, walk_end}
+use Rattle.rules_laws.proofs.Steps.{walk-begin, walk-took, walk-passed, walk_looks, walk-full, walk_end}
 use Rattle.leaf.proofs.first_along.Goals as goal
 use Rattle.leaf.proofs.first_along.Goals.{then-looked, else-looked}
 
@@ -18,12 +15,12 @@ pub looked-requires : goal.looked-requires
 looked-requires c = walk_looks _ _ _ _ _ c.requires.0 c.requires.1 _ _ c.along-s.ensures.0 c.along-s.ensures.1 c.loop-d.invariant (λ e. omega arith)
 
 pub loop-d-preserved : goal.loop-d-preserved
-loop-d-preserved c = let pre = c.requires in 
-    let at = c.along-s.ensures in 
+loop-d-preserved c = let pre = c.requires in
+    let at = c.along-s.ensures in
     let member = sym c.looked.ensures in
     elim c.if-looked.branch [
-      then-looked w ↦ rw (w.out-is, w.added-out.ensures, w.got-is) (walk-took _ _ _ _ _ pre.0 pre.1 _ _ at.0 at.1 c.loop-d.invariant (λ e. omega arith) (member ∙ w.if-looked.true))
-    | else-looked w ↦ rw (w.out-is, w.got-is) (walk-passed _ _ _ _ _ pre.0 pre.1 _ _ at.0 at.1 c.loop-d.invariant (member ∙ w.if-looked.false))
+      | then-looked w ↦ rw (w.out-is, w.added-out.ensures, w.got-is) (walk-took _ _ _ _ _ pre.0 pre.1 _ _ at.0 at.1 c.loop-d.invariant (λ e. omega arith) (member ∙ w.if-looked.true))
+      | else-looked w ↦ rw (w.out-is, w.got-is) (walk-passed _ _ _ _ _ pre.0 pre.1 _ _ at.0 at.1 c.loop-d.invariant (member ∙ w.if-looked.false))
     ]
 
 pub returns : goal.returns

@@ -1,5 +1,4 @@
 -- `leaf::full` meets its contract. Assumes nothing.
-use borrow.Author.Rules.{rules}
 use Rattle.rules.specs.Leaf.{is_full}
 use Rattle.leaf.proofs.full.Goals as goal
 

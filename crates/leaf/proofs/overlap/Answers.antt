@@ -1,5 +1,4 @@
 -- `leaf::overlap` meets its contract. Assumes nothing.
-use borrow.Author.Rules.{rules}
 use Rattle.rules.specs.Leaf.{overlaps}
 use Rattle.leaf.proofs.overlap.Goals as goal
 

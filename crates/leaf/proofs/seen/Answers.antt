@@ -1,5 +1,4 @@
 -- `leaf::seen` meets its contract: what the search finds, or the owner. Assumes nothing.
-use borrow.Author.Rules.{rules}
 use Rattle.rules.specs.Leaf.{seen_from}
 use Rattle.rules_laws.proofs.Best.{listed-keyed}
 use Rattle.leaf.proofs.seen.Goals as goal

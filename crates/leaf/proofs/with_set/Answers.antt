@@ -1,5 +1,4 @@
 -- `leaf::with_set` meets its contract: the nearest of a side are the first on its walk (side-walk-up, side-walk-down). Assumes nothing.
-use borrow.Author.Rules.{rules}
 use mathlib.Core.Path.{◌≡◌}
 use mathlib.Core.Bool.{true, false}
 use mathlib.Core.List.{List}

@@ -1,6 +1,5 @@
 -- `marks::all_below` meets its contract: no mark is at n or above where nothing is left when n digits are shifted out. Assumes nothing.
 use mathlib.Core.Path.{sym}
-use borrow.Author.Rules.{rules}
 use native.Mathlib.Omega.{arith}
 use Rattle.marks.proofs.Laws.{listed-every}
 use Rattle.marks.proofs.Machine.{shifted-listed}

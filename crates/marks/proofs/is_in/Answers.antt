@@ -1,6 +1,5 @@
 -- `marks::is_in` meets its contract: below 64 the code is the definition, and from there on 64 digits have no mark. Assumes nothing.
 use mathlib.Core.Path.{refl, sym}
-use borrow.Author.Rules.{rules}
 use native.Mathlib.Omega.{arith}
 use Rattle.marks.specs.Marks.{has}
 use Rattle.marks.proofs.Laws.{has-high}

@@ -2,7 +2,6 @@
 use mathlib.Core.Path.{◌∙◌, ap}
 use Rattle.rules.specs.Mail.{same_to}
 use Rattle.counts.proofs.ByCase.{same-agrees}
-use borrow.Author.Rules.{rules}
 use Rattle.over_counts.proofs.agree.Goals as goal
 
 pub returns : goal.returns

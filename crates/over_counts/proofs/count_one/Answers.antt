@@ -1,5 +1,4 @@
 -- `over_counts::count_one` meets its contract: one store, and none for what is no slot. Assumes nothing.
-use borrow.Author.Rules.{rules}
 use borrow.Author.Tests.{lt-ltb, le-ltb}
 use native.Mathlib.Omega.{arith}
 use Rattle.over_counts.specs.InnerWalk.{one_more}

@@ -1,5 +1,4 @@
 -- `over_counts::counts_after` meets its contract: the answer decides the definition's case. Assumes nothing.
-use borrow.Author.Rules.{rules}
 use Rattle.over_counts.proofs.counts_after.Goals as goal
 
 pub returns-in-Done : goal.returns-in-Done

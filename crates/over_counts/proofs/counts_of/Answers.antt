@@ -1,7 +1,6 @@
 -- The answers. Assumes nothing.
-use borrow.Author.Rules.{rules}
 use mathlib.Core.Path.{◌≡◌, sym, subst}
-use Prim.Native.Nat.{ℕ, ◌-◌, ◌<◌, ◌≤◌}
+use Prim.Native.Nat.{ℕ, ◌<◌}
 use native.Mathlib.Omega.{arith}
 use lib.ListN.{length}
 use Rattle.rules.specs.Pool.{waiting}
@@ -37,7 +36,7 @@ overflow_add-at c = let long : length c.args.p.places ≡ 256 = places-length c.
 pub loop-at-preserved : goal.loop-at-preserved
 loop-at-preserved c = let long : length c.args.p.places ≡ 256 = places-length c.args.p _ c.well_formed.0 in
     let p = c.args.p in
-    let n = c.waiting_in-n.ensures in 
+    let n = c.waiting_in-n.ensures in
     let at = sym (waits-at p (long) c.loop-at.at (omega (arith, n))) in
     (omega arith, rw c.count_one.ensures (tallied-more (waiting p) c.loop-at.at c.loop-at.counts _ at c.loop-at.invariant.1))
 

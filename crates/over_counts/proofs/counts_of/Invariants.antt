@@ -1,13 +1,7 @@
 -- `over_counts::counts_of` meets its contract. The invariant: the messages passed are counted. The measure: those left. Assumes nothing.
-use borrow.Author.Rules.{rules}
-use mathlib.Core.Path.{◌≡◌, sym, subst}
-use Prim.Native.Nat.{ℕ, ◌-◌, ◌<◌, ◌≤◌}
-use native.Mathlib.Omega.{arith}
-use lib.ListN.{length}
+use Prim.Native.Nat.{◌-◌, ◌≤◌}
 use Rattle.rules.specs.Pool.{waiting}
-use Rattle.pool_laws.proofs.Places.{places-length}
-use Rattle.counts.specs.Counts.{counts_of}
-use Rattle.over_counts.proofs.Laws.{Tallied, waits_in, waits-low, waits-at, tallied-none, tallied-low, tallied-more, tallied-end}
+use Rattle.over_counts.proofs.Laws.{Tallied}
 use Rattle.over_counts.proofs.counts_of.Given as goal
 
 abbrev pub invariant-loop-at : goal.invariant-loop-at

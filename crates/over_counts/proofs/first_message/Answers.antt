@@ -1,13 +1,11 @@
 -- `over_counts::first_message` meets its contract: the definition's tests, in its order. A valid table has at most 64 slots, and a valid pool at most 256
 -- messages. Assumes nothing.
 use mathlib.Core.Path.{◌≡◌, sym, ◌∙◌}
-use borrow.Author.Tests.{not-true, not-false}
 use mathlib.Core.Bool.{true}
 use Prim.Native.Nat.{◌<◌}
 use native.Mathlib.Omega.{arith}
 use Rattle.counts.specs.Counts.{is_sound_counted}
 use Rattle.counts.proofs.ByCase.{tells, first-invalid, first_out, first-none, first-walked}
-use borrow.Author.Rules.{rules}
 use Rattle.over_counts.proofs.first_message.Goals as goal
 
 pub returns-then-not-is_sound : goal.returns-then-not-is_sound

@@ -1,7 +1,6 @@
 -- `over_counts::first_said_lem` meets its contract: what was found decides the definition's case. Assumes nothing.
 use mathlib.Core.Path.{sym, ◌∙◌, ap}
 use Rattle.counts.specs.Counts.{first_said}
-use borrow.Author.Rules.{rules}
 use Rattle.over_counts.proofs.first_said.Goals as goal
 
 pub returns-in-At : goal.returns-in-At

@@ -1,12 +1,10 @@
 -- `over_counts::has_message` meets its contract: the definition's tests, in its order; a valid table has at most 64 slots. Assumes nothing.
 use mathlib.Core.Path.{◌≡◌, sym, ◌∙◌}
-use borrow.Author.Tests.{not-true, not-false}
 use mathlib.Core.Bool.{true}
 use Prim.Native.Nat.{◌<◌}
 use native.Mathlib.Omega.{arith}
 use Rattle.counts.specs.Counts.{is_sound_counted}
 use Rattle.counts.proofs.ByCase.{tells, has-invalid, has-out, has-yes, has_no}
-use borrow.Author.Rules.{rules}
 use Rattle.over_counts.proofs.has_message.Goals as goal
 
 pub returns-then-not-is_sound : goal.returns-then-not-is_sound

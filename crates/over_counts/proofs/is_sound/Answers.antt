@@ -1,8 +1,6 @@
 -- `over_counts::is_sound` meets its contract: the definition's three tests, in its order. Assumes nothing.
 use mathlib.Core.Path.{sym, ◌∙◌}
-use borrow.Author.Tests.{not-true, not-false}
 use Rattle.counts.proofs.ByCase.{other_length, not_valid, then_agrees}
-use borrow.Author.Rules.{rules}
 use Rattle.over_counts.proofs.is_sound.Goals as goal
 
 pub returns-then-len-ne256 : goal.returns-then-len-ne256

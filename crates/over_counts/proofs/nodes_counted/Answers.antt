@@ -1,16 +1,10 @@
 -- The answers. Assumes nothing.
-use borrow.Author.Rules.{rules}
 use borrow.Author.Tests.{lt-ltb, le-ltb}
 use mathlib.Core.Path.{◌≡◌, refl, ◌∙◌}
-use mathlib.Core.Logic.{inl, inr, ⊎_elim}
-use mathlib.Core.Bool.{Bool}
-use mathlib.Core.List.{List}
-use Prim.Native.Nat.{ℕ, ◌-◌, ◌≤◌}
+use mathlib.Core.Logic.{inl, inr}
 use native.Mathlib.Omega.{arith}
-use lib.Dec.{ltb}
 use Rattle.marks.specs.Marks.{gather}
 use Rattle.marks.proofs.Laws.{gather-next}
-use Rattle.counts.specs.Counts.{count_at}
 use Rattle.over_counts.proofs.nodes_counted.Invariants.{some_for}
 use Rattle.over_counts.proofs.nodes_counted.Goals as goal
 use Rattle.over_counts.proofs.nodes_counted.Goals.{then-counts-i-gt0, else-counts-i-gt0}
@@ -21,13 +15,13 @@ loop-i-init c = (omega arith, refl)
 
 pub loop-i-preserved : goal.loop-i-preserved
 loop-i-preserved c = let f = some_for c.args.counts.now in (
-      omega arith,
-      gather-next f c.loop-i.i c.loop-i.set c.if-counts-i-gt0.set (omega arith) c.loop-i.invariant.1
-          (elim c.if-counts-i-gt0.branch [
-            then-counts-i-gt0 w ↦ inl (lt-ltb 0 _ w.if-counts-i-gt0.true, w.set-is ∙ w.added-set.ensures)
-          | else-counts-i-gt0 w ↦ inr (le-ltb 0 _ w.if-counts-i-gt0.false, w.set-is)
-          ]),
-    )
+  omega arith,
+  gather-next f c.loop-i.i c.loop-i.set c.if-counts-i-gt0.set (omega arith) c.loop-i.invariant.1
+      (elim c.if-counts-i-gt0.branch [
+        | then-counts-i-gt0 w ↦ inl (lt-ltb 0 _ w.if-counts-i-gt0.true, w.set-is ∙ w.added-set.ensures)
+        | else-counts-i-gt0 w ↦ inr (le-ltb 0 _ w.if-counts-i-gt0.false, w.set-is)
+      ]),
+)
 
 pub returns : goal.returns
 returns c = let e : c.args.n ≡ c.loop-i.i = omega arith in

@@ -1,16 +1,11 @@
 -- `over_counts::nodes_counted` meets its contract. The invariant: the nodes below i whose count is not 0 are gathered. The measure: the slots left.
 -- Assumes nothing.
-use borrow.Author.Rules.{rules}
-use borrow.Author.Tests.{lt-ltb, le-ltb}
-use mathlib.Core.Path.{◌≡◌, refl, ◌∙◌}
-use mathlib.Core.Logic.{inl, inr, ⊎_elim}
+use mathlib.Core.Path.{◌≡◌}
 use mathlib.Core.Bool.{Bool}
 use mathlib.Core.List.{List}
 use Prim.Native.Nat.{ℕ, ◌-◌, ◌≤◌}
-use native.Mathlib.Omega.{arith}
 use lib.Dec.{ltb}
 use Rattle.marks.specs.Marks.{gather}
-use Rattle.marks.proofs.Laws.{gather-next}
 use Rattle.counts.specs.Counts.{count_at}
 use Rattle.over_counts.proofs.nodes_counted.Given as goal
 

@@ -1,11 +1,9 @@
 -- `over_counts::poll` meets its contract: the definition's test; a valid table has at most 64 slots. Assumes nothing.
 use mathlib.Core.Path.{◌≡◌, sym, ◌∙◌, ap}
-use borrow.Author.Tests.{not-true, not-false}
 use mathlib.Core.Bool.{true}
 use Rattle.counts.specs.declared.Polled.TheVariants as polled
 use Rattle.counts.specs.Counts.{is_sound_counted}
 use Rattle.counts.proofs.ByCase.{tells, polled-invalid, polled-nodes}
-use borrow.Author.Rules.{rules}
 use Rattle.over_counts.proofs.poll.Goals as goal
 
 pub returns-then-not-is_sound : goal.returns-then-not-is_sound

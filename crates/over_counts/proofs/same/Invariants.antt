@@ -1,14 +1,11 @@
 -- `over_counts::same` meets its contract. The invariant: the numbers passed are the same. The measure: those left. Assumes nothing.
-use borrow.Author.Tests.{eq-eqb, ne_eqb}
-use mathlib.Core.Path.{◌≡◌, refl, sym}
+use mathlib.Core.Path.{◌≡◌}
 use mathlib.Core.Bool.{Bool, true}
 use mathlib.Core.List.{List}
 use Prim.Native.Nat.{ℕ, ◌-◌, ◌≤◌}
-use native.Mathlib.Omega.{arith}
 use lib.Dec.{eqb}
 use lib.ListN.{get_or}
 use Rattle.marks.specs.Marks.{all_to}
-use Rattle.marks.proofs.Laws.{more, fails}
 use Rattle.over_counts.proofs.same.Given as goal
 
 abbrev pub same_at : List ℕ → List ℕ → ℕ → Bool

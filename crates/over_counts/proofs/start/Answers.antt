@@ -1,7 +1,6 @@
 -- `over_counts::start` meets its contract: the counts are made of what the start leaves. Assumes nothing.
 use mathlib.Core.Path.{◌∙◌, ap}
 use Rattle.counts.specs.Counts.{after_by, start_with}
-use borrow.Author.Rules.{rules}
 use Rattle.over_counts.proofs.start.Goals as goal
 
 pub returns : goal.returns

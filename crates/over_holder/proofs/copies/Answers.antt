@@ -1,5 +1,4 @@
 -- `over_holder::copies` meets its contract: it makes the set as the definition does. Assumes nothing.
-use borrow.Author.Rules.{rules}
 use mathlib.Core.Path.{◌∙◌}
 use Rattle.holder.specs.Holder.{copies_of}
 use Rattle.over_holder.proofs.copies.Goals as goal

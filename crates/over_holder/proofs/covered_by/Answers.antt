@@ -1,11 +1,10 @@
 -- The answers. Assumes nothing.
-use borrow.Author.Rules.{rules}
 use mathlib.Core.Path.{◌≡◌, sym, ◌∙◌}
 use mathlib.Core.Bool.{Bool, ◌&&◌}
 use mathlib.Core.List.{List}
-use Prim.Native.Nat.{ℕ, ◌-◌, ◌≤◌}
+use Prim.Native.Nat.{ℕ, ◌≤◌}
 use native.Mathlib.Omega.{arith}
-use Rattle.marks.proofs.Laws.{first-at, first-nothing, NoneBelow, none_more}
+use Rattle.marks.proofs.Laws.{first-at, first-nothing, none_more}
 use Rattle.rules.specs.declared.Ring.{Ring}
 use Rattle.rules.specs.Leaf.{covers_of}
 use Rattle.rules.specs.Nodes.{sides_of}
@@ -36,7 +35,7 @@ bounds-t-s c = let table_at : Table = c.args.t in
 pub covers_at-requires : goal.covers_at-requires
 covers_at-requires c = let table_at : Table = c.args.t in
     let low : (table_at).n ≤ 64 = c.requires.0.n-high in
-    let asked = c.requires in 
+    let asked = c.requires in
     (rw (c.ring_of-g.ensures, c.ids-ids.ensures) asked.0, omega (arith, low), rw c.ring_of-g.ensures asked.1)
 
 pub returns-then-covers_at : goal.returns-then-covers_at

@@ -1,5 +1,4 @@
 -- `over_holder::covers_at` meets its contract: a node that is not ready is not asked what it covers. Assumes nothing.
-use borrow.Author.Rules.{rules}
 use Rattle.over_holder.proofs.covers_at.Goals as goal
 
 pub returns-then-is_ready : goal.returns-then-is_ready

@@ -1,5 +1,4 @@
 -- `over_holder::held_at` meets its contract: what was found is a slot below n. Assumes nothing.
-use borrow.Author.Rules.{rules}
 use mathlib.Core.Path.{◌≡◌, sym, ◌∙◌}
 use Prim.Native.Nat.{ℕ, ◌<◌, ◌≤◌}
 use native.Mathlib.Omega.{arith}
@@ -14,7 +13,7 @@ unfolding covered_by
 found-low t k h l e = omega (arith, (first_found t.n (ready_covers t k) h e).below)
 
 pub copies-requires : goal.copies-requires
-copies-requires c = let asked = c.requires.0 in 
+copies-requires c = let asked = c.requires.0 in
     (asked, found-low _ _ _ asked.n-high (sym c.covered_by-found.ensures ∙ c.in-At.is))
 
 pub returns-in-At : goal.returns-in-At

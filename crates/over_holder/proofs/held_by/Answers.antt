@@ -1,6 +1,5 @@
 -- `over_holder::held_by` meets its contract: what was said of the table's rest decides the definition's first and last test, and a table of
 -- which it was said is listed. Assumes nothing.
-use borrow.Author.Rules.{rules}
 use mathlib.Core.Path.{◌≡◌, refl, sym, ◌∙◌, ap}
 use mathlib.Core.Bool.{Bool, true, false, cond}
 use Prim.Native.Nat.{ℕ}
@@ -31,6 +30,7 @@ abbrev looked_at : Rest → Bool
 looked_at Settled = true
 looked_at Unsettled = true
 looked_at (NotAsked why) = false
+
 module _ (t : Table) (p : Pool) (len : ℕ) where
   sound-is : looked_at (rest_of t p len) ≡ is_sound t p len
   unfolding rest_of
@@ -43,6 +43,7 @@ module _ (t : Table) (p : Pool) (len : ℕ) where
 
   listed_of : (r : Rest) → r ≡ rest_of t p len → looked_at r ≡ true → Listed (ring_of t) (ids_of t)
   listed_of r e l = (sound t p (is-valid t p len (sym sound-is ∙ rw (← e) l))).listed
+
 module _ (t : Table) (p : Pool) (len k : ℕ) where
   by-rest : answered (rest_of t p len) t k ≡ holding_of t p len k
   unfolding rest_of holding_of

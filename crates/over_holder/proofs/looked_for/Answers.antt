@@ -1,5 +1,4 @@
 -- `over_holder::looked_for` meets its contract: 1 shifted by M is 2^M, and a key below it has 32 bits. Assumes nothing.
-use borrow.Author.Rules.{rules}
 use borrow.Author.Tests.{lt-ltb, le-ltb}
 use mathlib.Core.Path.{◌≡◌, ◌∙◌}
 use mathlib.Core.Bool.{Bool, true, false}

@@ -1,5 +1,4 @@
 -- `over_water::kept` meets its contract: the count grows where the place is behind the last. Assumes nothing.
-use borrow.Author.Rules.{rules}
 use borrow.Author.Tests.{le-leb, lt-leb}
 use native.Mathlib.Numerals.{add-one}
 use Rattle.water.specs.Water.{kept_at}

@@ -1,5 +1,4 @@
 -- `over_water::look_up` meets its contract: what is held of a key and month is at its seat, where that is not behind the last. Assumes nothing.
-use borrow.Author.Rules.{rules}
 use mathlib.Core.Path.{◌≡◌, sym, ◌∙◌, ap}
 use Prim.Native.Nat.{ℕ, ◌<◌, ◌≤◌}
 use native.Mathlib.Omega.{arith}

@@ -1,5 +1,4 @@
 -- `over_water::place` meets its contract: it asks who holds the key, and goes by the answer. Assumes nothing.
-use borrow.Author.Rules.{rules}
 use mathlib.Core.Path.{◌∙◌}
 use Rattle.water.specs.Water.{place_of}
 use Rattle.over_water.proofs.place.Goals as goal

@@ -1,6 +1,5 @@
 -- `over_water::place_by` meets its contract: the holding that was matched decides the definition's case, and the test of the record its
 -- answer. Assumes nothing.
-use borrow.Author.Rules.{rules}
 use mathlib.Core.Path.{◌≡◌, sym, ◌∙◌}
 use mathlib.Core.Bool.{true, false}
 use Prim.Native.Nat.{ℕ}

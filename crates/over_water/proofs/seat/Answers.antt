@@ -1,11 +1,9 @@
 -- The answers. Assumes nothing.
-use borrow.Author.Rules.{rules}
 use mathlib.Core.Path.{◌≡◌, sym, ◌∙◌}
-use Prim.Native.Nat.{◌-◌, ◌≤◌}
+use Prim.Native.Nat.{◌≤◌}
 use native.Mathlib.Omega.{arith}
-use Rattle.water.specs.Water.{held_of}
 use Rattle.water.proofs.Seats.{count_most}
-use Rattle.over_water.proofs.Places.{Full, full, Passed, none_passed, passed-all, found, passed-more}
+use Rattle.over_water.proofs.Places.{Full, full, none_passed, passed-all, found, passed-more}
 use Rattle.over_water.proofs.seat.Goals as goal
 
 pub loop-i-init : goal.loop-i-init
@@ -29,12 +27,11 @@ overflow_add-i c = let low : c.held_count-n.result ≤ 512 = rw c.held_count-n.e
     omega (arith, low)
 
 pub loop-i-preserved : goal.loop-i-preserved
-loop-i-preserved c = let whole : Full c.args.s = full c.args.s _ c.well_formed.0 in
-    (
-      omega arith,
-      passed-more _ (whole) _ c.loop-i.i c.loop-i.invariant.1 (omega (arith, c.held_count-n.ensures))
-          (sym c.alike.ensures ∙ c.if-alike.false),
-    )
+loop-i-preserved c = let whole : Full c.args.s = full c.args.s _ c.well_formed.0 in (
+  omega arith,
+  passed-more _ (whole) _ c.loop-i.i c.loop-i.invariant.1 (omega (arith, c.held_count-n.ensures))
+      (sym c.alike.ensures ∙ c.if-alike.false),
+)
 
 pub returns : goal.returns
 returns c = let whole : Full c.args.s = full c.args.s _ c.well_formed.0 in

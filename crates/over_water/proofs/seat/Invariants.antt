@@ -1,12 +1,8 @@
 -- `over_water::seat` meets its contract. The invariant: none of the first i is alike, so the seat is behind them. The measure: the places
 -- left. Assumes nothing.
-use borrow.Author.Rules.{rules}
-use mathlib.Core.Path.{◌≡◌, sym, ◌∙◌}
 use Prim.Native.Nat.{◌-◌, ◌≤◌}
-use native.Mathlib.Omega.{arith}
 use Rattle.water.specs.Water.{held_of}
-use Rattle.water.proofs.Seats.{count_most}
-use Rattle.over_water.proofs.Places.{Full, full, Passed, none_passed, passed-all, found, passed-more}
+use Rattle.over_water.proofs.Places.{Passed}
 use Rattle.over_water.proofs.seat.Given as goal
 
 abbrev pub invariant-loop-i : goal.invariant-loop-i

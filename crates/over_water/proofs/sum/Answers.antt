@@ -1,13 +1,11 @@
 -- The answers. Assumes nothing.
-use borrow.Author.Rules.{rules}
-use Prim.Native.Nat.{◌+◌, ◌-◌, ◌^◌, ◌≤◌}
+use Prim.Native.Nat.{◌^◌, ◌≤◌}
 use native.Mathlib.Omega.{arith}
 use lib.IntN.{nat_abs, ◌+ℤ◌}
 use mir.Syntax.{w64}
 use mir.Val.{to_z}
-use Rattle.water.specs.Water.{held_of}
 use Rattle.water.proofs.Seats.{count_most}
-use Rattle.over_water.proofs.Places.{Full, full, Summed, none-summed, sum_fits, summed-more, summed-all}
+use Rattle.over_water.proofs.Places.{Full, full, none-summed, sum_fits, summed-more, summed-all}
 use Rattle.over_water.proofs.Signed.{stored}
 use Rattle.over_water.proofs.sum.Goals as goal
 
@@ -24,7 +22,7 @@ bounds-s-i c = let low : c.held_count-n.result ≤ 512 = rw c.held_count-n.ensur
 
 pub overflow_add-out : goal.overflow_add-out
 overflow_add-out c = let whole : Full c.args.s = full c.args.s _ c.well_formed.0 in
-    let d = c.difference-out.ensures in 
+    let d = c.difference-out.ensures in
     rw (stored c.difference-out.result (omega (arith, d.1)))
     (sum_fits _ (whole) c.loop-i.i _ _ c.loop-i.invariant.1 (omega (arith, c.held_count-n.ensures)) d.0 d.1)
 
@@ -35,7 +33,7 @@ overflow_add-i c = let low : c.held_count-n.result ≤ 512 = rw c.held_count-n.e
 pub loop-i-preserved : goal.loop-i-preserved
 loop-i-preserved c = let low : c.held_count-n.result ≤ 512 = rw c.held_count-n.ensures (count_most c.args.s.count) in
     let whole : Full c.args.s = full c.args.s _ c.well_formed.0 in
-    let d = c.difference-out.ensures in 
+    let d = c.difference-out.ensures in
     let z = to_z w64 c.loop-i.out-bits +ℤ c.difference-out.result in
     let next = summed-more _ (whole) c.loop-i.i _ _ c.loop-i.invariant.1 (omega (arith, c.held_count-n.ensures)) d.0 d.1 in
     let fits : nat_abs z ≤ 2 ^ 60 = omega (arith, next.small, low) in

@@ -1,5 +1,4 @@
 -- `parts::quiet_plan` meets its contract. Assumes nothing.
-use borrow.Author.Rules.{rules}
 use Rattle.parts.proofs.quiet_plan.Goals as goal
 
 pub returns : goal.returns

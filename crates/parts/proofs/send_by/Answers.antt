@@ -1,5 +1,4 @@
 -- `parts::send_by` meets its contract. Assumes nothing.
-use borrow.Author.Rules.{rules}
 use Rattle.parts.proofs.send_by.Goals as goal
 
 pub returns : goal.returns

@@ -1,5 +1,4 @@
 -- `pick::ahead` meets its contract: each way compares the two numbers that its definition compares. Assumes nothing.
-use borrow.Author.Rules.{rules}
 use mathlib.Core.List.{List}
 use Prim.Native.Nat.{ℕ, ◌<◌}
 use Rattle.rules.specs.InnerAsks.{Keyed, Inside}

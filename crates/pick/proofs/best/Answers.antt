@@ -1,13 +1,11 @@
 -- The answers. Assumes nothing.
-use borrow.Author.Rules.{rules}
 use mathlib.Core.Path.{◌≡◌, sym, ◌∙◌, subst}
 use mathlib.Core.Bool.{Bool}
-use Prim.Native.Nat.{ℕ, ◌^◌, ◌<◌, ◌≤◌}
-use Rattle.marks.specs.Marks.{has, lowest_of, size_of}
+use Prim.Native.Nat.{ℕ}
+use Rattle.marks.specs.Marks.{has, lowest_of}
 use Rattle.marks.specs.declared.Found.{Found}
-use Rattle.marks.specs.declared.Found.TheVariants.{At, Nothing}
+use Rattle.marks.specs.declared.Found.TheVariants.{At}
 use Rattle.rules.specs.InnerAsks.{Below}
-use Rattle.rules.specs.Pick.{ahead_of}
 use Rattle.rules_laws.proofs.Best.{best-below, below-le}
 use Rattle.pick.proofs.Laws.{Looked, look-begin, look-end, look-low, look-more, look-less}
 use Rattle.pick.proofs.best.Goals as goal
@@ -21,19 +19,19 @@ members-init c = look-begin _ _ c.ranges.set.fits
 
 pub better-found-requires : goal.better-found-requires
 better-found-requires c = let taken : lowest_of c.members.rest ≡ At c.in-At.s = sym c.lowest-next.ensures ∙ c.in-At.is in
-    let k = c.members.invariant in 
+    let k = c.members.invariant in
     (c.requires, look-low _ _ _ _ k _ (taken), found-low _ _ _ _ k)
 
 pub members-smaller : goal.members-smaller
 members-smaller c = let taken : lowest_of c.members.rest ≡ At c.in-At.s = sym c.lowest-next.ensures ∙ c.in-At.is in
-    let k = c.members.invariant in 
+    let k = c.members.invariant in
     rw c.removed-rest.ensures (look-less _ _ _ _ k _ (taken))
 
 pub members-preserved : goal.members-preserved
 members-preserved c = let taken : lowest_of c.members.rest ≡ At c.in-At.s = sym c.lowest-next.ensures ∙ c.in-At.is in
-    let k = c.members.invariant in 
+    let k = c.members.invariant in
     rw (c.removed-rest.ensures, c.better-found.ensures) (look-more _ _ _ _ k _ (taken))
 
 pub returns : goal.returns
-returns c = let k = c.members.invariant in 
+returns c = let k = c.members.invariant in
     look-end _ _ _ _ k (sym c.lowest-next.ensures ∙ c.in_default.is)

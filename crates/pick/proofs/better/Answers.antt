@@ -1,10 +1,9 @@
 -- `pick::better` meets its contract: what was found before decides the definition's case. Assumes nothing.
-use borrow.Author.Rules.{rules}
 use mathlib.Core.Path.{◌≡◌, sym, ◌∙◌, subst}
 use mathlib.Core.Bool.{Bool, true, false}
 use Prim.Native.Nat.{ℕ, ◌^◌, ◌<◌}
 use Rattle.marks.specs.declared.Found.{Found}
-use Rattle.marks.specs.declared.Found.TheVariants.{At, Nothing}
+use Rattle.marks.specs.declared.Found.TheVariants.{At}
 use Rattle.rules.specs.InnerAsks.{Below}
 use Rattle.rules.specs.Pick.{ahead_of, better_of}
 use Rattle.pick.proofs.better.Goals as goal
@@ -22,11 +21,11 @@ pub ahead-requires : goal.ahead-requires
 ahead-requires c = (c.requires.0, c.requires.1, below _ _ 64 c.in-At.is c.requires.2)
 
 pub returns-then-ahead : goal.returns-then-ahead
-returns-then-ahead c = let a = c.args in 
+returns-then-ahead c = let a = c.args in
     took (ahead_of a.w (2 ^ a.m) a.k a.ids.now) a.found c.in-At.b a.s c.in-At.is (sym c.ahead.ensures ∙ c.if-ahead.true)
 
 pub returns-else-ahead : goal.returns-else-ahead
-returns-else-ahead c = let a = c.args in 
+returns-else-ahead c = let a = c.args in
     kept (ahead_of a.w (2 ^ a.m) a.k a.ids.now) a.found c.in-At.b a.s c.in-At.is (sym c.ahead.ensures ∙ c.if-ahead.false)
 
 pub returns-in-Nothing : goal.returns-in-Nothing

@@ -1,5 +1,4 @@
 -- `plan_lease::broadcast_plan` meets its contract. Assumes nothing.
-use borrow.Author.Rules.{rules}
 use Rattle.take.specs.Take.{broadcast_plan}
 use Rattle.plan_lease.proofs.broadcast_plan.Goals as goal
 

@@ -1,5 +1,4 @@
 -- `plan_lease::grant_plan` meets its contract: one arm for a neighbour, one for any other node. Assumes nothing.
-use borrow.Author.Rules.{rules}
 use Rattle.plan_lease.proofs.grant_plan.Goals as goal
 
 pub returns-then-near : goal.returns-then-near

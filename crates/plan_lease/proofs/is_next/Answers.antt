@@ -1,5 +1,4 @@
 -- `plan_lease::is_next` meets its contract. Assumes nothing.
-use borrow.Author.Rules.{rules}
 use Rattle.plan_lease.proofs.is_next.Goals as goal
 
 pub returns : goal.returns

@@ -1,5 +1,4 @@
 -- `plan_lease::lease_after` meets its contract: the test of the code is the definition's. Assumes nothing.
-use borrow.Author.Rules.{rules}
 use Rattle.plan_lease.proofs.lease_after.Goals as goal
 
 pub returns-then-flag-is_next : goal.returns-then-flag-is_next

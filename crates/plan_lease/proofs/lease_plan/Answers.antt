@@ -1,5 +1,4 @@
 -- `plan_lease::lease_plan` meets its contract. Assumes nothing.
-use borrow.Author.Rules.{rules}
 use Rattle.plan.specs.Actions.{lease_plan}
 use Rattle.plan_lease.proofs.lease_plan.Goals as goal
 

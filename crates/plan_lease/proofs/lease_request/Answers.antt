@@ -1,5 +1,4 @@
 -- `plan_lease::lease_request` meets its contract. Assumes nothing.
-use borrow.Author.Rules.{rules}
 use Rattle.plan_lease.proofs.lease_request.Goals as goal
 
 pub returns : goal.returns

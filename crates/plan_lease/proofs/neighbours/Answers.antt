@@ -1,5 +1,4 @@
 -- `plan_lease::neighbours` meets its contract. Assumes nothing.
-use borrow.Author.Rules.{rules}
 use Rattle.plan.specs.Actions.{is_neighbour}
 use Rattle.plan_lease.proofs.neighbours.Goals as goal
 

@@ -1,5 +1,4 @@
 -- `plan_lease::plan_grant_expired` meets its contract: its tests are the definition's, in the same order. Assumes nothing.
-use borrow.Author.Rules.{rules}
 use Rattle.plan.specs.Actions.{plan_grant_expired}
 use Rattle.plan_lease.proofs.plan_grant_expired.Goals as goal
 

@@ -1,5 +1,4 @@
 -- `plan_lease::plan_request_lease` meets its contract: its tests are the definition's, in the same order. Assumes nothing.
-use borrow.Author.Rules.{rules}
 use Rattle.plan.specs.Actions.{plan_request_lease}
 use Rattle.plan_lease.proofs.plan_request_lease.Goals as goal
 

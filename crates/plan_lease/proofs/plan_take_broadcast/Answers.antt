@@ -1,5 +1,4 @@
 -- `plan_lease::plan_take_broadcast` meets its contract: its tests are the definition's, in the same order. Assumes nothing.
-use borrow.Author.Rules.{rules}
 use borrow.Author.Tests.{eq-eqb, ne_eqb}
 use Rattle.take.specs.Take.{plan_take_broadcast}
 use Rattle.plan_lease.proofs.plan_take_broadcast.Goals as goal

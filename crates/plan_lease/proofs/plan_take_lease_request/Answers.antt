@@ -1,5 +1,4 @@
 -- `plan_lease::plan_take_lease_request` meets its contract: its tests are the definition's, in the same order. Assumes nothing.
-use borrow.Author.Rules.{rules}
 use Rattle.take.specs.Take.{plan_take_lease_request}
 use Rattle.plan_lease.proofs.plan_take_lease_request.Goals as goal
 

@@ -1,5 +1,4 @@
 -- `plan_lease::unless_in` meets its contract. Assumes nothing.
-use borrow.Author.Rules.{rules}
 use Rattle.plan_lease.proofs.unless_in.Goals as goal
 
 pub returns-then-is_in : goal.returns-then-is_in

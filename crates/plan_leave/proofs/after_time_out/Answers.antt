@@ -1,5 +1,4 @@
 -- `plan_leave::after_time_out` meets its contract: the test of the code is the definition's. Assumes nothing.
-use borrow.Author.Rules.{rules}
 use Rattle.plan_leave.proofs.after_time_out.Goals as goal
 
 pub returns-then-is_in-is_member : goal.returns-then-is_in-is_member

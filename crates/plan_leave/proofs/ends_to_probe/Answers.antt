@@ -1,5 +1,4 @@
 -- `plan_leave::ends_to_probe` meets its contract: its tests are the definition's, in the same order. Assumes nothing.
-use borrow.Author.Rules.{rules}
 use Rattle.plan.specs.Leave.{ends_to_probe}
 use Rattle.plan_leave.proofs.ends_to_probe.Goals as goal
 

@@ -1,5 +1,4 @@
 -- `plan_leave::is_member` meets its contract. Assumes nothing.
-use borrow.Author.Rules.{rules}
 use Rattle.plan_leave.proofs.is_member.Goals as goal
 
 pub returns : goal.returns

@@ -1,5 +1,4 @@
 -- `plan_leave::lacks_both` meets its contract. Assumes nothing.
-use borrow.Author.Rules.{rules}
 use Rattle.plan_leave.proofs.lacks_both.Goals as goal
 
 pub returns : goal.returns

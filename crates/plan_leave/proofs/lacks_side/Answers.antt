@@ -1,5 +1,4 @@
 -- `plan_leave::lacks_side` meets its contract. Assumes nothing.
-use borrow.Author.Rules.{rules}
 use Rattle.plan_leave.proofs.lacks_side.Goals as goal
 
 pub returns : goal.returns

@@ -1,5 +1,4 @@
 -- `plan_leave::last_end` meets its contract. Assumes nothing.
-use borrow.Author.Rules.{rules}
 use borrow.Author.Tests.{eq-eqb, ne_eqb}
 use Rattle.plan.specs.Leave.{last_end}
 use Rattle.plan_leave.proofs.last_end.Goals as goal

@@ -1,5 +1,4 @@
 -- `plan_leave::plan_declare_dead` meets its contract: its tests are the definition's, in the same order. Assumes nothing.
-use borrow.Author.Rules.{rules}
 use Rattle.plan.specs.Leave.{plan_declare_dead}
 use Rattle.plan_leave.proofs.plan_declare_dead.Goals as goal
 

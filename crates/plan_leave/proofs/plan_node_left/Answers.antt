@@ -1,5 +1,4 @@
 -- `plan_leave::plan_node_left` meets its contract: its test is the definition's. Assumes nothing.
-use borrow.Author.Rules.{rules}
 use Rattle.plan.specs.Leave.{plan_node_left}
 use Rattle.plan_leave.proofs.plan_node_left.Goals as goal
 

@@ -1,5 +1,4 @@
 -- `plan_leave::plan_probe_time_out` meets its contract: its tests are the definition's, in the same order. Assumes nothing.
-use borrow.Author.Rules.{rules}
 use Rattle.plan.specs.Leave.{plan_probe_time_out}
 use Rattle.plan_leave.proofs.plan_probe_time_out.Goals as goal
 

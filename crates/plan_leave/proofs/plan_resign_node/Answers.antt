@@ -1,5 +1,4 @@
 -- `plan_leave::plan_resign_node` meets its contract: its tests are the definition's, in the same order. Assumes nothing.
-use borrow.Author.Rules.{rules}
 use borrow.Author.Tests.{eq-eqb, ne_eqb}
 use Rattle.plan.specs.Leave.{plan_resign_node}
 use Rattle.plan_leave.proofs.plan_resign_node.Goals as goal

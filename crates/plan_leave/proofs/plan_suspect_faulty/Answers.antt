@@ -1,5 +1,4 @@
 -- `plan_leave::plan_suspect_faulty` meets its contract: its tests are the definition's, in the same order. Assumes nothing.
-use borrow.Author.Rules.{rules}
 use Rattle.plan.specs.Leave.{plan_suspect_faulty}
 use Rattle.plan_leave.proofs.plan_suspect_faulty.Goals as goal
 

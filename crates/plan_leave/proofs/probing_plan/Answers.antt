@@ -1,5 +1,4 @@
 -- `plan_leave::probing_plan` meets its contract. Assumes nothing.
-use borrow.Author.Rules.{rules}
 use Rattle.plan_leave.proofs.probing_plan.Goals as goal
 
 pub returns : goal.returns

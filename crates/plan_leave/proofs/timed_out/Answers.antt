@@ -1,5 +1,4 @@
 -- `plan_leave::timed_out` meets its contract. Assumes nothing.
-use borrow.Author.Rules.{rules}
 use Rattle.plan_leave.proofs.timed_out.Goals as goal
 
 pub returns : goal.returns

@@ -1,5 +1,4 @@
 -- `plan_leave::without_member` meets its contract. Assumes nothing.
-use borrow.Author.Rules.{rules}
 use Rattle.plan_leave.proofs.without_member.Goals as goal
 
 pub returns : goal.returns

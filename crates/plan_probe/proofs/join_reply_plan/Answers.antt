@@ -1,5 +1,4 @@
 -- `plan_probe::join_reply_plan` meets its contract. Assumes nothing.
-use borrow.Author.Rules.{rules}
 use Rattle.plan_probe.proofs.join_reply_plan.Goals as goal
 
 pub returns : goal.returns

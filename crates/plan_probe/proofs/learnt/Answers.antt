@@ -1,5 +1,4 @@
 -- `plan_probe::learnt` meets its contract. Assumes nothing.
-use borrow.Author.Rules.{rules}
 use Rattle.plan_probe.proofs.learnt.Goals as goal
 
 pub returns : goal.returns

@@ -1,5 +1,4 @@
 -- `plan_probe::news` meets its contract. Assumes nothing.
-use borrow.Author.Rules.{rules}
 use Rattle.take.specs.Take.{probes2}
 use Rattle.plan_probe.proofs.news.Goals as goal
 

@@ -1,5 +1,4 @@
 -- `plan_probe::plan_take_join_reply` meets its contract: its tests are the definition's, in the same order. Assumes nothing.
-use borrow.Author.Rules.{rules}
 use borrow.Author.Tests.{eq-eqb, ne_eqb}
 use Rattle.take.specs.Take.{plan_take_join_reply}
 use Rattle.plan_probe.proofs.plan_take_join_reply.Goals as goal

@@ -1,5 +1,4 @@
 -- `plan_probe::probe_plan` meets its contract. Assumes nothing.
-use borrow.Author.Rules.{rules}
 use Rattle.take.specs.Take.{probe_plan_of}
 use Rattle.plan_probe.proofs.probe_plan.Goals as goal
 

@@ -1,5 +1,4 @@
 -- `plan_probe::probes` meets its contract. Assumes nothing.
-use borrow.Author.Rules.{rules}
 use Rattle.take.specs.Take.{probes_of}
 use Rattle.plan_probe.proofs.probes.Goals as goal
 

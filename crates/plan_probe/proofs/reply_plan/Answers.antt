@@ -1,5 +1,4 @@
 -- `plan_probe::reply_plan` meets its contract. Assumes nothing.
-use borrow.Author.Rules.{rules}
 use Rattle.take.specs.Take.{reply_plan_of}
 use Rattle.plan_probe.proofs.reply_plan.Goals as goal
 

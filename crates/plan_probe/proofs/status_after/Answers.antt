@@ -1,5 +1,4 @@
 -- `plan_probe::status_after` meets its contract: the test of the code is the definition's. Assumes nothing.
-use borrow.Author.Rules.{rules}
 use Rattle.take.specs.Take.{status_after_reply}
 use Rattle.plan_probe.proofs.status_after.Goals as goal
 

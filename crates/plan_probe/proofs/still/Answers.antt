@@ -1,5 +1,4 @@
 -- `plan_probe::still` meets its contract. Assumes nothing.
-use borrow.Author.Rules.{rules}
 use Rattle.plan_probe.proofs.still.Goals as goal
 
 pub returns : goal.returns

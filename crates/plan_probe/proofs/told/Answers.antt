@@ -1,5 +1,4 @@
 -- `plan_probe::told` meets its contract. Assumes nothing.
-use borrow.Author.Rules.{rules}
 use Rattle.plan_probe.proofs.told.Goals as goal
 
 pub returns : goal.returns

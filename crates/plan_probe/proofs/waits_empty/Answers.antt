@@ -1,5 +1,4 @@
 -- `plan_probe::waits_empty` meets its contract. Assumes nothing.
-use borrow.Author.Rules.{rules}
 use Rattle.plan_probe.proofs.waits_empty.Goals as goal
 
 pub returns : goal.returns

@@ -1,5 +1,4 @@
 -- `plan_route::forward` meets its contract: one arm of the definition for each kind of hop. Assumes nothing.
-use borrow.Author.Rules.{rules}
 use Rattle.plan_route.proofs.forward.Goals as goal
 
 pub returns-in_default : goal.returns-in_default

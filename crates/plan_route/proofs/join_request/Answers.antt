@@ -1,5 +1,4 @@
 -- `plan_route::join_request` meets its contract. Assumes nothing.
-use borrow.Author.Rules.{rules}
 use Rattle.plan_route.proofs.join_request.Goals as goal
 
 pub returns : goal.returns

@@ -1,5 +1,4 @@
 -- `plan_route::lookup_after` meets its contract. Assumes nothing.
-use borrow.Author.Rules.{rules}
 use Rattle.plan_route.proofs.lookup_after.Goals as goal
 
 pub returns : goal.returns

@@ -1,5 +1,4 @@
 -- `plan_route::lookup_of` meets its contract. Assumes nothing.
-use borrow.Author.Rules.{rules}
 use Rattle.plan_route.proofs.lookup_of.Goals as goal
 
 pub returns : goal.returns

@@ -1,5 +1,4 @@
 -- `plan_route::no_legal_route` meets its contract. Assumes nothing.
-use borrow.Author.Rules.{rules}
 use Rattle.plan_route.proofs.no_legal_route.Goals as goal
 
 pub returns : goal.returns

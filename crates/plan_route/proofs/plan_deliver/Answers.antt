@@ -1,6 +1,4 @@
 -- `plan_route::plan_deliver` meets its contract: its tests are the definition's, in the same order. Assumes nothing.
-use borrow.Author.Rules.{rules}
-use borrow.Author.Tests.{eqb-true, not-false}
 use Rattle.take.specs.Take.{plan_deliver}
 use Rattle.plan_route.proofs.plan_deliver.Goals as goal
 

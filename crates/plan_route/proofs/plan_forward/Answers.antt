@@ -1,7 +1,5 @@
 -- `plan_route::plan_forward` meets its contract: its tests are the definition's, in the same order. Assumes nothing.
 use native.Mathlib.Omega.{arith}
-use borrow.Author.Rules.{rules}
-use borrow.Author.Tests.{eqb-true, not-false}
 use Rattle.take.specs.Take.{plan_forward}
 use Rattle.plan_route.proofs.plan_forward.Goals as goal
 

@@ -1,5 +1,4 @@
 -- `plan_route::plan_join` meets its contract: its tests are the definition's, in the same order. Assumes nothing.
-use borrow.Author.Rules.{rules}
 use Rattle.plan.specs.Actions.{plan_join}
 use Rattle.plan_route.proofs.plan_join.Goals as goal
 

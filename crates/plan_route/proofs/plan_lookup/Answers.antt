@@ -1,5 +1,4 @@
 -- `plan_route::plan_lookup` meets its contract. Assumes nothing.
-use borrow.Author.Rules.{rules}
 use Rattle.plan.specs.Actions.{plan_lookup}
 use Rattle.plan_route.proofs.plan_lookup.Goals as goal
 

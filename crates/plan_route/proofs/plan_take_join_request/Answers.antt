@@ -1,5 +1,4 @@
 -- `plan_route::plan_take_join_request` meets its contract: its tests are the definition's, in the same order. Assumes nothing.
-use borrow.Author.Rules.{rules}
 use Rattle.take.specs.Take.{plan_take_join_request}
 use Rattle.plan_route.proofs.plan_take_join_request.Goals as goal
 

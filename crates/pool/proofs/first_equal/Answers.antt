@@ -1,8 +1,7 @@
 -- The answers. Assumes nothing.
-use Prim.Native.Nat.{◌<◌, ◌≤◌, ◌-◌}
+use Prim.Native.Nat.{◌<◌}
 use mathlib.Core.Path.{◌≡◌, refl, sym, ◌∙◌, ap}
 use native.Mathlib.Omega.{arith}
-use borrow.Author.Rules.{rules}
 use lib.Dec.{lit≤}
 use lib.ListN.{get_or, length}
 use Rattle.rules.specs.Mail.{fields_of}
@@ -10,7 +9,7 @@ use Rattle.rules.specs.Pool.{blank, waiting}
 use Rattle.pool_laws.specs.InnerSending.{left_of}
 use Rattle.pool_laws.proofs.Laid.{left-length}
 use Rattle.pool_laws.proofs.Places.{waiting-counted, left-few, left-low-at, left-read}
-use Rattle.pool_laws.proofs.Places.{Same, none-same, same_more, Passed, none_passed, passed-more, missed, met}
+use Rattle.pool_laws.proofs.Places.{none-same, same_more, none_passed, passed-more, missed, met}
 use Rattle.pool.proofs.first_equal.Goals as goal
 
 pub places-init : goal.places-init
@@ -38,8 +37,8 @@ pub places-preserved : goal.places-preserved
 places-preserved c = let counted : length (waiting c.args.p) ≡ c.args.p.count = waiting-counted c.args.p _ c.well_formed.0 c.requires in
     let row : c.fields-a.result ≡ fields_of (get_or (left_of c.args.p c.args.gone) c.places.at blank) = c.fields-a.ensures
     ∙ ap fields_of (left-read c.args.p c.args.gone _ _ _ (counted) c.left_count-n.ensures c.if-n-at.false c.place_of-place.ensures) in
-    let k = c.places in 
-    let v = c.fields.invariant in 
+    let k = c.places in
+    let v = c.fields.invariant in
     (omega arith, rw v.0 (passed-more _ _ _ _ _ (row) (omega arith) c.if-a-f.true k.invariant.1))
 
 pub fields-preserved : goal.fields-preserved
@@ -54,7 +53,7 @@ pub returns-after-fields : goal.returns-after-fields
 returns-after-fields c = let counted : length (waiting c.args.p) ≡ c.args.p.count = waiting-counted c.args.p _ c.well_formed.0 c.requires in
     let row : c.fields-a.result ≡ fields_of (get_or (left_of c.args.p c.args.gone) c.places.at blank) = c.fields-a.ensures
     ∙ ap fields_of (left-read c.args.p c.args.gone _ _ _ (counted) c.left_count-n.ensures c.if-n-at.false c.place_of-place.ensures) in
-    let v = c.fields.invariant in 
+    let v = c.fields.invariant in
     let long = left-length c.args.p c.args.gone (counted) in
-    let row-of-m = c.fields-b.ensures in 
+    let row-of-m = c.fields-b.ensures in
     rw v.0 (sym (met _ _ _ row-of-m _ _ _ (omega arith) c.places.invariant.1 (row) (omega arith) v.2))

@@ -1,7 +1,6 @@
 -- The answers. Assumes nothing.
-use borrow.Author.Rules.{rules}
 use mathlib.Core.Path.{◌≡◌, sym, ◌∙◌, ap}
-use Prim.Native.Nat.{ℕ, ◌<◌, ◌-◌, ◌≤◌}
+use Prim.Native.Nat.{ℕ, ◌<◌}
 use native.Mathlib.Omega.{arith}
 use lib.ListN.{take, length}
 use lib.Seq.{take_all}
@@ -32,8 +31,8 @@ bounds-p-place c = let counted : length (waiting c.args.p) ≡ c.args.p.count = 
 
 pub loop-at-preserved : goal.loop-at-preserved
 loop-at-preserved c = let counted : length (waiting c.args.p) ≡ c.args.p.count = waiting-counted c.args.p _ c.well_formed.0 c.requires in
-    let l = c.loop-at in 
-    let m = c.args.m in 
+    let l = c.loop-at in
+    let m = c.args.m in
     let q = message_at c.args.p c.place_of-place.result in
     let xs = left_of c.args.p c.args.gone in
     let long = left-length c.args.p c.args.gone (counted) in

@@ -1,5 +1,4 @@
 -- `pool::held_with` meets its contract. Assumes nothing.
-use borrow.Author.Rules.{rules}
 use mathlib.Core.Path.{sym, ◌∙◌, ap}
 use Rattle.rules.specs.Mail.{alike}
 use Rattle.pool_laws.proofs.Sending.{held-with-yes, held-with-no}

@@ -1,9 +1,7 @@
 -- The answers. Assumes nothing.
-use borrow.Author.Rules.{rules}
 use mathlib.Core.Path.{sym, ◌∙◌}
-use Prim.Native.Nat.{◌-◌, ◌≤◌}
 use native.Mathlib.Omega.{arith}
-use Rattle.pool_laws.proofs.Places.{places-length, is_join, join-some, Unasked, unasked-none, unasked-more, unasked-end, asked}
+use Rattle.pool_laws.proofs.Places.{places-length, is_join, join-some, unasked-none, unasked-more, unasked-end, asked}
 use Rattle.pool.proofs.join_waits.Goals as goal
 
 pub loop-at-init : goal.loop-at-init

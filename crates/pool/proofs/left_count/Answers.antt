@@ -1,5 +1,4 @@
 -- `pool::left_count` meets its contract. Assumes nothing.
-use borrow.Author.Rules.{rules}
 use borrow.Author.Tests.{lt-ltb, le-ltb}
 use Rattle.pool_laws.specs.InnerSending.{left_count}
 use Rattle.pool.proofs.left_count.Goals as goal

@@ -1,6 +1,5 @@
 -- `pool::mix` meets its contract. Assumes nothing.
 use mathlib.Core.Path.{refl}
-use borrow.Author.Rules.{rules}
 use Rattle.pool_laws.specs.InnerMix.{mix_of}
 use Rattle.pool.proofs.mix.Goals as goal
 

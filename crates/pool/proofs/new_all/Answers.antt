@@ -1,12 +1,11 @@
 -- `pool::new_all` meets its contract: nothing to send, no first message, or one that counts too. Assumes nothing.
-use borrow.Author.Rules.{rules}
 use native.Mathlib.Omega.{arith}
 use Rattle.pool_laws.specs.InnerSending.{left_of}
 use Rattle.pool_laws.proofs.Fresh.{slot-low, all_none, all-alone, all_after}
 use Rattle.pool.proofs.new_all.Goals as goal
 
 pub returns-then-set-eq0 : goal.returns-then-set-eq0
-returns-then-set-eq0 c = let a = c.args in 
+returns-then-set-eq0 c = let a = c.args in
     all_none (left_of a.p a.gone) a.first a.one a.m _ c.if-set-eq0.true
 
 pub returns-in_default : goal.returns-in_default

@@ -1,5 +1,4 @@
 -- `pool::new_one` meets its contract: no slot, an equal that is left, or a new message. Assumes nothing.
-use borrow.Author.Rules.{rules}
 use mathlib.Core.Path.{sym, ◌∙◌, ap}
 use native.Mathlib.Omega.{arith}
 use Rattle.rules.specs.Mail.{waits}

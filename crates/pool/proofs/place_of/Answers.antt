@@ -1,5 +1,4 @@
 -- `pool::place_of` meets its contract. Assumes nothing.
-use borrow.Author.Rules.{rules}
 use borrow.Author.Tests.{lt-ltb, le-ltb}
 use Rattle.pool_laws.specs.InnerSending.{place_of}
 use Rattle.pool.proofs.place_of.Goals as goal

@@ -1,9 +1,7 @@
 -- The answers. Assumes nothing.
-use borrow.Author.Rules.{rules}
 use mathlib.Core.Path.{sym, ◌∙◌}
-use Prim.Native.Nat.{◌-◌, ◌≤◌}
 use native.Mathlib.Omega.{arith}
-use Rattle.pool_laws.proofs.Places.{places-length, is_reply_to, reply-some, Unasked, unasked-none, unasked-more, unasked-end, asked}
+use Rattle.pool_laws.proofs.Places.{places-length, is_reply_to, reply-some, unasked-none, unasked-more, unasked-end, asked}
 use Rattle.pool.proofs.reply_waits.Goals as goal
 
 pub loop-at-init : goal.loop-at-init

@@ -1,10 +1,7 @@
 -- `pool::reply_waits` meets its contract. The invariant: no place below `at` has a JoinReply to i. The measure: the messages left.
 -- Assumes nothing.
-use borrow.Author.Rules.{rules}
-use mathlib.Core.Path.{sym, ◌∙◌}
 use Prim.Native.Nat.{◌-◌, ◌≤◌}
-use native.Mathlib.Omega.{arith}
-use Rattle.pool_laws.proofs.Places.{places-length, is_reply_to, reply-some, Unasked, unasked-none, unasked-more, unasked-end, asked}
+use Rattle.pool_laws.proofs.Places.{is_reply_to, Unasked}
 use Rattle.pool.proofs.reply_waits.Given as goal
 
 abbrev pub invariant-loop-at : goal.invariant-loop-at

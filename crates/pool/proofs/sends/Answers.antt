@@ -1,5 +1,4 @@
 -- `pool::sends` meets its contract: where the first message goes decides the definition's case. Assumes nothing.
-use borrow.Author.Rules.{rules}
 use mathlib.Core.Path.{sym, ap}
 use Rattle.marks.specs.declared.Found.{Found}
 use Rattle.pool_laws.specs.InnerSending.{sends_to}

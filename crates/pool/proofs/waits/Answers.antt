@@ -1,5 +1,4 @@
 -- `pool::waits` meets its contract: an equal waits exactly if the search met one. Assumes nothing.
-use borrow.Author.Rules.{rules}
 use mathlib.Core.Path.{sym, ◌∙◌, ap}
 use Rattle.rules.specs.Mail.{is_found, waits}
 use Rattle.pool.proofs.waits.Goals as goal

@@ -1,13 +1,10 @@
 -- The answers. Assumes nothing.
-use borrow.Author.Rules.{rules}
 use mathlib.Core.Path.{◌≡◌, sym, ◌∙◌}
-use mathlib.Core.Logic.{⊎_elim}
-use Prim.Native.Nat.{◌-◌, ◌<◌, ◌≤◌}
+use Prim.Native.Nat.{◌<◌}
 use native.Mathlib.Omega.{arith}
-use borrow.Author.Tests.{not-true, not-false}
 use lib.ListN.{length}
 use Rattle.pool_laws.proofs.Places.{places-length}
-use Rattle.pool_laws.proofs.Probes.{Kept, kept-none, kept-took, kept-passed, kept-end}
+use Rattle.pool_laws.proofs.Probes.{kept-none, kept-took, kept-passed, kept-end}
 use Rattle.pool.proofs.without_probes.Goals as goal
 use Rattle.pool.proofs.without_probes.Goals.{then-not-is_probe_from, else-not-is_probe_from}
 
@@ -20,8 +17,8 @@ loop-at-preserved c = let long = places-length c.args.p _ c.well_formed.0 in
     let is = sym c.is_probe_from.ensures in
     let few : c.loop-at.count < 256 = omega arith in
     elim c.if-not-is_probe_from.branch [
-      then-not-is_probe_from w ↦ rw (w.places-is, w.count-is) (omega arith, omega arith, kept-took _ _ _ low c.loop-at.invariant.2 few (is ∙ w.if-not-is_probe_from.true))
-    | else-not-is_probe_from w ↦ rw (w.places-is, w.count-is) (omega arith, omega arith, kept-passed _ _ _ low c.loop-at.invariant.2 (is ∙ w.if-not-is_probe_from.false))
+      | then-not-is_probe_from w ↦ rw (w.places-is, w.count-is) (omega arith, omega arith, kept-took _ _ _ low c.loop-at.invariant.2 few (is ∙ w.if-not-is_probe_from.true))
+      | else-not-is_probe_from w ↦ rw (w.places-is, w.count-is) (omega arith, omega arith, kept-passed _ _ _ low c.loop-at.invariant.2 (is ∙ w.if-not-is_probe_from.false))
     ]
 
 pub returns : goal.returns

@@ -1,5 +1,4 @@
 -- `table_parts::no_messages` meets its contract: every place is blank. Assumes nothing.
-use borrow.Author.Rules.{rules}
 use Rattle.table_parts.proofs.no_messages.Goals as goal
 
 pub returns : goal.returns

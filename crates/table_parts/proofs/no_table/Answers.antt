@@ -1,5 +1,4 @@
 -- `table_parts::no_table` meets its contract: every slot is the node of no slot. Assumes nothing.
-use borrow.Author.Rules.{rules}
 use Rattle.table_parts.proofs.no_table.Goals as goal
 
 pub returns : goal.returns

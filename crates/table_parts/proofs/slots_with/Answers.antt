@@ -1,16 +1,9 @@
 -- The answers. Assumes nothing.
-use borrow.Author.Rules.{rules}
 use mathlib.Core.Path.{◌≡◌, refl, sym, ◌∙◌}
-use mathlib.Core.Logic.{inl, inr, ⊎_elim}
-use mathlib.Core.Bool.{Bool}
+use mathlib.Core.Logic.{inl, inr}
 use borrow.Author.Tests.{eq-eqb, ne_eqb}
-use lib.Dec.{eqb}
-use Prim.Native.Nat.{ℕ, ◌-◌, ◌≤◌}
 use native.Mathlib.Omega.{arith}
 use Rattle.marks.specs.Marks.{gather}
-use Rattle.rules.specs.Numbers.{status_number}
-use Rattle.table_type.specs.declared.Table.{Table}
-use Rattle.table_type.specs.Table.{node_at}
 use Rattle.table_parts.specs.InnerSlots.{slots_with}
 use Rattle.marks.proofs.Laws.{gather-next}
 use Rattle.table_parts.proofs.slots_with.Invariants.{is_with}
@@ -23,13 +16,13 @@ loop-s-init c = (omega arith, refl)
 
 pub loop-s-preserved : goal.loop-s-preserved
 loop-s-preserved c = let e = c.status_number.ensures in (
-      omega arith,
-      gather-next (is_with c.args.t c.args.number) c.loop-s.s c.loop-s.out c.if-status_number-number.out (omega arith) c.loop-s.invariant.1
-          (elim c.if-status_number-number.branch [
-            then-status_number-number w ↦ inl (eq-eqb _ _ (sym e ∙ w.if-status_number-number.true), w.out-is ∙ w.added-out.ensures)
-          | else-status_number-number w ↦ inr (ne_eqb _ _ (λ q. w.if-status_number-number.false (e ∙ q)), w.out-is)
-          ]),
-    )
+  omega arith,
+  gather-next (is_with c.args.t c.args.number) c.loop-s.s c.loop-s.out c.if-status_number-number.out (omega arith) c.loop-s.invariant.1
+      (elim c.if-status_number-number.branch [
+        | then-status_number-number w ↦ inl (eq-eqb _ _ (sym e ∙ w.if-status_number-number.true), w.out-is ∙ w.added-out.ensures)
+        | else-status_number-number w ↦ inr (ne_eqb _ _ (λ q. w.if-status_number-number.false (e ∙ q)), w.out-is)
+      ]),
+)
 
 pub returns : goal.returns
 unfolding slots_with

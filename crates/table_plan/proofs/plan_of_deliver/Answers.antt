@@ -1,5 +1,4 @@
 -- `plan_of_deliver` meets its contract: a Lookup's key is in range, as the message obeys its kind. Assumes nothing.
-use borrow.Author.Rules.{rules}
 use mathlib.Core.Path.{◌∙◌, ap}
 use native.Mathlib.Nat.{lt_of_lt_of_le}
 use Rattle.rules.specs.Fits.{has_key}
@@ -11,10 +10,10 @@ node_at-v-requires c = lt_of_lt_of_le c.requires.1 c.requires.0.n-high
 
 pub plan_deliver-requires : goal.plan_deliver-requires
 plan_deliver-requires c = let g = c.ring_of.ensures in (
-      rw (g, c.ids-ids.ensures) c.requires.0,
-      lt_of_lt_of_le c.requires.1 c.requires.0.n-high,
-      λ k. rw g ((obeys _ _ c.requires.2).key_in (ap has_key k)),
-    )
+  rw (g, c.ids-ids.ensures) c.requires.0,
+  lt_of_lt_of_le c.requires.1 c.requires.0.n-high,
+  λ k. rw g ((obeys _ _ c.requires.2).key_in (ap has_key k)),
+)
 
 pub returns : goal.returns
 returns c = c.plan_deliver.ensures

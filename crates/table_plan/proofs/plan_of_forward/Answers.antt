@@ -1,5 +1,4 @@
 -- `plan_of_forward` meets its contract: a Lookup's key is in range, as the message obeys its kind. Assumes nothing.
-use borrow.Author.Rules.{rules}
 use mathlib.Core.Path.{◌∙◌, ap}
 use native.Mathlib.Nat.{lt_of_lt_of_le}
 use Rattle.rules.specs.Fits.{has_key}
@@ -14,11 +13,11 @@ dead_set-dead-requires c = c.requires.0.n-high
 
 pub plan_forward-requires : goal.plan_forward-requires
 plan_forward-requires c = let g = c.ring_of.ensures in (
-      rw (g, c.ids-ids.ensures) c.requires.0,
-      lt_of_lt_of_le c.requires.1 c.requires.0.n-high,
-      λ k. rw g ((obeys _ _ c.requires.2).key_in (ap has_key k)),
-      c.requires.3,
-    )
+  rw (g, c.ids-ids.ensures) c.requires.0,
+  lt_of_lt_of_le c.requires.1 c.requires.0.n-high,
+  λ k. rw g ((obeys _ _ c.requires.2).key_in (ap has_key k)),
+  c.requires.3,
+)
 
 pub returns : goal.returns
 returns c = c.plan_forward.ensures

@@ -1,5 +1,4 @@
 -- `plan_of_join` meets its contract. Assumes nothing.
-use borrow.Author.Rules.{rules}
 use mathlib.Core.Path.{◌∙◌}
 use native.Mathlib.Omega.{arith}
 use Rattle.table_plan.proofs.plan_of_join.Goals as goal

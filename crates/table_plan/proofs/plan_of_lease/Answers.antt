@@ -1,5 +1,4 @@
 -- `plan_of_lease` meets its contract. Assumes nothing.
-use borrow.Author.Rules.{rules}
 use mathlib.Core.Path.{◌∙◌}
 use Rattle.table_plan.proofs.plan_of_lease.Goals as goal
 

@@ -1,5 +1,4 @@
 -- `plan_of_take` meets its contract: what the handler asks of the ring and the message is asked here too. Assumes nothing.
-use borrow.Author.Rules.{rules}
 use mathlib.Core.Path.{◌∙◌}
 use native.Mathlib.Nat.{lt_of_lt_of_le}
 use Rattle.table_plan.proofs.plan_of_take.Goals as goal
@@ -11,7 +10,7 @@ pub dead_set-dead-requires : goal.dead_set-dead-requires
 dead_set-dead-requires c = c.requires.0.n-high
 
 pub plan_take-requires : goal.plan_take-requires
-plan_take-requires c = let g = c.ring_of.ensures in 
+plan_take-requires c = let g = c.ring_of.ensures in
     (rw (g, c.ids-ids.ensures) c.requires.0, rw g c.requires.1, rw g c.requires.2)
 
 pub returns : goal.returns

@@ -1,6 +1,5 @@
 -- `plan_take` meets its contract: the kind that was matched decides the definition's tests, and what each kind's plan asks is told by the message's validity.
 -- Assumes nothing.
-use borrow.Author.Rules.{rules}
 use borrow.Author.Tests.{ne_eqb}
 use mathlib.Core.Path.{◌≡◌, refl, sym, ◌∙◌, ap}
 use mathlib.Core.Bool.{Bool, true, false, cond}
@@ -32,7 +31,7 @@ none k g ids dead i v m b c d e f h =
     (rw (← either (eqb k 6) (No no.Partner)) (either (eqb k 1) (No no.Partner)))
 
 pub plan_take_join_request-requires : goal.plan_take_join_request-requires
-plan_take_join_request-requires c = let n = c.requires.0.n-high in 
+plan_take_join_request-requires c = let n = c.requires.0.n-high in
     let j = (obeys _ _ c.requires.2).node_in_lem (ap has_node c.in-2.is) in
     (c.requires.0, omega (arith, c.requires.1), omega (arith, j))
 
@@ -67,5 +66,5 @@ returns-in-8 c = let by : ℕ → Planned = λ k. let a = c.args in plan_take k 
     c.plan_take_broadcast.ensures ∙ sym (ap (by) c.in-8.is)
 
 pub returns-in_default : goal.returns-in_default
-returns-in_default c = let r = c.in_default.in_default-own.rest in 
+returns-in_default c = let r = c.in_default.in_default-own.rest in
     none _ _ _ _ _ _ _ r.0.0.0.0.0.1 r.0.0.0.0.1 r.0.0.0.1 r.0.0.1 r.0.1 r.1

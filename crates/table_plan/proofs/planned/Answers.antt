@@ -1,5 +1,4 @@
 -- `planned` meets its contract: the action that was matched decides the definition's case, and what is asked of each. Assumes nothing.
-use borrow.Author.Rules.{rules}
 use mathlib.Core.Path.{◌≡◌, refl, sym, ◌∙◌, ap, subst}
 use Rattle.marks.proofs.Bools.{and_left}
 use mathlib.Core.Bool.{true}
@@ -117,21 +116,21 @@ pub returns-in-Take : goal.returns-in-Take
 returns-in-Take c = let read : (p : Pool) (b : Action) → c.args.a ≡ b → Read c.args.t p c.args.a c.args.m → Read c.args.t p b c.args.m = λ p b e r. subst (λ (a : Action). Read c.args.t p a c.args.m) e r in
     let plan : Pool → Action → Planned = λ p b. (asked c.args.t p b).plan c.args.there in
     λ p r.
-    let e = c.in-Take.is in 
+    let e = c.in-Take.is in
     c.plan_of_take.ensures ∙ ap (taken_of c.args.t) (sym ((read p _ e r).is _ refl)) ∙ ap (plan p) (sym e)
 
 pub returns-in-Deliver : goal.returns-in-Deliver
 returns-in-Deliver c = let read : (p : Pool) (b : Action) → c.args.a ≡ b → Read c.args.t p c.args.a c.args.m → Read c.args.t p b c.args.m = λ p b e r. subst (λ (a : Action). Read c.args.t p a c.args.m) e r in
     let plan : Pool → Action → Planned = λ p b. (asked c.args.t p b).plan c.args.there in
     λ p r.
-    let e = c.in-Deliver.is in 
+    let e = c.in-Deliver.is in
     c.plan_of_deliver.ensures ∙ ap (delivered_of c.args.t) (sym ((read p _ e r).is _ refl)) ∙ ap (plan p) (sym e)
 
 pub returns-in-Forward : goal.returns-in-Forward
 returns-in-Forward c = let read : (p : Pool) (b : Action) → c.args.a ≡ b → Read c.args.t p c.args.a c.args.m → Read c.args.t p b c.args.m = λ p b e r. subst (λ (a : Action). Read c.args.t p a c.args.m) e r in
     let plan : Pool → Action → Planned = λ p b. (asked c.args.t p b).plan c.args.there in
     λ p r.
-    let e = c.in-Forward.is in 
+    let e = c.in-Forward.is in
     c.plan_of_forward.ensures ∙ ap (forwarded_of c.args.t) (sym ((read p _ e r).is _ refl)) ∙ ap (plan p) (sym e)
 
 pub returns-in-NodeLeft : goal.returns-in-NodeLeft

@@ -1,6 +1,5 @@
 -- `repeated` meets its contract: the action that was matched decides the definition's case; with no message gone, all that wait are
 -- looked at. Assumes nothing.
-use borrow.Author.Rules.{rules}
 use denote.Enum.Declared
 use mathlib.Core.Bool.{Bool, true, false, ◌&&◌, not}
 use mathlib.Core.List.{List, [], ◌∷◌}
@@ -109,6 +108,6 @@ returns-in-ResignNode c = λ t.
 
 pub returns-in_default : goal.returns-in_default
 returns-in_default c = λ t.
-    let s = c.args in 
+    let s = c.args in
     let ks : List ℕ = 3 ∷ 4 ∷ 5 ∷ 6 ∷ 7 ∷ 8 ∷ 9 ∷ 10 ∷ 11 ∷ 12 ∷ 14 ∷ [] in
     unasked t s.p s.a (high 2 2 ks _ refl (opened c.in_default.in_default-own.keys4)) (other 13 2 ks _ refl (opened c.in_default.in_default-own.keys4))

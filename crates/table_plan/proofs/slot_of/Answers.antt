@@ -1,5 +1,4 @@
 -- `slot_of` meets its contract. Assumes nothing.
-use borrow.Author.Rules.{rules}
 use borrow.Author.Tests.{lt-ltb, le-ltb}
 use Rattle.table_plan.proofs.slot_of.Goals as goal
 

@@ -1,5 +1,4 @@
 -- `some_up_lem` meets its contract. Assumes nothing.
-use borrow.Author.Rules.{rules}
 use Rattle.table_settled.proofs.Laws.{ok-slots, ready-slots}
 use Rattle.table_plan.proofs.some_up.Goals as goal
 

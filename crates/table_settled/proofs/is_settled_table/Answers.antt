@@ -1,11 +1,8 @@
 -- The answers. Assumes nothing.
-use borrow.Author.Rules.{rules}
-use borrow.Author.Tests.{not-true, not-false}
 use mathlib.Core.Path.{◌≡◌, refl, sym, ◌∙◌}
-use mathlib.Core.Logic.{⊎_elim}
 use mathlib.Core.List.{List}
 use mathlib.Core.Bool.{Bool, true, false}
-use Prim.Native.Nat.{ℕ, ◌-◌, ◌≤◌}
+use Prim.Native.Nat.{ℕ, ◌≤◌}
 use native.Mathlib.Omega.{arith}
 use Rattle.marks.specs.Marks.{all_to}
 use Rattle.marks.proofs.Laws.{more}
@@ -78,12 +75,11 @@ loop-i-preserved c = let table_at : Table = c.args.t in
     let fine_at : Bool = settled_at c.ring_of-g.result c.ids-ids.result c.ready_set-ready.result c.loop-i.i (node_in) in
     let turn-ready : (r : Bool) → is_ready (node_in).status ≡ true → r ≡ fine_at → calm_in (table_at) c.loop-i.i ≡ r = λ r up s. calm-ready (is_dead (node_in).status) _ _ up
     ∙ sym (s ∙ asked _ _ _ _ _ _ c.ring_of-g.ensures c.ids-ids.ensures c.ready_set-ready.ensures) in
-    let turn-other : (r : Bool) → is_ready (node_in).status ≡ false → r ≡ is_dead (node_in).status → calm_in (table_at) c.loop-i.i ≡ r = λ r up s. calm-other _ _ _ up ∙ sym s in
-    (
+    let turn-other : (r : Bool) → is_ready (node_in).status ≡ false → r ≡ is_dead (node_in).status → calm_in (table_at) c.loop-i.i ≡ r = λ r up s. calm-other _ _ _ up ∙ sym s in (
       omega arith,
       more c.loop-i.i (calm_in (table_at)) c.loop-i.invariant.1 (elim c.if-is_ready.branch [
-        then-is_ready+else-not-settled_at w ↦ turn-ready w.settled_at.result (sym c.is_ready.ensures ∙ w.if-is_ready.true) w.settled_at.ensures ∙ w.if-not-settled_at.false
-      | else-is_ready+else-not-is_dead w ↦ turn-other w.is_dead.result (sym c.is_ready.ensures ∙ w.if-is_ready.false) w.is_dead.ensures ∙ w.if-not-is_dead.false
+        | then-is_ready+else-not-settled_at w ↦ turn-ready w.settled_at.result (sym c.is_ready.ensures ∙ w.if-is_ready.true) w.settled_at.ensures ∙ w.if-not-settled_at.false
+        | else-is_ready+else-not-is_dead w ↦ turn-other w.is_dead.result (sym c.is_ready.ensures ∙ w.if-is_ready.false) w.is_dead.ensures ∙ w.if-not-is_dead.false
       ]),
     )
 

@@ -70,10 +70,10 @@ returns-in_default c =
     let sound = tested c.args.t c.args.p c.args.len c.at_most.ensures c.at_most-2.ensures c.is_valid-valid.ensures c.if-not-len-valid.false in
     let called = calls c.args.t c.args.p c.args.len c.args.a sound _ c.asked-asks.ensures (not-false _ c.if-not-asks.false) in
     let there : c.if-request.there ≡ (asked c.args.t c.args.p c.args.a).repeated =
-        elim c.if-request.branch [
-          then-request w ↦ w.there-is ∙ w.repeated-there.ensures c.args.t
-        | else-request w ↦ w.there-is ∙ c.asked-asks.ensures.unasked w.if-request.false c.args.t c.args.p
-        ] in
+    elim c.if-request.branch [
+      | then-request w ↦ w.there-is ∙ w.repeated-there.ensures c.args.t
+      | else-request w ↦ w.there-is ∙ c.asked-asks.ensures.unasked w.if-request.false c.args.t c.args.p
+    ] in
     let planned = c.planned-what.ensures c.args.p (reads called _ c.asked-asks.ensures) ∙ ap (asked c.args.t c.args.p c.args.a).plan there in
     c.answered-in_default.ensures ∙ ap (refused_of c.args.t c.args.p) c.why_of.ensures
     ∙ refuses called _ c.asked-asks.ensures c.args.len sound _ planned _ c.in_default.is
@@ -113,10 +113,10 @@ returns-then-asks c =
     let sound = tested c.args.t c.args.p c.args.len c.at_most.ensures c.at_most-2.ensures c.is_valid-valid.ensures c.if-not-len-valid.false in
     let called = calls c.args.t c.args.p c.args.len c.args.a sound _ c.asked-asks.ensures (not-false _ c.if-not-asks.false) in
     let there : c.if-request.there ≡ (asked c.args.t c.args.p c.args.a).repeated =
-        elim c.if-request.branch [
-          then-request w ↦ w.there-is ∙ w.repeated-there.ensures c.args.t
-        | else-request w ↦ w.there-is ∙ c.asked-asks.ensures.unasked w.if-request.false c.args.t c.args.p
-        ] in
+    elim c.if-request.branch [
+      | then-request w ↦ w.there-is ∙ w.repeated-there.ensures c.args.t
+      | else-request w ↦ w.there-is ∙ c.asked-asks.ensures.unasked w.if-request.false c.args.t c.args.p
+    ] in
     let planned = c.planned-what.ensures c.args.p (reads called _ c.asked-asks.ensures) ∙ ap (asked c.args.t c.args.p c.args.a).plan there in
     let x = c.in-Go.plan in
     c.answered_by.ensures ∙ ap (done_by x.via (with_node c.args.t c.asked-asks.result.slot x.node)) c.without_probes-left.ensures
@@ -127,10 +127,10 @@ news-new-requires c =
     let sound = tested c.args.t c.args.p c.args.len c.at_most.ensures c.at_most-2.ensures c.is_valid-valid.ensures c.if-not-len-valid.false in
     let called = calls c.args.t c.args.p c.args.len c.args.a sound _ c.asked-asks.ensures (not-false _ c.if-not-asks.false) in
     let there : c.if-request.there ≡ (asked c.args.t c.args.p c.args.a).repeated =
-        elim c.if-request.branch [
-          then-request w ↦ w.there-is ∙ w.repeated-there.ensures c.args.t
-        | else-request w ↦ w.there-is ∙ c.asked-asks.ensures.unasked w.if-request.false c.args.t c.args.p
-        ] in
+    elim c.if-request.branch [
+      | then-request w ↦ w.there-is ∙ w.repeated-there.ensures c.args.t
+      | else-request w ↦ w.there-is ∙ c.asked-asks.ensures.unasked w.if-request.false c.args.t c.args.p
+    ] in
     let planned = c.planned-what.ensures c.args.p (reads called _ c.asked-asks.ensures) ∙ ap (asked c.args.t c.args.p c.args.a).plan there in
     (counted called, plan-slotted called _ (sym planned ∙ c.in-Go.is))
 
@@ -145,18 +145,18 @@ returns-then-not-room c =
     let sound = tested c.args.t c.args.p c.args.len c.at_most.ensures c.at_most-2.ensures c.is_valid-valid.ensures c.if-not-len-valid.false in
     let called = calls c.args.t c.args.p c.args.len c.args.a sound _ c.asked-asks.ensures (not-false _ c.if-not-asks.false) in
     let there : c.if-request.there ≡ (asked c.args.t c.args.p c.args.a).repeated =
-        elim c.if-request.branch [
-          then-request w ↦ w.there-is ∙ w.repeated-there.ensures c.args.t
-        | else-request w ↦ w.there-is ∙ c.asked-asks.ensures.unasked w.if-request.false c.args.t c.args.p
-        ] in
+    elim c.if-request.branch [
+      | then-request w ↦ w.there-is ∙ w.repeated-there.ensures c.args.t
+      | else-request w ↦ w.there-is ∙ c.asked-asks.ensures.unasked w.if-request.false c.args.t c.args.p
+    ] in
     let planned = c.planned-what.ensures c.args.p (reads called _ c.asked-asks.ensures) ∙ ap (asked c.args.t c.args.p c.args.a).plan there in
     let new : c.if-sends-asks.new ≡ news_of c.in-Go.plan (left_of c.args.p c.asked-asks.result.gone) =
-        elim c.if-sends-asks.branch [
-          then-sends-asks w ↦ w.new-is ∙ w.news-new.ensures
-        | else-sends-asks w ↦
-            w.new-is ∙ c.first_new-new.ensures
-            ∙ first-told called c.asked-asks.result c.asked-asks.ensures c.args.len sound _ planned c.in-Go.plan _ c.in-Go.is c.sends.ensures w.if-sends-asks.false
-        ] in
+    elim c.if-sends-asks.branch [
+      | then-sends-asks w ↦ w.new-is ∙ w.news-new.ensures
+      | else-sends-asks w ↦
+          w.new-is ∙ c.first_new-new.ensures
+          ∙ first-told called c.asked-asks.result c.asked-asks.ensures c.args.len sound _ planned c.in-Go.plan _ c.in-Go.is c.sends.ensures w.if-sends-asks.false
+    ] in
     let long = places-length c.args.p _ c.well_formed.1.0 in
     let asks = c.asked-asks.result in
     c.answered-then-not-room.ensures
@@ -201,25 +201,25 @@ overflow_cast-s c =
     let sound = tested c.args.t c.args.p c.args.len c.at_most.ensures c.at_most-2.ensures c.is_valid-valid.ensures c.if-not-len-valid.false in
     let called = calls c.args.t c.args.p c.args.len c.args.a sound _ c.asked-asks.ensures (not-false _ c.if-not-asks.false) in
     let there : c.if-request.there ≡ (asked c.args.t c.args.p c.args.a).repeated =
-        elim c.if-request.branch [
-          then-request w ↦ w.there-is ∙ w.repeated-there.ensures c.args.t
-        | else-request w ↦ w.there-is ∙ c.asked-asks.ensures.unasked w.if-request.false c.args.t c.args.p
-        ] in
+    elim c.if-request.branch [
+      | then-request w ↦ w.there-is ∙ w.repeated-there.ensures c.args.t
+      | else-request w ↦ w.there-is ∙ c.asked-asks.ensures.unasked w.if-request.false c.args.t c.args.p
+    ] in
     let planned = c.planned-what.ensures c.args.p (reads called _ c.asked-asks.ensures) ∙ ap (asked c.args.t c.args.p c.args.a).plan there in
     let new : c.if-sends-asks.new ≡ news_of c.in-Go.plan (left_of c.args.p c.asked-asks.result.gone) =
-        elim c.if-sends-asks.branch [
-          then-sends-asks w ↦ w.new-is ∙ w.news-new.ensures
-        | else-sends-asks w ↦
-            w.new-is ∙ c.first_new-new.ensures
-            ∙ first-told called c.asked-asks.result c.asked-asks.ensures c.args.len sound _ planned c.in-Go.plan _ c.in-Go.is c.sends.ensures w.if-sends-asks.false
-        ] in
+    elim c.if-sends-asks.branch [
+      | then-sends-asks w ↦ w.new-is ∙ w.news-new.ensures
+      | else-sends-asks w ↦
+          w.new-is ∙ c.first_new-new.ensures
+          ∙ first-told called c.asked-asks.result c.asked-asks.ensures c.args.len sound _ planned c.in-Go.plan _ c.in-Go.is c.sends.ensures w.if-sends-asks.false
+    ] in
     let roomy : Roomy c.args.p c.asked-asks.result.gone c.in-Go.plan c.if-sends-asks.new =
-        record {
-          counted = counted called;
-          to-slot = plan-slotted called _ (sym planned ∙ c.in-Go.is);
-          told = new;
-          room = sym c.room.ensures ∙ c.if-not-room.false;
-        } in
+    record {
+      counted = counted called;
+      to-slot = plan-slotted called _ (sym planned ∙ c.in-Go.is);
+      told = new;
+      room = sym c.room.ensures ∙ c.if-not-room.false;
+    } in
     omega (arith, slot-low _ _ c.in-At.is (new-slot _ _ _ c.if-sends-asks.new roomy))
 
 pub bounds-q-n : goal.bounds-q-n
@@ -227,25 +227,25 @@ bounds-q-n c =
     let sound = tested c.args.t c.args.p c.args.len c.at_most.ensures c.at_most-2.ensures c.is_valid-valid.ensures c.if-not-len-valid.false in
     let called = calls c.args.t c.args.p c.args.len c.args.a sound _ c.asked-asks.ensures (not-false _ c.if-not-asks.false) in
     let there : c.if-request.there ≡ (asked c.args.t c.args.p c.args.a).repeated =
-        elim c.if-request.branch [
-          then-request w ↦ w.there-is ∙ w.repeated-there.ensures c.args.t
-        | else-request w ↦ w.there-is ∙ c.asked-asks.ensures.unasked w.if-request.false c.args.t c.args.p
-        ] in
+    elim c.if-request.branch [
+      | then-request w ↦ w.there-is ∙ w.repeated-there.ensures c.args.t
+      | else-request w ↦ w.there-is ∙ c.asked-asks.ensures.unasked w.if-request.false c.args.t c.args.p
+    ] in
     let planned = c.planned-what.ensures c.args.p (reads called _ c.asked-asks.ensures) ∙ ap (asked c.args.t c.args.p c.args.a).plan there in
     let new : c.if-sends-asks.new ≡ news_of c.in-Go.plan (left_of c.args.p c.asked-asks.result.gone) =
-        elim c.if-sends-asks.branch [
-          then-sends-asks w ↦ w.new-is ∙ w.news-new.ensures
-        | else-sends-asks w ↦
-            w.new-is ∙ c.first_new-new.ensures
-            ∙ first-told called c.asked-asks.result c.asked-asks.ensures c.args.len sound _ planned c.in-Go.plan _ c.in-Go.is c.sends.ensures w.if-sends-asks.false
-        ] in
+    elim c.if-sends-asks.branch [
+      | then-sends-asks w ↦ w.new-is ∙ w.news-new.ensures
+      | else-sends-asks w ↦
+          w.new-is ∙ c.first_new-new.ensures
+          ∙ first-told called c.asked-asks.result c.asked-asks.ensures c.args.len sound _ planned c.in-Go.plan _ c.in-Go.is c.sends.ensures w.if-sends-asks.false
+    ] in
     let roomy : Roomy c.args.p c.asked-asks.result.gone c.in-Go.plan c.if-sends-asks.new =
-        record {
-          counted = counted called;
-          to-slot = plan-slotted called _ (sym planned ∙ c.in-Go.is);
-          told = new;
-          room = sym c.room.ensures ∙ c.if-not-room.false;
-        } in
+    record {
+      counted = counted called;
+      to-slot = plan-slotted called _ (sym planned ∙ c.in-Go.is);
+      told = new;
+      room = sym c.room.ensures ∙ c.if-not-room.false;
+    } in
     one-fits _ _ _ c.if-sends-asks.new roomy _ _ c.left_count-n.ensures c.in-At.is
 
 pub slots-init : goal.slots-init
@@ -253,34 +253,34 @@ slots-init c =
     let sound = tested c.args.t c.args.p c.args.len c.at_most.ensures c.at_most-2.ensures c.is_valid-valid.ensures c.if-not-len-valid.false in
     let called = calls c.args.t c.args.p c.args.len c.args.a sound _ c.asked-asks.ensures (not-false _ c.if-not-asks.false) in
     let there : c.if-request.there ≡ (asked c.args.t c.args.p c.args.a).repeated =
-        elim c.if-request.branch [
-          then-request w ↦ w.there-is ∙ w.repeated-there.ensures c.args.t
-        | else-request w ↦ w.there-is ∙ c.asked-asks.ensures.unasked w.if-request.false c.args.t c.args.p
-        ] in
+    elim c.if-request.branch [
+      | then-request w ↦ w.there-is ∙ w.repeated-there.ensures c.args.t
+      | else-request w ↦ w.there-is ∙ c.asked-asks.ensures.unasked w.if-request.false c.args.t c.args.p
+    ] in
     let planned = c.planned-what.ensures c.args.p (reads called _ c.asked-asks.ensures) ∙ ap (asked c.args.t c.args.p c.args.a).plan there in
     let new : c.if-sends-asks.new ≡ news_of c.in-Go.plan (left_of c.args.p c.asked-asks.result.gone) =
-        elim c.if-sends-asks.branch [
-          then-sends-asks w ↦ w.new-is ∙ w.news-new.ensures
-        | else-sends-asks w ↦
-            w.new-is ∙ c.first_new-new.ensures
-            ∙ first-told called c.asked-asks.result c.asked-asks.ensures c.args.len sound _ planned c.in-Go.plan _ c.in-Go.is c.sends.ensures w.if-sends-asks.false
-        ] in
+    elim c.if-sends-asks.branch [
+      | then-sends-asks w ↦ w.new-is ∙ w.news-new.ensures
+      | else-sends-asks w ↦
+          w.new-is ∙ c.first_new-new.ensures
+          ∙ first-told called c.asked-asks.result c.asked-asks.ensures c.args.len sound _ planned c.in-Go.plan _ c.in-Go.is c.sends.ensures w.if-sends-asks.false
+    ] in
     let roomy : Roomy c.args.p c.asked-asks.result.gone c.in-Go.plan c.if-sends-asks.new =
-        record {
-          counted = counted called;
-          to-slot = plan-slotted called _ (sym planned ∙ c.in-Go.is);
-          told = new;
-          room = sym c.room.ensures ∙ c.if-not-room.false;
-        } in
+    record {
+      counted = counted called;
+      to-slot = plan-slotted called _ (sym planned ∙ c.in-Go.is);
+      told = new;
+      room = sym c.room.ensures ∙ c.if-not-room.false;
+    } in
     let long = places-length c.args.p _ c.well_formed.1.0 in
     let put : Put c.left_count-n.result (left_of c.args.p c.asked-asks.result.gone) c.in-Go.plan.first c.if-sends-asks.new.one c.match-one.n c.match-one.q =
-        let closed = closed-end _ _ c.args.p (counted called) long c.left_count-n.ensures _ _ c.gap-test.false c.gap.invariant in
-        elim c.match-one.branch [
-          in-At w ↦
-            put_one _ _ c.in-Go.plan.first _ c.gap.q c.gap.invariant.long closed _ _ _ _
-            (one-fits _ _ _ c.if-sends-asks.new roomy _ _ c.left_count-n.ensures w.in-At.is) w.in-At.is w.to_slot.ensures w.n-is w.q-is
-        | in_default-one w ↦ put-none _ _ c.in-Go.plan.first _ c.gap.q c.gap.invariant.long closed _ _ w.in_default-one.is w.n-is w.q-is
-        ] in
+    let closed = closed-end _ _ c.args.p (counted called) long c.left_count-n.ensures _ _ c.gap-test.false c.gap.invariant in
+    elim c.match-one.branch [
+      | in-At w ↦
+          put_one _ _ c.in-Go.plan.first _ c.gap.q c.gap.invariant.long closed _ _ _ _
+          (one-fits _ _ _ c.if-sends-asks.new roomy _ _ c.left_count-n.ensures w.in-At.is) w.in-At.is w.to_slot.ensures w.n-is w.q-is
+      | in_default-one w ↦ put-none _ _ c.in-Go.plan.first _ c.gap.q c.gap.invariant.long closed _ _ w.in_default-one.is w.n-is w.q-is
+    ] in
     let fit = new-fit _ _ _ c.if-sends-asks.new roomy _ c.left_count-n.ensures in
     filling-none _ _ _ _ (omega (arith, put.count-is)) put.long
 
@@ -317,34 +317,34 @@ returns c =
     let sound = tested c.args.t c.args.p c.args.len c.at_most.ensures c.at_most-2.ensures c.is_valid-valid.ensures c.if-not-len-valid.false in
     let called = calls c.args.t c.args.p c.args.len c.args.a sound _ c.asked-asks.ensures (not-false _ c.if-not-asks.false) in
     let there : c.if-request.there ≡ (asked c.args.t c.args.p c.args.a).repeated =
-        elim c.if-request.branch [
-          then-request w ↦ w.there-is ∙ w.repeated-there.ensures c.args.t
-        | else-request w ↦ w.there-is ∙ c.asked-asks.ensures.unasked w.if-request.false c.args.t c.args.p
-        ] in
+    elim c.if-request.branch [
+      | then-request w ↦ w.there-is ∙ w.repeated-there.ensures c.args.t
+      | else-request w ↦ w.there-is ∙ c.asked-asks.ensures.unasked w.if-request.false c.args.t c.args.p
+    ] in
     let planned = c.planned-what.ensures c.args.p (reads called _ c.asked-asks.ensures) ∙ ap (asked c.args.t c.args.p c.args.a).plan there in
     let new : c.if-sends-asks.new ≡ news_of c.in-Go.plan (left_of c.args.p c.asked-asks.result.gone) =
-        elim c.if-sends-asks.branch [
-          then-sends-asks w ↦ w.new-is ∙ w.news-new.ensures
-        | else-sends-asks w ↦
-            w.new-is ∙ c.first_new-new.ensures
-            ∙ first-told called c.asked-asks.result c.asked-asks.ensures c.args.len sound _ planned c.in-Go.plan _ c.in-Go.is c.sends.ensures w.if-sends-asks.false
-        ] in
+    elim c.if-sends-asks.branch [
+      | then-sends-asks w ↦ w.new-is ∙ w.news-new.ensures
+      | else-sends-asks w ↦
+          w.new-is ∙ c.first_new-new.ensures
+          ∙ first-told called c.asked-asks.result c.asked-asks.ensures c.args.len sound _ planned c.in-Go.plan _ c.in-Go.is c.sends.ensures w.if-sends-asks.false
+    ] in
     let roomy : Roomy c.args.p c.asked-asks.result.gone c.in-Go.plan c.if-sends-asks.new =
-        record {
-          counted = counted called;
-          to-slot = plan-slotted called _ (sym planned ∙ c.in-Go.is);
-          told = new;
-          room = sym c.room.ensures ∙ c.if-not-room.false;
-        } in
+    record {
+      counted = counted called;
+      to-slot = plan-slotted called _ (sym planned ∙ c.in-Go.is);
+      told = new;
+      room = sym c.room.ensures ∙ c.if-not-room.false;
+    } in
     let long = places-length c.args.p _ c.well_formed.1.0 in
     let put : Put c.left_count-n.result (left_of c.args.p c.asked-asks.result.gone) c.in-Go.plan.first c.if-sends-asks.new.one c.match-one.n c.match-one.q =
-        let closed = closed-end _ _ c.args.p (counted called) long c.left_count-n.ensures _ _ c.gap-test.false c.gap.invariant in
-        elim c.match-one.branch [
-          in-At w ↦
-            put_one _ _ c.in-Go.plan.first _ c.gap.q c.gap.invariant.long closed _ _ _ _
-            (one-fits _ _ _ c.if-sends-asks.new roomy _ _ c.left_count-n.ensures w.in-At.is) w.in-At.is w.to_slot.ensures w.n-is w.q-is
-        | in_default-one w ↦ put-none _ _ c.in-Go.plan.first _ c.gap.q c.gap.invariant.long closed _ _ w.in_default-one.is w.n-is w.q-is
-        ] in
+    let closed = closed-end _ _ c.args.p (counted called) long c.left_count-n.ensures _ _ c.gap-test.false c.gap.invariant in
+    elim c.match-one.branch [
+      | in-At w ↦
+          put_one _ _ c.in-Go.plan.first _ c.gap.q c.gap.invariant.long closed _ _ _ _
+          (one-fits _ _ _ c.if-sends-asks.new roomy _ _ c.left_count-n.ensures w.in-At.is) w.in-At.is w.to_slot.ensures w.n-is w.q-is
+      | in_default-one w ↦ put-none _ _ c.in-Go.plan.first _ c.gap.q c.gap.invariant.long closed _ _ w.in_default-one.is w.n-is w.q-is
+    ] in
     let k = c.slots.invariant in
     let none = sym c.lowest-next.ensures ∙ c.in_default-next.is in
     let i = c.slot_of-i.result in

@@ -1,5 +1,4 @@
 -- `table_type::id_rises` meets its contract: the first slot has no id before it. Assumes nothing.
-use borrow.Author.Rules.{rules}
 use borrow.Author.Tests.{eq-eqb, ne_eqb}
 use mathlib.Core.Bool.{and-true}
 use native.Mathlib.Numerals.{sub-one}

@@ -2,11 +2,10 @@
 use borrow.Author.Rules.{rules}
 use mathlib.Core.Path.{◌≡◌, refl, ◌∙◌}
 use mathlib.Core.List.{List, map}
-use Prim.Native.Nat.{ℕ, ◌-◌, ◌≤◌}
+use Prim.Native.Nat.{ℕ, ◌≤◌}
 use native.Mathlib.Omega.{arith}
-use lib.ListN.{length, length-map, get_or}
+use lib.ListN.{length, length-map}
 use Rattle.rules.specs.declared.Node.{Node}
-use Rattle.rules.specs.Nodes.{no_node}
 use Rattle.table_type.specs.Table.{id_of}
 use Rattle.table_type.proofs.IdLaws.{ids_at}
 use Rattle.table_type.proofs.Laws.{Filled, fill-begin, fill_more, fill_end, length-mapped}
@@ -21,10 +20,10 @@ pub loop-s-init : goal.loop-s-init
 loop-s-init c = fill-begin 0 (id_in c.args.t.nodes) 0 refl
 
 pub loop-s-preserved : goal.loop-s-preserved
-loop-s-preserved c = let l = c.loop-s in 
+loop-s-preserved c = let l = c.loop-s in
     fill_more 0 (id_in c.args.t.nodes) l.s l.r (omega arith) l.invariant
 
 pub returns : goal.returns
 returns c = let full : length c.args.t.nodes ≡ 64 = search (length-mapped, rules) in
-    let l = c.loop-s in 
+    let l = c.loop-s in
     ids-end c.args.t.nodes l.s l.r (full) (omega arith) l.invariant

@@ -1,8 +1,5 @@
 -- The answers. Assumes nothing.
-use borrow.Author.Tests.{not-true, not-false}
 use mathlib.Core.Path.{◌≡◌, refl, sym, ◌∙◌}
-use mathlib.Core.Bool.{true}
-use Prim.Native.Nat.{◌-◌, ◌≤◌}
 use native.Mathlib.Omega.{arith}
 use Rattle.marks.specs.Marks.{all_to}
 use Rattle.marks.proofs.Laws.{more, fails}
@@ -15,15 +12,15 @@ unfolding all_to
 loop-s-init c = (omega arith, refl)
 
 pub returns-then-not-id_rises : goal.returns-then-not-id_rises
-returns-then-not-id_rises c = let a = c.args in 
+returns-then-not-id_rises c = let a = c.args in
     rw ids-rising (sym (fails a.n (id_rises a.m a.ids.now) c.loop-s.s (omega arith)
     (sym c.id_rises.ensures ∙ c.if-not-id_rises.true)))
 
 pub loop-s-preserved : goal.loop-s-preserved
 loop-s-preserved c = let a = c.args in (
-      omega arith,
-      more c.loop-s.s (id_rises a.m a.ids.now) c.loop-s.invariant.1 (sym c.id_rises.ensures ∙ c.if-not-id_rises.false),
-    )
+  omega arith,
+  more c.loop-s.s (id_rises a.m a.ids.now) c.loop-s.invariant.1 (sym c.id_rises.ensures ∙ c.if-not-id_rises.false),
+)
 
 pub returns : goal.returns
 returns c = let e : c.loop-s.s ≡ c.args.n = omega arith in

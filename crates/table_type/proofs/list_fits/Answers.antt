@@ -1,6 +1,4 @@
 -- `table_type::list_fits` meets its contract: it makes the definition's tests in the definition's order. Assumes nothing.
-use borrow.Author.Rules.{rules}
-use borrow.Author.Tests.{not-true, not-false}
 use Rattle.start.specs.Start.{list_fits}
 use Rattle.table_type.proofs.list_fits.Goals as goal
 

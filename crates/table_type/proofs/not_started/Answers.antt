@@ -1,5 +1,4 @@
 -- `table_type::not_started` meets its contract: every slot is the node of no slot. Assumes nothing.
-use borrow.Author.Rules.{rules}
 use Rattle.table_type.proofs.not_started.Goals as goal
 
 pub returns : goal.returns

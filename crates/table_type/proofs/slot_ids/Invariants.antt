@@ -1,13 +1,9 @@
 -- `table_type::slot_ids` meets its contract. The invariant: the first s ids are written, and the slots past them hold 0.
 -- The measure: the ids left. Assumes nothing.
-use borrow.Author.Rules.{rules}
-use mathlib.Core.Path.{refl}
 use Prim.Native.Nat.{◌-◌, ◌≤◌}
-use native.Mathlib.Omega.{arith}
 use lib.ListN.{length}
 use Rattle.rules.specs.Pick.{id_at}
-use Rattle.table_type.proofs.Starts.{slot-ids-long, slot-ids-at, slot-ids-past}
-use Rattle.table_type.proofs.Laws.{Filled, fill-begin, fill_more, fill_end}
+use Rattle.table_type.proofs.Laws.{Filled}
 use Rattle.table_type.proofs.slot_ids.Given as goal
 
 abbrev pub invariant-loop-s : goal.invariant-loop-s

@@ -1,5 +1,4 @@
 -- `table_type::start_node` meets its contract: a ready node has the leaf set with A added, any other knows itself alone. Assumes nothing.
-use borrow.Author.Rules.{rules}
 use Rattle.start.specs.Start.{start_node}
 use Rattle.table_type.proofs.start_node.Goals as goal
 

@@ -1,12 +1,9 @@
 -- `table_type::start_nodes` meets its contract. The invariant: the first s nodes are written, and the slots past them are blank.
 -- The measure: the nodes left. Assumes nothing.
-use borrow.Author.Rules.{rules}
 use Prim.Native.Nat.{◌-◌, ◌≤◌}
-use native.Mathlib.Omega.{arith}
 use Rattle.rules.specs.Nodes.{no_node}
 use Rattle.start.specs.Start.{start_node}
-use Rattle.table_type.proofs.Starts.{start-nodes-long, start-node-at, start-node-past}
-use Rattle.table_type.proofs.Laws.{Filled, fill-begin, fill_more, fill_end}
+use Rattle.table_type.proofs.Laws.{Filled}
 use Rattle.table_type.proofs.start_nodes.Given as goal
 
 abbrev pub invariant-loop-s : goal.invariant-loop-s

@@ -1,5 +1,4 @@
 -- `table_valid::all_nodes` meets its contract: 1 << n is 2^n, and one less is the number with n ones. Assumes nothing.
-use borrow.Author.Rules.{rules}
 use mathlib.Core.Path.{◌≡◌, ◌∙◌}
 use Prim.Native.Nat.{ℕ, ◌*◌, ◌%◌, ◌^◌, ◌<◌}
 use native.Mathlib.Nat.{one-mul}

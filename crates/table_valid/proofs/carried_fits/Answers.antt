@@ -1,5 +1,4 @@
 -- `table_valid::carried_fits` meets its contract: the leaf set by its callee. Assumes nothing.
-use borrow.Author.Rules.{rules}
 use Rattle.table_valid.proofs.carried_fits.Goals as goal
 
 pub returns : goal.returns

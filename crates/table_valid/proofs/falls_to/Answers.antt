@@ -1,5 +1,4 @@
 -- `table_valid::falls_to` meets its contract: the way by falling is the shorter one. Assumes nothing.
-use borrow.Author.Rules.{rules}
 use Rattle.table_valid.proofs.Hops.{falls-is}
 use Rattle.table_valid.proofs.falls_to.Goals as goal
 

@@ -1,17 +1,16 @@
 -- `table_valid::has_farther` meets its contract: the slots farther from the key are the first on the walk away from it (`capped`). Assumes nothing.
 use mathlib.Core.Path.{sym, ◌∙◌}
 use native.Mathlib.Omega.{arith}
-use borrow.Author.Rules.{rules}
 use Rattle.rules_laws.proofs.Capped.{capped}
 use Rattle.table_valid.proofs.Hops.{other-id}
 use Rattle.table_valid.proofs.has_farther.Goals as goal
 
 pub falls_to-up-requires : goal.falls_to-up-requires
-falls_to-up-requires c = let p = c.requires in 
+falls_to-up-requires c = let p = c.requires in
     record { width = p.0.width; first = p.1; second = p.0.ids-in _ (omega (arith, p.2, p.0.n-high)) }
 
 pub is_farther-requires : goal.is_farther-requires
-is_farther-requires c = let p = c.requires in 
+is_farther-requires c = let p = c.requires in
     let v = p.0 in
     let here = v.ids-in c.args.d (omega (arith, p.2, v.n-high)) in
     let there = v.ids-in c.along-s.result (omega (arith, c.along-s.ensures.0, v.n-high)) in (
@@ -22,6 +21,6 @@ is_farther-requires c = let p = c.requires in
     )
 
 pub returns : goal.returns
-returns c = let p = c.requires in 
+returns c = let p = c.requires in
     c.is_farther.ensures
     ∙ sym (capped p.0 _ _ p.1 p.2 _ (sym c.falls_to-up.ensures) _ _ p.3 p.4 c.along-s.ensures.0 c.along-s.ensures.1)

@@ -1,5 +1,4 @@
 -- `table_valid::hops_fit` meets its contract: 0 is within every bound, and n within none. Assumes nothing.
-use borrow.Author.Rules.{rules}
 use Rattle.table_valid.proofs.Hops.{no-hops, all-nodes-passed}
 use Rattle.table_valid.proofs.hops_fit.Goals as goal
 

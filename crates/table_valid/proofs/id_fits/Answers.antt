@@ -1,5 +1,4 @@
 -- `table_valid::id_fits` meets its contract: the code is the definition. Assumes nothing.
-use borrow.Author.Rules.{rules}
 use Rattle.table_valid.proofs.id_fits.Goals as goal
 
 pub returns : goal.returns

@@ -1,5 +1,4 @@
 -- `table_valid::is_blank_node` meets its contract: the code is the definition, once the status is read as its number. Assumes nothing.
-use borrow.Author.Rules.{rules}
 use Rattle.rules.specs.Fits.{is_blank}
 use Rattle.table_valid.proofs.is_blank_node.Goals as goal
 

@@ -1,5 +1,4 @@
 -- `table_valid::is_part` meets its contract: the code is the definition. Assumes nothing.
-use borrow.Author.Rules.{rules}
 use Rattle.table_valid.proofs.is_part.Goals as goal
 
 pub returns : goal.returns

@@ -1,7 +1,5 @@
 -- `table_valid::is_valid` meets its contract: the definition's three tests, in its order. The first bounds M and n for the others. Assumes nothing.
 use mathlib.Core.Path.{sym, ◌∙◌}
-use borrow.Author.Rules.{rules}
-use borrow.Author.Tests.{not-true, not-false}
 use Rattle.table_laws.proofs.Sound.{Numbers, numbers-told}
 use Rattle.table.specs.Valid.{valid_of}
 use Rattle.table_valid.proofs.Slots.{nodes-listed}
@@ -23,15 +21,15 @@ nodes_fit-requires c = let narrow : Numbers c.ring_of-g.result = numbers-told c.
 pub returns-then-not-nodes_fit : goal.returns-then-not-nodes_fit
 unfolding valid_of
 returns-then-not-nodes_fit c = rw (
-      ← c.ring_of-g.ensures,
-      ← c.numbers_fit.ensures,
-      c.if-not-numbers_fit.false,
-      ← c.nodes_fit.ensures,
-      c.if-not-nodes_fit.true,
-    )
+  ← c.ring_of-g.ensures,
+  ← c.numbers_fit.ensures,
+  c.if-not-numbers_fit.false,
+  ← c.nodes_fit.ensures,
+  c.if-not-nodes_fit.true,
+)
 
 pub pool_fits-requires : goal.pool_fits-requires
-pool_fits-requires c = let g = c.ring_of-g.ensures in 
+pool_fits-requires c = let g = c.ring_of-g.ensures in
     let told = sym c.numbers_fit.ensures ∙ c.if-not-numbers_fit.false in
     let nodes = sym c.nodes_fit.ensures ∙ c.if-not-nodes_fit.false in
     (rw (g, c.ids-ids.ensures) (nodes-listed _ (rw g at told) nodes), c.all_nodes-all.ensures)
@@ -39,11 +37,11 @@ pool_fits-requires c = let g = c.ring_of-g.ensures in
 pub returns : goal.returns
 unfolding valid_of
 returns c = rw (
-      ← c.ring_of-g.ensures,
-      ← c.numbers_fit.ensures,
-      c.if-not-numbers_fit.false,
-      ← c.nodes_fit.ensures,
-      c.if-not-nodes_fit.false,
-      ← c.ids-ids.ensures,
-      c.pool_fits.ensures,
-    )
+  ← c.ring_of-g.ensures,
+  ← c.numbers_fit.ensures,
+  c.if-not-numbers_fit.false,
+  ← c.nodes_fit.ensures,
+  c.if-not-nodes_fit.false,
+  ← c.ids-ids.ensures,
+  c.pool_fits.ensures,
+)

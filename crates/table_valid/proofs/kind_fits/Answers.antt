@@ -1,5 +1,4 @@
 -- `table_valid::kind_fits` meets its contract: the kind that was matched decides what the definition asks. Assumes nothing.
-use borrow.Author.Rules.{rules}
 use mathlib.Core.Path.{◌≡◌, refl}
 use mathlib.Core.Logic.{◌⊎◌, inl, inr}
 use mathlib.Core.Bool.{Bool, false, ◌&&◌}
@@ -49,7 +48,7 @@ pub returns-in-4 : goal.returns-in-4
 returns-in-4 c = rw (c.probe_fits.ensures, c.in-4.is)
 
 pub returns-in-5 : goal.returns-in-5
-returns-in-5 c = let a = c.args in 
+returns-in-5 c = let a = c.args in
     rw (c.probe_fits-in-5.ensures, c.in-5.is) (probe-same a.g a.m)
 
 pub returns-in-7 : goal.returns-in-7
@@ -59,8 +58,8 @@ pub returns-in-8 : goal.returns-in-8
 returns-in-8 c = rw (c.broadcast_fits.ensures, c.in-8.is)
 
 pub returns-in_default : goal.returns-in_default
-returns-in_default c = let k = c.args.kind in 
-    let r = c.in_default.in_default-own.rest in 
+returns-in_default c = let k = c.args.kind in
+    let r = c.in_default.in_default-own.rest in
     let key = r.0.0.0.0.0.0.1 in
     rw (no_kind k (λ l.
     past 4 k r.0.0.1 (λ e. key (inr e)) r.0.1 r.1

@@ -1,5 +1,4 @@
 -- `table_valid::leaf_fits` meets its contract: each side by its callee. Assumes nothing.
-use borrow.Author.Rules.{rules}
 use native.Mathlib.Omega.{arith}
 use Rattle.rules.specs.Fits.{leaf_fits}
 use Rattle.table_valid.proofs.Nodes.{part-side}
@@ -7,7 +6,7 @@ use Rattle.table_valid.proofs.leaf_fits.Goals as goal
 
 pub returns : goal.returns
 unfolding leaf_fits
-returns c = let a = c.args in 
+returns c = let a = c.args in
     rw (
       c.side_fits-2.ensures,
       c.side_fits.ensures,

@@ -1,5 +1,4 @@
 -- `table_valid::lease_request_fits` meets its contract: what the definition asks of kind 7. Assumes nothing.
-use borrow.Author.Rules.{rules}
 use Rattle.rules.specs.Fits.{fields_fit, word_fits, flag_fits, carried_fits, owner_fits, routing_fits, failed_fits}
 use Rattle.table_valid.proofs.lease_request_fits.Goals as goal
 

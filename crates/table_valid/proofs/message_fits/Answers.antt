@@ -1,5 +1,4 @@
 -- `table_valid::message_fits` meets its contract: the fields by their callee, and the rest is the definition in another order. Assumes nothing.
-use borrow.Author.Rules.{rules}
 use mathlib.Core.Path.{◌≡◌, refl}
 use mathlib.Core.Bool.{Bool, true, false, ◌&&◌}
 use lib.Dec.{ltb}
@@ -13,6 +12,6 @@ kind-first false false c = refl
 
 pub returns : goal.returns
 unfolding message_fits
-returns c = let a = c.args in 
-    let m = a.m in 
+returns c = let a = c.args in
+    let m = a.m in
     rw c.kind_fits.ensures (kind-first (ltb m.dest a.g.n) (is_kind m.kind) (fields_fit m.kind a.g m))

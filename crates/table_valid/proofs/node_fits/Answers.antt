@@ -1,5 +1,4 @@
 -- `table_valid::node_fits` meets its contract: each test by its callee. Assumes nothing.
-use borrow.Author.Rules.{rules}
 use Prim.Native.Nat.{◌^◌, ◌<◌}
 use native.Mathlib.Omega.{arith}
 use Rattle.rules.specs.Fits.{node_fits}
@@ -9,7 +8,7 @@ use Rattle.table_valid.proofs.node_fits.Goals as goal
 pub returns : goal.returns
 unfolding node_fits
 returns c = let words : (c.args.v.probing < 2 ^ 64) × (c.args.v.failed < 2 ^ 64) = (omega arith, omega arith) in
-    let a = c.args in 
+    let a = c.args in
     rw (
       c.is_part-5.ensures,
       c.is_part-4.ensures,

@@ -1,15 +1,10 @@
 -- The answers. Assumes nothing.
-use borrow.Author.Rules.{rules}
-use borrow.Author.Tests.{not-true, not-false}
 use mathlib.Core.Path.{◌≡◌, refl, sym, ◌∙◌}
-use mathlib.Core.Bool.{Bool, true, ◌&&◌}
-use Prim.Native.Nat.{ℕ, ◌-◌, ◌<◌, ◌≤◌, zero-le}
+use mathlib.Core.Bool.{◌&&◌}
+use Prim.Native.Nat.{◌<◌, zero-le}
 use native.Mathlib.Omega.{arith}
 use Rattle.marks.specs.Marks.{all_to}
 use Rattle.marks.proofs.Laws.{more, fails}
-use Rattle.rules.specs.Fits.{slot_fits}
-use Rattle.table_type.specs.declared.Table.{Table}
-use Rattle.table_type.specs.Table.{node_at, ids_of, ring_of}
 use Rattle.table.specs.Valid.{nodes_fit}
 use Rattle.table_valid.proofs.Slots.{low_at, low-next, slot-listed, slot-blank}
 use Rattle.table_valid.proofs.nodes_fit.Invariants.{fits_at}
@@ -74,7 +69,7 @@ pub returns-then-not-is_blank_node : goal.returns-then-not-is_blank_node
 unfolding nodes_fit
 returns-then-not-is_blank_node c = let turn-2 : c.is_blank_node.result
     ≡ fits_at c.args.t c.loop-s-2.s = rw c.is_blank_node.ensures (slot-blank c.args.t c.loop-s-2.s c.loop-s-2.invariant.0) in
-    let t = c.args.t in 
+    let t = c.args.t in
     sym (fails 64 (fits_at t) c.loop-s-2.s (omega arith) (sym (turn-2) ∙ c.if-not-is_blank_node.true))
 
 pub loop-s-2-preserved : goal.loop-s-2-preserved

@@ -1,18 +1,13 @@
 -- `table_valid::nodes_fit` meets its contract. The invariants: the first s slots obey their rules; s is at most n and low the least id that slot s
 -- may have, then s is past the listed nodes. The measures: the slots left. Assumes nothing.
-use borrow.Author.Rules.{rules}
-use borrow.Author.Tests.{not-true, not-false}
-use mathlib.Core.Path.{◌≡◌, refl, sym, ◌∙◌}
-use mathlib.Core.Bool.{Bool, true, ◌&&◌}
-use Prim.Native.Nat.{ℕ, ◌-◌, ◌<◌, ◌≤◌, zero-le}
-use native.Mathlib.Omega.{arith}
+use mathlib.Core.Path.{◌≡◌}
+use mathlib.Core.Bool.{Bool, true}
+use Prim.Native.Nat.{ℕ, ◌-◌, ◌≤◌}
 use Rattle.marks.specs.Marks.{all_to}
-use Rattle.marks.proofs.Laws.{more, fails}
 use Rattle.rules.specs.Fits.{slot_fits}
 use Rattle.table_type.specs.declared.Table.{Table}
 use Rattle.table_type.specs.Table.{node_at, ids_of, ring_of}
-use Rattle.table.specs.Valid.{nodes_fit}
-use Rattle.table_valid.proofs.Slots.{low_at, low-next, slot-listed, slot-blank}
+use Rattle.table_valid.proofs.Slots.{low_at}
 use Rattle.table_valid.proofs.nodes_fit.Given as goal
 
 abbrev pub fits_at : Table → ℕ → Bool

@@ -1,6 +1,5 @@
 -- `table_valid::place_fits` meets its contract: a lookup by its own test, and any other message by its kind, with no hops. Assumes nothing.
 use mathlib.Core.Path.{◌∙◌}
-use borrow.Author.Rules.{rules}
 use Rattle.table_valid.proofs.Hops.{lookup-is, other-is}
 use Rattle.table_valid.proofs.place_fits.Goals as goal
 

@@ -1,5 +1,4 @@
 -- `table_valid::side_fits` meets its contract: each test by its callee. Assumes nothing.
-use borrow.Author.Rules.{rules}
 use Rattle.table_valid.proofs.side_fits.Goals as goal
 
 pub returns : goal.returns

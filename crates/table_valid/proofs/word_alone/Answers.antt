@@ -1,5 +1,4 @@
 -- `table_valid::word_alone` meets its contract: the code is the definition. Assumes nothing.
-use borrow.Author.Rules.{rules}
 use Rattle.table_valid.proofs.word_alone.Goals as goal
 
 pub returns : goal.returns

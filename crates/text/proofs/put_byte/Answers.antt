@@ -1,5 +1,4 @@
 -- `text::put_byte` meets its contract: one store. Assumes nothing.
-use borrow.Author.Rules.{rules}
 use native.Mathlib.Omega.{arith}
 use Rattle.text.proofs.Runs.{one_byte}
 use Rattle.text.proofs.put_byte.Goals as goal

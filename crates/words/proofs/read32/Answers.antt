@@ -1,5 +1,4 @@
 -- `words::read32` meets its contract: four bytes, each 256 times the one before, are the word. Assumes nothing.
-use borrow.Author.Rules.{rules}
 use native.Mathlib.Omega.{arith}
 use Rattle.words.proofs.Codec.{number-four}
 use Rattle.words.proofs.read32.Goals as goal

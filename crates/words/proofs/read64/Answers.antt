@@ -1,5 +1,4 @@
 -- `words::read64` meets its contract: the lower word, then the upper one. Assumes nothing.
-use borrow.Author.Rules.{rules}
 use native.Mathlib.Omega.{arith}
 use Rattle.words.proofs.Codec.{number-eight}
 use Rattle.words.proofs.read64.Goals as goal

@@ -1,5 +1,4 @@
 -- `words::write32` meets its contract: four stores, one after the other, are a run of four bytes. Assumes nothing.
-use borrow.Author.Rules.{rules}
 use native.Mathlib.Omega.{arith}
 use lib.ListN.{length-set}
 use Rattle.words.proofs.Puts.{four_bytes}

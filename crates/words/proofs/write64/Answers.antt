@@ -1,5 +1,4 @@
 -- `words::write64` meets its contract: the lower word, then the upper one. Assumes nothing.
-use borrow.Author.Rules.{rules}
 use Rattle.words.proofs.Puts.{long-word}
 use Rattle.words.proofs.write64.Goals as goal
 

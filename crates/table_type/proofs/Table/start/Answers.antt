@@ -1,7 +1,5 @@
 -- `table_type::Table::start` meets its contract: the two tests are made in the definition's order, and ids that pass them are listed,
 -- as start_nodes asks. Assumes nothing.
-use borrow.Author.Rules.{rules}
-use borrow.Author.Tests.{not-true, not-false}
 use mathlib.Core.Path.{◌≡◌, sym, ◌∙◌}
 use mathlib.Core.Bool.{true}
 use lib.ListN.{length}
@@ -31,12 +29,12 @@ returns-then-not-list_fits c = let numbers : let a = c.args in start_fits a.m a.
 pub start_nodes-nodes-requires : goal.start_nodes-nodes-requires
 start_nodes-nodes-requires c = let numbers : let a = c.args in start_fits a.m a.l (length a.ids.now) ≡ true = sym c.start_fits.ensures ∙ c.if-not-start_fits.false in
     let numbers_fit_lem : let a = c.args in StartFits a.m a.l (length a.ids.now) = start_fits_lem _ _ _ (numbers) in
-    let list : let a = c.args in 
+    let list : let a = c.args in
     list_fits a.m (length a.ids.now) (slot_ids a.ids.now) a.a ≡ true = rw (← c.slot_ids-all.ensures) (sym c.list_fits.ensures ∙ c.if-not-list_fits.false) in
     rw c.slot_ids-all.ensures (start-listed _ _ _ (numbers_fit_lem) (list-fits _ _ _ _ (list)).rise)
 
 pub returns : goal.returns
 returns c = let numbers : let a = c.args in start_fits a.m a.l (length a.ids.now) ≡ true = sym c.start_fits.ensures ∙ c.if-not-start_fits.false in
-    let list : let a = c.args in 
+    let list : let a = c.args in
     list_fits a.m (length a.ids.now) (slot_ids a.ids.now) a.a ≡ true = rw (← c.slot_ids-all.ensures) (sym c.list_fits.ensures ∙ c.if-not-list_fits.false) in
     rw (c.start_nodes-nodes.ensures, c.slot_ids-all.ensures) (sym (start-done _ _ _ _ (numbers) (list)))
