@@ -10,17 +10,17 @@ use Rattle.words.specs.Bytes.{bytes_of}
 use Rattle.words.specs.InnerPut.{Put}
 use Rattle.words.proofs.Codec.{bytes-length}
 use Rattle.run_driver.specs.declared.told.Reply.{Reply}
-use Rattle.run_driver.specs.Replies.{Says, numbered, result}
+use Rattle.run_driver.specs.Replies.{Says, numbered, result_of}
 
 module _ (bs out : List ℕ) where
-  pub no_room_lem : (n : ℕ) → length bs ≡ n → length out < n → {r : Reply} → r ≡ numbered 11 → Says (result bs out) r out
-  unfolding result
+  pub no_room_lem : (n : ℕ) → length bs ≡ n → length out < n → {r : Reply} → r ≡ numbered 11 → Says (result_of bs out) r out
+  unfolding result_of
   no_room_lem n l h e =
       let t = lt-ltb (length out) (length bs) (rw l h) in
       record { reply-is = rw (t, e); left_is = rw t }
 
-  pub put-says : {size next : ℕ} {new : List ℕ} → Put size out 0 bs next new → Says (result bs out) (record { number = 0; count = next }) new
-  unfolding result
+  pub put-says : {size next : ℕ} {new : List ℕ} → Put size out 0 bs next new → Says (result_of bs out) (record { number = 0; count = next }) new
+  unfolding result_of
   put-says p =
       let t = le-ltb (length out) (length bs) (omega (arith, p.inside, p.sized)) in
       record { reply-is = rw (t, p.next-is, p.sized, zero-add); left_is = rw (t, p.new_is, p.sized, zero-add) }

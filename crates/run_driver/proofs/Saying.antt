@@ -19,7 +19,7 @@ use Rattle.face_c.specs.Words.{asked_of, step_word, via_word, step_left}
 use Rattle.run_driver.specs.declared.told.Reply.{Reply}
 use Rattle.run_driver.specs.declared.told.Led.{Led}
 use Rattle.run_driver.specs.Requests.{word_at, action_in, id_count, ids_in}
-use Rattle.run_driver.specs.Replies.{Says, LeadsTo, numbered, no_result, no_request, reply_by, reply_in, led_in, result}
+use Rattle.run_driver.specs.Replies.{Says, LeadsTo, numbered, no_result, no_request, reply_by, reply_in, led_in, result_of}
 use Rattle.run_driver.specs.Replies.{rest_said, first_said, verdict_said}
 use Rattle.run_driver.specs.Kinds.{step_said, step_via_said, begun_said, start_said}
 
@@ -37,7 +37,7 @@ first_said_lem out e s = rw e s
 pub verdict-said : (out : List ℕ) {x y : Verdict} {new : List ℕ} {r : Reply} → y ≡ x → Says (verdict_said x out) r new → Says (verdict_said y out) r new
 verdict-said out e s = rw e s
 
-pub word-said : (f : ℕ) (out : List ℕ) {x y : ℕ} {new : List ℕ} {r : Reply} → x ≡ y → Says (result (f ∷ bytes_of 4 x) out) r new → Says (result (f ∷ bytes_of 4 y) out) r new
+pub word-said : (f : ℕ) (out : List ℕ) {x y : ℕ} {new : List ℕ} {r : Reply} → x ≡ y → Says (result_of (f ∷ bytes_of 4 x) out) r new → Says (result_of (f ∷ bytes_of 4 y) out) r new
 word-said f out e s = rw e at s
 
 -- from a place to the end is all that is left behind it

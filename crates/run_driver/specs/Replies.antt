@@ -55,23 +55,23 @@ abbrev pub led_in : ℕ → Led
 led_in x = record { reply = record { number = x % 4294967296; count = x / 4294967296 % 16777216 }; lead = x / 72057594037927936 }
 
 -- the bytes of a result, where there is room for them
-unfoldable pub result : List ℕ → List ℕ → Said
-result bs out = cond (ltb (length out) (length bs)) (no_result 11 out)
+unfoldable pub result_of : List ℕ → List ℕ → Said
+result_of bs out = cond (ltb (length out) (length bs)) (no_result 11 out)
     (record { reply = record { number = 0; count = length bs }; left = bs ++ drop (length bs) out })
 
 -- one byte, 0 or 1
 abbrev pub rest_said : Rest → List ℕ → Said
-rest_said Settled out = result (1 ∷ []) out
-rest_said Unsettled out = result (0 ∷ []) out
+rest_said Settled out = result_of (1 ∷ []) out
+rest_said Unsettled out = result_of (0 ∷ []) out
 rest_said (NotAsked why) out = no_result (refusal_number why) out
 
 -- one byte, 1 if it has a message and 0 if not; where it is 1, then a 32-bit word, the place of its first
 abbrev pub first_said : First → List ℕ → Said
-first_said (first.At place) out = result (1 ∷ bytes_of 4 (place % 4294967296)) out
-first_said first.None out = result (0 ∷ []) out
+first_said (first.At place) out = result_of (1 ∷ bytes_of 4 (place % 4294967296)) out
+first_said first.None out = result_of (0 ∷ []) out
 first_said (first.NotAsked why) out = no_result (refusal_number why) out
 
 -- one byte, 1 for accepted and 0 for not; where it is 0, then a 32-bit word, the number of the first bad step
 abbrev pub verdict_said : Verdict → List ℕ → Said
-verdict_said Accepted out = result (1 ∷ []) out
-verdict_said (Bad k) out = result (0 ∷ bytes_of 4 (k % 4294967296)) out
+verdict_said Accepted out = result_of (1 ∷ []) out
+verdict_said (Bad k) out = result_of (0 ∷ bytes_of 4 (k % 4294967296)) out

@@ -11,8 +11,8 @@ mod told; // what a reply says
 mod waiting; // kind 10
 mod records; // kinds 7 to 9
 
-use libc::{STDIN_FILENO, STDOUT_FILENO};
 use rehearsal::Checker;
+use std::io::Read;
 use told::{Led, Reply};
 use water::Store;
 
@@ -55,86 +55,84 @@ fn reply_to(request: &[u8], out: &mut [u8]) -> Reply {
 }
 
 // Sends the length of a reply and its number: whether it could.
-fn send_head(number: u32, count: usize) -> bool {
+fn send_head(rt: &impl Print, number: u32, count: usize) -> bool {
     let head = told::head_of((count % 1048576 + 4) as u32, number);
-    io::write_all(STDOUT_FILENO, &head)
+    rt.write_all(&head).is_ok()
 }
 
 // Sends the first bytes: whether it could.
-fn send_bytes(out: &[u8], n: usize) -> bool {
+fn send_bytes(rt: &impl Print, out: &[u8], n: usize) -> bool {
     if n > out.len() {
         return false;
     }
-    io::write_all(STDOUT_FILENO, &out[..n])
+    rt.write_all(&out[..n]).is_ok()
 }
 
 // Sends a reply: whether it could.
-fn send(r: Reply, out: &[u8]) -> bool {
+fn send(rt: &impl Print, r: Reply, out: &[u8]) -> bool {
     if r.number != 0 {
-        return send_head(r.number, 0);
+        return send_head(rt, r.number, 0);
     }
-    if !send_head(0, r.count) {
+    if !send_head(rt, 0, r.count) {
         return false;
     }
-    send_bytes(out, r.count)
+    send_bytes(rt, out, r.count)
 }
 
 // Sends a reply with the byte before its result: whether it could.
-fn send_led(l: Led, out: &[u8]) -> bool {
+fn send_led(rt: &impl Print, l: Led, out: &[u8]) -> bool {
     let r = l.reply;
     if r.number != 0 {
-        return send_head(r.number, 0);
+        return send_head(rt, r.number, 0);
     }
-    if !send_head(0, r.count % 1048576 + 1) {
+    if !send_head(rt, 0, r.count % 1048576 + 1) {
         return false;
     }
     let lead = [(l.lead % 256) as u8];
-    if !io::write_all(STDOUT_FILENO, &lead) {
+    if rt.write_all(&lead).is_err() {
         return false;
     }
-    send_bytes(out, r.count)
+    send_bytes(rt, out, r.count)
 }
 
 // Reads the next bytes: whether there were so many.
-fn fill(body: &mut [u8], n: usize) -> bool {
+fn fill(rt: &impl Input, body: &mut [u8], n: usize) -> bool {
     if n > body.len() {
         return false;
     }
-    let got = io::read_full(STDIN_FILENO, &mut body[..n]);
-    got == n
+    rt.reader().read_exact(&mut body[..n]).is_ok()
 }
 
 // Reads past the next bytes: whether there were so many.
-fn skip(body: &mut [u8], n: usize) -> bool {
+fn skip(rt: &impl Input, body: &mut [u8], n: usize) -> bool {
     let most = body.len();
     if most == 0 {
         return false;
     }
     let mut left = n;
     while left > most {
-        if !fill(body, most) {
+        if !fill(rt, body, most) {
             return false;
         }
         left -= most;
     }
-    fill(body, left)
+    fill(rt, body, left)
 }
 
 // Reads the next request. One that is too long is read past, and counts as an empty one, which is none either.
-fn receive(body: &mut [u8]) -> Came {
+fn receive(rt: &impl Input, body: &mut [u8]) -> Came {
     let mut head = [0u8; 4];
-    let got = io::read_full(STDIN_FILENO, &mut head);
-    if got < 4 {
+    if rt.reader().read_exact(&mut head).is_err() {
         return Came::End;
     }
     let n = words::read32(&head, 0) as usize;
     if n > body.len() {
-        if skip(body, n) {
+        if skip(rt, body, n) {
             return Came::Request(0);
         }
         return Came::End;
     }
-    if fill(body, n) {
+    if fill(rt, body, n) {
         return Came::Request(n);
     }
     Came::End
@@ -154,7 +152,7 @@ fn is_held(kind: u64) -> bool {
 }
 
 // Answers a request of a rehearsal: whether the reply was sent, and the checker after it.
-fn rehearse(c: Checker, body: &[u8], n: usize, out: &mut [u8]) -> Served {
+fn rehearse(rt: &impl Print, c: Checker, body: &[u8], n: usize, out: &mut [u8]) -> Served {
     if n > body.len() {
         return Served {
             more: false,
@@ -165,13 +163,13 @@ fn rehearse(c: Checker, body: &[u8], n: usize, out: &mut [u8]) -> Served {
     let reply = h.reply;
     let checker = h.checker;
     Served {
-        more: send(reply, out),
+        more: send(rt, reply, out),
         checker,
     }
 }
 
 // Answers a request of records: whether the reply was sent, and the records after it.
-fn record(s: Store, body: &[u8], n: usize, out: &mut [u8]) -> Stored {
+fn record(rt: &impl Print, s: Store, body: &[u8], n: usize, out: &mut [u8]) -> Stored {
     if n > body.len() {
         return Stored {
             more: false,
@@ -182,69 +180,71 @@ fn record(s: Store, body: &[u8], n: usize, out: &mut [u8]) -> Stored {
     let reply = k.reply;
     let store = k.store;
     Stored {
-        more: send(reply, out),
+        more: send(rt, reply, out),
         store,
     }
 }
 
 // Answers a step with its letter: whether the reply was sent.
-fn answer_led(request: &[u8], out: &mut [u8]) -> bool {
+fn answer_led(rt: &impl Print, request: &[u8], out: &mut [u8]) -> bool {
     if request.len() == 0 {
         return false;
     }
     let l = steps::make_step_via(&request[1..], out);
-    send_led(l, out)
+    send_led(rt, l, out)
 }
 
 // Answers a request of another kind: whether the reply was sent.
-fn answer(body: &[u8], n: usize, out: &mut [u8]) -> bool {
+fn answer(rt: &impl Print, body: &[u8], n: usize, out: &mut [u8]) -> bool {
     if n > body.len() {
         return false;
     }
     if kind_in(body, n) == 11 {
-        return answer_led(&body[..n], out);
+        return answer_led(rt, &body[..n], out);
     }
     let r = reply_to(&body[..n], out);
-    send(r, out)
+    send(rt, r, out)
 }
 
 // Answers requests until one of a rehearsal or of records has come.
-fn serve_others(body: &mut [u8], out: &mut [u8]) -> Came {
-    let mut turns = u64::MAX;
-    while turns > 0 {
-        let Came::Request(n) = receive(body) else {
+fn serve_others(rt: &(impl Input + Print), body: &mut [u8], out: &mut [u8]) -> Came {
+    for _ in 0..u64::MAX {
+        let Came::Request(n) = receive(rt, body) else {
             return Came::End;
         };
         if is_held(kind_in(body, n)) {
             return Came::Request(n);
         }
-        if !answer(body, n, out) {
+        if !answer(rt, body, n, out) {
             return Came::End;
         }
-        turns -= 1;
     }
     Came::End
 }
 
 // Answers all requests, with a checker and records to begin with. Neither is moved but for its own requests.
-fn serve_all(first: Checker, none: Store, body: &mut [u8], out: &mut [u8]) {
+fn serve_all(
+    rt: &(impl Input + Print),
+    first: Checker,
+    none: Store,
+    body: &mut [u8],
+    out: &mut [u8],
+) {
     let mut checker = first;
     let mut store = none;
-    let mut turns = u64::MAX;
-    while turns > 0 {
-        turns -= 1;
-        let Came::Request(n) = serve_others(body, out) else {
+    for _ in 0..u64::MAX {
+        let Came::Request(n) = serve_others(rt, body, out) else {
             return;
         };
         if kind_in(body, n) < 7 {
-            let s = rehearse(checker, body, n, out);
+            let s = rehearse(rt, checker, body, n, out);
             if !s.more {
                 return;
             }
             checker = s.checker;
             continue;
         }
-        let s = record(store, body, n, out);
+        let s = record(rt, store, body, n, out);
         if !s.more {
             return;
         }
@@ -253,10 +253,11 @@ fn serve_all(first: Checker, none: Store, body: &mut [u8], out: &mut [u8]) {
 }
 
 // The checker begins with an empty file, which is no start.
-fn main() {
-    let mut body = io::large_buffer();
-    let mut out = io::large_buffer();
+fn main(rt: HostRuntime) {
+    let mut body = [0u8; 65536];
+    let mut out = [0u8; 65536];
     serve_all(
+        &rt,
         over_rehearsal::begin(&body[..0]),
         over_water::empty(),
         &mut body,

@@ -4,7 +4,7 @@ ghost use Rattle.std.specs.Int.{w64};
 ghost use Rattle.std.proofs.Common.{of_z};
 ghost use Rattle.rules.specs.Numbers.{refusal_number};
 ghost use Rattle.words.specs.Bytes.{bytes_of};
-ghost use Rattle.run_driver.specs.Replies.{Says, numbered, no_request, reply_by, reply_in, led_in, result};
+ghost use Rattle.run_driver.specs.Replies.{Says, numbered, no_request, reply_by, reply_in, led_in, result_of};
 ghost use Rattle.run_driver.specs.Replies.{rest_said, first_said, verdict_said};
 
 use counts::First;
@@ -30,28 +30,28 @@ pub struct Led {
 
 // A number alone.
 pub fn refused(number: u32) -> Reply
-    ensures* { λ r. ⌜ r ≡ numbered number ⌝ }
+    ensures { result ≡ numbered number }
 {
     Reply { number, count: 0 }
 }
 
 // What a request that is none is answered.
 pub fn malformed() -> Reply
-    ensures* { λ r. ⌜ r ≡ numbered no_request ⌝ }
+    ensures { result ≡ numbered no_request }
 {
     refused(4294967295)
 }
 
 // 01's number of a refusal alone.
 pub fn refused_by(why: Refusal) -> Reply
-    ensures* { λ r. ⌜ r ≡ numbered (refusal_number why) ⌝ }
+    ensures { result ≡ numbered (refusal_number why) }
 {
     refused(parts::answer_number(Answer::Refused(why)))
 }
 
 // A word of the exported calls as a reply.
 pub fn unpacked(x: u64) -> Reply
-    ensures* { λ r. ⌜ r ≡ reply_in x ⌝ }
+    ensures { result ≡ reply_in x }
 {
     Reply {
         number: (x % 4294967296) as u32,
@@ -61,7 +61,7 @@ pub fn unpacked(x: u64) -> Reply
 
 // The word of a step with its letter as a reply.
 pub fn unlettered(x: u64) -> Led
-    ensures* { λ r. ⌜ r ≡ led_in x ⌝ }
+    ensures { result ≡ led_in x }
 {
     let reply = Reply {
         number: (x % 4294967296) as u32,
@@ -74,7 +74,7 @@ pub fn unlettered(x: u64) -> Led
 }
 
 pub fn reply_of(w: Wrote) -> Reply
-    ensures* { λ r. ⌜ r ≡ reply_by w ⌝ }
+    ensures { result ≡ reply_by w }
 {
     let answer = w.answer;
     Reply {
@@ -85,14 +85,14 @@ pub fn reply_of(w: Wrote) -> Reply
 
 // A number as a word of 32 bits.
 fn low(x: usize) -> u32
-    ensures* { λ r. ⌜ r ≡ x % 4294967296 ⌝ }
+    ensures { result ≡ x % 4294967296 }
 {
     (x % 4294967296) as u32
 }
 
 // A result of one byte.
 fn flag(x: u8, out: &mut [u8]) -> Reply
-    ensures* { λ r. ⌜ Says (result (x ∷ []) out.old) r out.new ⌝ }
+    ensures { Says (result_of (x ∷ []) out.old) result out.new }
 {
     if out.len() < 1 {
         return refused(11);
@@ -103,7 +103,7 @@ fn flag(x: u8, out: &mut [u8]) -> Reply
 
 // A result of a byte and a word.
 fn flag_word(x: u8, y: u32, out: &mut [u8]) -> Reply
-    ensures* { λ r. ⌜ Says (result (x ∷ bytes_of 4 y) out.old) r out.new ⌝ }
+    ensures { Says (result_of (x ∷ bytes_of 4 y) out.old) result out.new }
 {
     if out.len() < 5 {
         return refused(11);
@@ -115,7 +115,7 @@ fn flag_word(x: u8, y: u32, out: &mut [u8]) -> Reply
 
 // A result of a word and a long word.
 fn two_words(x: u32, y: u64, out: &mut [u8]) -> Reply
-    ensures* { λ r. ⌜ Says (result (bytes_of 4 x ++ bytes_of 8 y) out.old) r out.new ⌝ }
+    ensures { Says (result_of (bytes_of 4 x ++ bytes_of 8 y) out.old) result out.new }
 {
     if out.len() < 12 {
         return refused(11);
@@ -127,7 +127,7 @@ fn two_words(x: u32, y: u64, out: &mut [u8]) -> Reply
 
 // A result of a word and two long words.
 fn three_words(x: u32, y: u64, z: u64, out: &mut [u8]) -> Reply
-    ensures* { λ r. ⌜ Says (result (bytes_of 4 x ++ (bytes_of 8 y ++ bytes_of 8 z)) out.old) r out.new ⌝ }
+    ensures { Says (result_of (bytes_of 4 x ++ (bytes_of 8 y ++ bytes_of 8 z)) out.old) result out.new }
 {
     if out.len() < 20 {
         return refused(11);
@@ -140,7 +140,7 @@ fn three_words(x: u32, y: u64, z: u64, out: &mut [u8]) -> Reply
 
 // Whether a table is settled.
 pub fn tell_rest(said: Rest, out: &mut [u8]) -> Reply
-    ensures* { λ r. ⌜ Says (rest_said said out.old) r out.new ⌝ }
+    ensures { Says (rest_said said out.old) result out.new }
 {
     match said {
         Rest::Settled => flag(1, out),
@@ -151,7 +151,7 @@ pub fn tell_rest(said: Rest, out: &mut [u8]) -> Reply
 
 // What waits for a node: 1 and the place of its first message, or 0 where it has none.
 pub fn tell_first(f: First, out: &mut [u8]) -> Reply
-    ensures* { λ r. ⌜ Says (first_said f out.old) r out.new ⌝ }
+    ensures { Says (first_said f out.old) result out.new }
 {
     match f {
         First::At(place) => flag_word(1, low(place), out),
@@ -162,7 +162,7 @@ pub fn tell_first(f: First, out: &mut [u8]) -> Reply
 
 // The verdict so far: 1, or 0 and then the number of the first bad step.
 pub fn tell_verdict(v: Verdict, out: &mut [u8]) -> Reply
-    ensures* { λ r. ⌜ Says (verdict_said v out.old) r out.new ⌝ }
+    ensures { Says (verdict_said v out.old) result out.new }
 {
     match v {
         Verdict::Accepted => flag(1, out),
@@ -172,7 +172,7 @@ pub fn tell_verdict(v: Verdict, out: &mut [u8]) -> Reply
 
 // The bits of a signed number: two's complement.
 fn bits_of(x: i64) -> u64
-    ensures* { λ r. ⌜ r ≡ of_z w64 x ⌝ }
+    ensures { result ≡ of_z w64 x }
 {
     if x < 0 {
         18446744073709551615 - (-1 - x) as u64
@@ -194,7 +194,7 @@ pub fn tell_sum(s: Store, out: &mut [u8]) -> Reply {
 
 // The length of a reply and its number, as bytes.
 pub fn head_of(n: u32, number: u32) -> [u8; 8]
-    ensures* { λ r. ⌜ r ≡ bytes_of 4 n ++ bytes_of 4 number ⌝ }
+    ensures { result ≡ bytes_of 4 n ++ bytes_of 4 number }
 {
     [
         (n % 256) as u8,

@@ -4,16 +4,15 @@
 #![tactic(auto)]
 
 use face::Rest;
-use libc::STDOUT_FILENO;
 use rules::{Action, Pool};
 use table_type::{Stepped, Table};
 
-fn say(words: &[u8]) {
-    io::write_all(STDOUT_FILENO, words);
+fn say(rt: &impl Print, words: &[u8]) {
+    let _ = rt.write_all(words);
 }
 
-fn number(x: u64) {
-    io::print_decimal(STDOUT_FILENO, x);
+fn number(rt: &impl Print, x: u64) {
+    let _ = rt.print(x);
 }
 
 // The status of a slot, as 01's number.
@@ -27,34 +26,34 @@ fn status(t: Table, s: usize) -> u64 {
     }
 }
 
-fn show(s: Stepped) {
+fn show(rt: &impl Print, s: Stepped) {
     let answer = s.answer;
-    say(b": ");
-    number(parts::answer_number(answer) as u64);
-    say(b", status");
+    say(rt, b": ");
+    number(rt, parts::answer_number(answer) as u64);
+    say(rt, b", status");
     let t = s.table;
     let mut i: usize = 0;
     while i < 4 {
-        say(b" ");
-        number(status(t, i));
+        say(rt, b" ");
+        number(rt, status(t, i));
         i += 1;
     }
     let p = s.pool;
-    say(b", waiting ");
-    number(p.count as u64);
-    say(b"\n");
+    say(rt, b", waiting ");
+    number(rt, p.count as u64);
+    say(rt, b"\n");
 }
 
-fn stepped(s: Stepped, a: Action) -> Stepped {
+fn stepped(rt: &impl Print, s: Stepped, a: Action) -> Stepped {
     let t = s.table;
     let p = s.pool;
     let r = table_step::step(t, p, 256, a);
-    show(r);
+    show(rt, r);
     r
 }
 
 // Takes the first message until none waits.
-fn drained(s: Stepped) -> Stepped {
+fn drained(rt: &impl Print, s: Stepped) -> Stepped {
     let mut now = s;
     let mut turn: u64 = 0;
     while turn < 64 {
@@ -62,84 +61,89 @@ fn drained(s: Stepped) -> Stepped {
         if p.count == 0 {
             return now;
         }
-        say(b"take 0");
-        now = stepped(now, Action::Take(0));
+        say(rt, b"take 0");
+        now = stepped(rt, now, Action::Take(0));
         turn += 1;
     }
     now
 }
 
-fn joined(s: Stepped, i: usize, seed: usize) -> Stepped {
-    say(b"join ");
-    number(i as u64);
-    say(b" ");
-    number(seed as u64);
-    let asked = drained(stepped(s, Action::Join(i, seed)));
-    say(b"request lease ");
-    number(i as u64);
-    drained(stepped(asked, Action::RequestLease(i)))
+fn joined(rt: &impl Print, s: Stepped, i: usize, seed: usize) -> Stepped {
+    say(rt, b"join ");
+    number(rt, i as u64);
+    say(rt, b" ");
+    number(rt, seed as u64);
+    let asked = drained(rt, stepped(rt, s, Action::Join(i, seed)));
+    say(rt, b"request lease ");
+    number(rt, i as u64);
+    drained(rt, stepped(rt, asked, Action::RequestLease(i)))
 }
 
-fn rest(s: Stepped) {
+fn rest(rt: &impl Print, s: Stepped) {
     let t = s.table;
     let p = s.pool;
     match face_table::settled(t, p, 256) {
-        Rest::Settled => say(b"settled\n"),
-        Rest::Unsettled => say(b"not settled\n"),
-        Rest::NotAsked(_) => say(b"not valid\n"),
+        Rest::Settled => say(rt, b"settled\n"),
+        Rest::Unsettled => say(rt, b"not settled\n"),
+        Rest::NotAsked(_) => say(rt, b"not valid\n"),
     }
 }
 
-fn started(l: u32, ids: &[u32], a: u64) -> Stepped {
+fn started(rt: &impl Print, l: u32, ids: &[u32], a: u64) -> Stepped {
     let none = parts::blank_message();
     let places = [none; 256];
     let empty = Pool { count: 0, places };
     let blank = Table::start(0, 0, ids, 0);
     let nothing = blank.table;
     let begun = face_table::start(nothing, empty, 256, 8, l, ids, a);
-    say(b"start");
-    show(begun);
+    say(rt, b"start");
+    show(rt, begun);
     begun
 }
 
 // The slots of a are ready, L is 4, and slot i joins at the seed.
-fn estate(what: &[u8], ids: &[u32], a: u64, i: usize, seed: usize) {
-    say(what);
-    rest(joined(started(4, ids, a), i, seed));
+fn estate(rt: &impl Print, what: &[u8], ids: &[u32], a: u64, i: usize, seed: usize) {
+    say(rt, what);
+    rest(rt, joined(rt, started(rt, 4, ids, a), i, seed));
 }
 
 // A step on what is not valid: its number, and the n and the count that it leaves.
-fn unsound(what: &[u8], t: Table, p: Pool, len: usize) {
+fn unsound(rt: &impl Print, what: &[u8], t: Table, p: Pool, len: usize) {
     let r = table_step::step(t, p, len, Action::RequestLease(0));
     let answer = r.answer;
     let u = r.table;
     let q = r.pool;
-    say(what);
-    say(b": ");
-    number(parts::answer_number(answer) as u64);
-    say(b", nodes ");
-    number(u.n as u64);
-    say(b", waiting ");
-    number(q.count as u64);
-    say(b"\n");
+    say(rt, what);
+    say(rt, b": ");
+    number(rt, parts::answer_number(answer) as u64);
+    say(rt, b", nodes ");
+    number(rt, u.n as u64);
+    say(rt, b", waiting ");
+    number(rt, q.count as u64);
+    say(rt, b"\n");
 }
 
-fn main() {
+fn main(rt: HostRuntime) {
     let ids = [17u32, 18, 65, 95];
-    let all = joined(joined(joined(started(1, &ids, 2), 0, 1), 2, 1), 3, 1);
-    rest(all);
-    estate(b"three and one\n", &ids, 7, 3, 2);
+    let all = joined(
+        &rt,
+        joined(&rt, joined(&rt, started(&rt, 1, &ids, 2), 0, 1), 2, 1),
+        3,
+        1,
+    );
+    rest(&rt, all);
+    estate(&rt, b"three and one\n", &ids, 7, 3, 2);
     let three = [17u32, 18, 65];
-    estate(b"two and one\n", &three, 3, 2, 1);
+    estate(&rt, b"two and one\n", &three, 3, 2, 1);
     let two = [17u32, 18];
-    estate(b"one and one\n", &two, 1, 1, 0);
+    estate(&rt, b"one and one\n", &two, 1, 1, 0);
     let t = all.table;
     let p = all.pool;
-    unsound(b"a list of 255 places", t, p, 255);
+    unsound(&rt, b"a list of 255 places", t, p, 255);
     let mut u = t;
     u.n = 65;
-    unsound(b"65 nodes", u, p, 256);
+    unsound(&rt, b"65 nodes", u, p, 256);
     let mut q = p;
     q.count = 257;
-    unsound(b"257 messages", t, q, 256);
+    unsound(&rt, b"257 messages", t, q, 256);
 }

@@ -1,29 +1,47 @@
 // Prints the listing of the table file on standard input.
 #![tactic(auto)]
 
-use libc::STDIN_FILENO;
+ghost use Rattle.std.specs.Prelude.{◌≤◌, length};
 
-// Reads on once, and answers whether more came.
-fn skip_some() -> bool {
-    let mut buf = io::large_buffer();
-    libc::read(STDIN_FILENO, &mut buf) > 0
+use std::io::Read;
+
+// Reads until the buffer is full or the input ends, and gives how many bytes it has put at the start.
+fn read_full(rt: &impl Input, buf: &mut [u8]) -> usize
+    ensures { result ≤ length buf.new }
+{
+    let mut done = 0;
+    while done < buf.len() {
+        let n = rt.reader().read(&mut buf[done..]).unwrap_or(0);
+        if n == 0 {
+            break;
+        }
+        done += n;
+    }
+    done
 }
 
-// Reads on to the end of the input. A proved loop has to end, and nothing says that the input does: so it counts its turns down, from a
+// Reads on once, and answers whether more came.
+fn skip_some(rt: &impl Input) -> bool {
+    let mut buf = [0u8; 65536];
+    rt.reader().read(&mut buf).unwrap_or(0) > 0
+}
+
+// Reads on to the end of the input. A proved loop has to end, and nothing says that the input does: so it counts its turns, up to a
 // number that no run uses up.
-fn skip_rest() {
-    let mut turns = u64::MAX;
-    while turns > 0 && skip_some() {
-        turns -= 1;
+fn skip_rest(rt: &impl Input) {
+    for _ in 0..u64::MAX {
+        if !skip_some(rt) {
+            break;
+        }
     }
 }
 
 // A table file has at most 18,464 bytes, so the first 65,536 of a longer input have the same listing as the whole.
-fn main() {
-    let mut file = io::large_buffer();
-    let n = io::read_full(STDIN_FILENO, &mut file);
+fn main(rt: HostRuntime) {
+    let mut file = [0u8; 65536];
+    let n = read_full(&rt, &mut file);
     if n == 65536 {
-        skip_rest();
+        skip_rest(&rt);
     }
-    run_parts::show(&file[..n]);
+    run_parts::show(&rt, &file[..n]);
 }

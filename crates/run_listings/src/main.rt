@@ -2,47 +2,44 @@
 // length, a little-endian word of 32 bits. A file of more than 65,536 bytes, or one that is cut short, ends the run.
 #![tactic(auto)]
 
-use libc::{STDIN_FILENO, STDOUT_FILENO};
+use std::io::Read;
 
-fn title(number: u64) {
-    io::write_all(STDOUT_FILENO, b"file ");
-    io::print_decimal(STDOUT_FILENO, number);
-    io::write_all(STDOUT_FILENO, b"\n");
+fn title(rt: &impl Print, number: u64) {
+    let _ = println!(rt; "file {number}");
 }
 
 // The next length, or one that no file has where the input ends.
-fn next_length() -> usize {
+fn next_length(rt: &impl Input) -> usize {
     let mut head = [0u8; 4];
-    let got = io::read_full(STDIN_FILENO, &mut head);
-    if got < 4 {
+    if rt.reader().read_exact(&mut head).is_err() {
         return usize::MAX;
     }
     words::read32(&head, 0) as usize
 }
 
 // Lists the next file: whether there was one.
-fn list_next(body: &mut [u8], number: u64) -> bool {
-    let n = next_length();
+fn list_next(rt: &(impl Input + Print), body: &mut [u8], number: u64) -> bool {
+    let n = next_length(rt);
     if n > body.len() {
         return false;
     }
-    let got = io::read_full(STDIN_FILENO, &mut body[..n]);
-    if got < n {
+    if rt.reader().read_exact(&mut body[..n]).is_err() {
         return false;
     }
-    title(number);
-    run_parts::show(&body[..n]);
+    title(rt, number);
+    run_parts::show(rt, &body[..n]);
     true
 }
 
-fn list_all(body: &mut [u8]) {
-    let mut number: u64 = 0;
-    while number < u64::MAX && list_next(body, number) {
-        number += 1;
+fn list_all(rt: &(impl Input + Print), body: &mut [u8]) {
+    for number in 0..u64::MAX {
+        if !list_next(rt, body, number) {
+            break;
+        }
     }
 }
 
-fn main() {
-    let mut body = io::large_buffer();
-    list_all(&mut body);
+fn main(rt: HostRuntime) {
+    let mut body = [0u8; 65536];
+    list_all(&rt, &mut body);
 }

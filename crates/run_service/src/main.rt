@@ -5,16 +5,15 @@
 #![tactic(auto)]
 
 use face::Rest;
-use libc::STDOUT_FILENO;
 use rules::{Action, Pool};
 use table_type::{Stepped, Table};
 
-fn say(words: &[u8]) {
-    io::write_all(STDOUT_FILENO, words);
+fn say(rt: &impl Print, words: &[u8]) {
+    let _ = rt.write_all(words);
 }
 
-fn number(x: u64) {
-    io::print_decimal(STDOUT_FILENO, x);
+fn number(rt: &impl Print, x: u64) {
+    let _ = rt.print(x);
 }
 
 // The status of a slot, as 01's number.
@@ -28,46 +27,46 @@ fn status(t: Table, s: usize) -> u64 {
     }
 }
 
-fn show(s: Stepped) {
+fn show(rt: &impl Print, s: Stepped) {
     let answer = s.answer;
-    say(b": ");
-    number(parts::answer_number(answer) as u64);
-    say(b", status");
+    say(rt, b": ");
+    number(rt, parts::answer_number(answer) as u64);
+    say(rt, b", status");
     let t = s.table;
     let mut i: usize = 0;
     while i < 7 {
-        say(b" ");
-        number(status(t, i));
+        say(rt, b" ");
+        number(rt, status(t, i));
         i += 1;
     }
     let p = s.pool;
-    say(b", waiting ");
-    number(p.count as u64);
-    say(b"\n");
+    say(rt, b", waiting ");
+    number(rt, p.count as u64);
+    say(rt, b"\n");
 }
 
 // One action of slot i, said with this word.
-fn asked(s: Stepped, what: &[u8], i: usize, a: Action) -> Stepped {
-    say(what);
-    say(b" ");
-    number(i as u64);
+fn asked(rt: &impl Print, s: Stepped, what: &[u8], i: usize, a: Action) -> Stepped {
+    say(rt, what);
+    say(rt, b" ");
+    number(rt, i as u64);
     let t = s.table;
     let p = s.pool;
     let r = table_step::step(t, p, 256, a);
-    show(r);
+    show(rt, r);
     r
 }
 
 // Takes the first message that can be taken, until none can; those for the roof that is off stay.
-fn quiet(s: Stepped) -> Stepped {
+fn quiet(rt: &impl Print, s: Stepped) -> Stepped {
     let mut now = s;
     let mut place: usize = 0;
     let mut turn: u64 = 0;
     while turn < 4096 {
         let p = now.pool;
         if place >= p.count {
-            say(b"drained");
-            show(now);
+            say(rt, b"drained");
+            show(rt, now);
             return now;
         }
         let t = now.table;
@@ -102,56 +101,69 @@ fn expired(s: Stepped, i: usize) -> Stepped {
 }
 
 // Slot i finds out that slot d is off, and is ready again without it.
-fn repaired(s: Stepped, i: usize, d: usize) -> Stepped {
-    let suspected = asked(s, b"suspect faulty", i, Action::SuspectFaulty(i, d));
-    let late = asked(suspected, b"probe time out", i, Action::ProbeTimeOut(i, d));
-    let free = asked(late, b"grant expired", i, Action::GrantExpired(i, d));
-    let without = asked(free, b"declare dead", i, Action::DeclareDead(i, d));
-    let probing = quiet(asked(without, b"repair", i, Action::LSRepair(i)));
+fn repaired(rt: &impl Print, s: Stepped, i: usize, d: usize) -> Stepped {
+    let suspected = asked(rt, s, b"suspect faulty", i, Action::SuspectFaulty(i, d));
+    let late = asked(
+        rt,
+        suspected,
+        b"probe time out",
+        i,
+        Action::ProbeTimeOut(i, d),
+    );
+    let free = asked(rt, late, b"grant expired", i, Action::GrantExpired(i, d));
+    let without = asked(rt, free, b"declare dead", i, Action::DeclareDead(i, d));
+    let probing = quiet(rt, asked(rt, without, b"repair", i, Action::LSRepair(i)));
     let asking = asked(
+        rt,
         expired(probing, i),
         b"request lease",
         i,
         Action::RequestLease(i),
     );
-    quiet(asking)
+    quiet(rt, asking)
 }
 
-fn rest(s: Stepped) {
+fn rest(rt: &impl Print, s: Stepped) {
     let t = s.table;
     let p = s.pool;
     match face_table::settled(t, p, 256) {
-        Rest::Settled => say(b"settled\n"),
-        Rest::Unsettled => say(b"not settled\n"),
-        Rest::NotAsked(_) => say(b"not valid\n"),
+        Rest::Settled => say(rt, b"settled\n"),
+        Rest::Unsettled => say(rt, b"not settled\n"),
+        Rest::NotAsked(_) => say(rt, b"not valid\n"),
     }
 }
 
-fn started(l: u32, ids: &[u32], a: u64) -> Stepped {
+fn started(rt: &impl Print, l: u32, ids: &[u32], a: u64) -> Stepped {
     let none = parts::blank_message();
     let places = [none; 256];
     let empty = Pool { count: 0, places };
     let blank = Table::start(0, 0, ids, 0);
     let nothing = blank.table;
     let begun = face_table::start(nothing, empty, 256, 8, l, ids, a);
-    say(b"start");
-    show(begun);
+    say(rt, b"start");
+    show(rt, begun);
     begun
 }
 
-fn main() {
+fn main(rt: HostRuntime) {
     let ids = [10u32, 40, 80, 120, 160, 200, 230];
-    let all = started(2, &ids, 127);
-    rest(all);
-    let off = asked(all, b"node left", 3, Action::NodeLeft(3));
-    rest(off);
-    let one = repaired(off, 2, 3);
-    let two = repaired(one, 4, 3);
-    let three = repaired(two, 1, 3);
-    let four = repaired(three, 5, 3);
-    let without = quiet(asked(four, b"request lease", 2, Action::RequestLease(2)));
-    rest(without);
-    let back = quiet(asked(without, b"join", 3, Action::Join(3, 2)));
-    let whole = quiet(asked(back, b"request lease", 3, Action::RequestLease(3)));
-    rest(whole);
+    let all = started(&rt, 2, &ids, 127);
+    rest(&rt, all);
+    let off = asked(&rt, all, b"node left", 3, Action::NodeLeft(3));
+    rest(&rt, off);
+    let one = repaired(&rt, off, 2, 3);
+    let two = repaired(&rt, one, 4, 3);
+    let three = repaired(&rt, two, 1, 3);
+    let four = repaired(&rt, three, 5, 3);
+    let without = quiet(
+        &rt,
+        asked(&rt, four, b"request lease", 2, Action::RequestLease(2)),
+    );
+    rest(&rt, without);
+    let back = quiet(&rt, asked(&rt, without, b"join", 3, Action::Join(3, 2)));
+    let whole = quiet(
+        &rt,
+        asked(&rt, back, b"request lease", 3, Action::RequestLease(3)),
+    );
+    rest(&rt, whole);
 }
