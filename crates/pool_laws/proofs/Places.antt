@@ -28,7 +28,7 @@ use Rattle.pool_laws.proofs.Laid.{waiting-length, left-low, place-low, left_at}
 
 -- a pool by value has 256 places, so what waits has the pool's count
 pub places-length : (x : Pool) (vs : List Val) → Is pool.the_row x vs → length x.places ≡ 256
-places-length x vs is = sym (length-map x.places _) ∙ is.1.1.1.0.1.0.1
+places-length x vs is = is.1.1.1.0.1.0.1
 
 pub waiting-counted : (x : Pool) (vs : List Val) → Is pool.the_row x vs → x.count ≤ 256 → length (waiting x) ≡ x.count
 waiting-counted x vs is h = waiting-length x h (places-length x vs is)

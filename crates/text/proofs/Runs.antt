@@ -1,13 +1,13 @@
--- Texts that follow one another are one text (then); a byte stored is a text of one byte, and a copy into what is behind a place is a text
+-- Texts that follow one another are one text (then); a byte stored is a text of one byte, and a copy into the places from one on is a text
 -- from there on. Digits and fields are put together of these. Assumes nothing.
 use mathlib.Core.Path.{◌≡◌, refl, ◌∙◌}
-use mathlib.Core.List.{List, [], ◌∷◌, ◌++◌, append_assoc, append-nil}
+use mathlib.Core.List.{List, [], ◌∷◌, ◌++◌, append_assoc}
 use Prim.Native.Nat.{ℕ, ◌+◌, ◌-◌, ◌/◌, ◌%◌, ◌<◌, ◌≤◌}
 use native.Mathlib.Numerals.{add-one}
 use native.Mathlib.Omega.{arith}
-use lib.ListN.{length, take, drop, set, length-append, length-drop}
-use lib.Seq.{set_split, append_snoc, take_all, take-length, drop-length, drop-drop}
-use borrow.Rule.Slice.PartMut.{mid_of, post_of, put_mid, Post-is}
+use lib.ListN.{length, take, drop, set, length-append}
+use lib.Seq.{set_split, append_snoc}
+use borrow.Rule.Slice.PartMut.{put_mid, Post-is}
 use Rattle.words.proofs.Puts.{follow, put-length}
 use Rattle.text.specs.Decimal.{decimal}
 use Rattle.text.specs.InnerPrints.{Prints}
@@ -25,17 +25,14 @@ one_byte l at x h =
       new_is = set_split l at x (omega arith) ∙ rw (add-one, append_snoc);
     }
 
-pub copied : (b text : List ℕ) (at : ℕ) → at + length text ≤ length b → {n : ℕ} {mid : List ℕ} → n ≡ length text
-    → mid ≡ take (length text) text ++ drop (length text) (mid_of at (length b - at) b)
-    → Prints b at text (at + n) (put_mid at (length b - at) b mid)
-copied b text at h e m =
-    let whole : mid_of at (length b - at) b ≡ drop at b = take_all (length b - at) (drop at b) (rw length-drop (omega arith)) in
-    let none : post_of at (length b - at) b ≡ [] = Post-is at (length b) b (omega arith) ∙ drop-length b in
+pub copied : (b text mid : List ℕ) (at : ℕ) → at + length text ≤ length b → mid ≡ text
+    → Prints b at text (at + length text) (put_mid at (at + length text - at) b mid)
+copied b text mid at h m =
     record {
       inside = h;
-      next-is = rw e;
+      next-is = refl;
       sized = refl;
-      new_is = rw (m, none, append-nil, whole, take-length, drop-drop, append_assoc);
+      new_is = rw (m, Post-is at (at + length text) b (omega arith), append_assoc);
     }
 
 -- where a text and a field end, and that the buffer is as long as before

@@ -5,4 +5,4 @@ use Rattle.dist.proofs.fall.Goals as goal
 
 pub returns : goal.returns
 returns c = let h = c.requires in 
-    rw c.size.ensures (fall-wrapped 32 _ _ _ _ h.width.high h.first h.second c.wrapping_sub_u32-d.ensures)
+    rw c.size.ensures (fall-wrapped 32 _ _ _ _ h.width.high h.first h.second c.wrapping_sub_u32-d.ensures.value)

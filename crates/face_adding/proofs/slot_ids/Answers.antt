@@ -9,9 +9,6 @@ use Rattle.face_adding.proofs.slot_ids.Goals as goal
 pub loop-s-init : goal.loop-s-init
 loop-s-init c = fill-begin 0 (λ i. i) 0 refl
 
-pub bounds-ids-s : goal.bounds-ids-s
-bounds-ids-s c = omega arith
-
 pub loop-s-preserved : goal.loop-s-preserved
 loop-s-preserved c = let l = c.loop-s in 
     fill_more 0 (λ i. i) l.s l.ids (omega arith) l.invariant

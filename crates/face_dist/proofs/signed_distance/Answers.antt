@@ -10,7 +10,7 @@ pub signed-requires : goal.signed-requires
 signed-requires c = two _ _ _ (sym c.two_inside.ensures ∙ c.if-two_inside.true)
 
 pub returns-then-two_inside : goal.returns-then-two_inside
-returns-then-two_inside c = rw (← c.two_inside.ensures, c.if-two_inside.true, to_z-of_z {w = w64} (record { sfits = c.signed.type-inv }), c.signed.ensures)
+returns-then-two_inside c = rw (← c.two_inside.ensures, c.if-two_inside.true, to_z-of_z {w = w64} (record { sfits = c.signed.type_inv }), c.signed.ensures)
 
 pub returns-else-two_inside : goal.returns-else-two_inside
 returns-else-two_inside c = rw (← c.two_inside.ensures, c.if-two_inside.false)

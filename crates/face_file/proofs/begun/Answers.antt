@@ -15,16 +15,6 @@ use Rattle.face.specs.Asked.{start_step}
 use Rattle.face.specs.Calls.{begun_of}
 use Rattle.face_file.proofs.begun.Goals as goal
 
-pub returns-then-m-ge4294967296 : goal.returns-then-m-ge4294967296
-returns-then-m-ge4294967296 c = c.refused.ensures ∙ m-wide _ _ _ _ _ _ c.no_table-t.ensures c.no_messages-p.ensures (omega arith)
-
-pub returns-then-l-ge4294967296 : goal.returns-then-l-ge4294967296
-returns-then-l-ge4294967296 c = c.refused-then-l-ge4294967296.ensures ∙ l-wide _ _ _ _ _ _ c.no_table-t.ensures c.no_messages-p.ensures (omega arith) (omega arith)
-
-pub returns : goal.returns
-returns c = c.start.ensures ∙ narrow _ _ _ _ _ _ c.no_table-t.ensures c.no_messages-p.ensures (omega arith) (omega arith)
-
-{- LEFT
 module _ (m l a : ℕ) (ids : List ℕ) (t : Table) (p : Pool) (e : t ≡ no_table) (f : p ≡ laid []) where
   m-wide : 4294967296 ≤ m → refused_of t p no.Header ≡ begun_of m l a ids
   unfolding begun_of
@@ -38,4 +28,12 @@ module _ (m l a : ℕ) (ids : List ℕ) (t : Table) (p : Pool) (e : t ≡ no_tab
     narrow : l < 4294967296 → start_step t p 256 m l ids a ≡ begun_of m l a ids
     unfolding begun_of
     narrow h = rw (e, f, lt-ltb m 4294967296 below, lt-ltb l 4294967296 h)
--}
+
+pub returns-then-m-ge4294967296 : goal.returns-then-m-ge4294967296
+returns-then-m-ge4294967296 c = c.refused.ensures ∙ m-wide _ _ _ _ _ _ c.no_table-t.ensures c.no_messages-p.ensures (omega arith)
+
+pub returns-then-l-ge4294967296 : goal.returns-then-l-ge4294967296
+returns-then-l-ge4294967296 c = c.refused-then-l-ge4294967296.ensures ∙ l-wide _ _ _ _ _ _ c.no_table-t.ensures c.no_messages-p.ensures (omega arith) (omega arith)
+
+pub returns : goal.returns
+returns c = c.start.ensures ∙ narrow _ _ _ _ _ _ c.no_table-t.ensures c.no_messages-p.ensures (omega arith) (omega arith)

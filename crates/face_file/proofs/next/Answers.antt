@@ -10,13 +10,6 @@ use Rattle.step.specs.Step.{step_of}
 use Rattle.face.specs.Calls.{next_of}
 use Rattle.face_file.proofs.next.Goals as goal
 
-pub returns-in-Done : goal.returns-in-Done
-returns-in-Done c = c.step.ensures ∙ next-done _ _ c.in-Done.is
-
-pub returns-in-Refused : goal.returns-in-Refused
-returns-in-Refused c = c.refused.ensures ∙ next-refused _ _ _ c.in-Refused.is
-
-{- LEFT
 module _ (s : Stepped) (a : Action) where
   next-done : s.answer ≡ Done → step_of s.table s.pool 256 a ≡ next_of s a
   unfolding next_of
@@ -25,4 +18,9 @@ module _ (s : Stepped) (a : Action) where
   next-refused : (why : Refusal) → s.answer ≡ Refused why → refused_of s.table s.pool why ≡ next_of s a
   unfolding next_of
   next-refused why e = rw e
--}
+
+pub returns-in-Done : goal.returns-in-Done
+returns-in-Done c = c.step.ensures ∙ next-done _ _ c.in-Done.is
+
+pub returns-in-Refused : goal.returns-in-Refused
+returns-in-Refused c = c.refused.ensures ∙ next-refused _ _ _ c.in-Refused.is

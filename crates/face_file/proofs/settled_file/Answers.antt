@@ -9,13 +9,6 @@ use Rattle.face.specs.Asked.{rest_of}
 use Rattle.face.specs.Calls.{rest_by}
 use Rattle.face_file.proofs.settled_file.Goals as goal
 
-pub returns-in-Done : goal.returns-in-Done
-returns-in-Done c = c.settled.ensures ∙ rest-done c.loaded-s.result _ c.loaded-s.ensures c.in-Done.is
-
-pub returns-in-Refused : goal.returns-in-Refused
-returns-in-Refused c = rest-refused c.loaded-s.result _ c.loaded-s.ensures _ c.in-Refused.is
-
-{- LEFT
 module _ (s full : Stepped) (is : s ≡ full) where
   rest-done : s.answer ≡ Done → rest_of s.table s.pool 256 ≡ rest_by full
   unfolding rest_by
@@ -24,4 +17,9 @@ module _ (s full : Stepped) (is : s ≡ full) where
   rest-refused : (why : Refusal) → s.answer ≡ Refused why → NotAsked why ≡ rest_by full
   unfolding rest_by
   rest-refused why e = rw (← is, e)
--}
+
+pub returns-in-Done : goal.returns-in-Done
+returns-in-Done c = c.settled.ensures ∙ rest-done c.loaded-s.result _ c.loaded-s.ensures c.in-Done.is
+
+pub returns-in-Refused : goal.returns-in-Refused
+returns-in-Refused c = rest-refused c.loaded-s.result _ c.loaded-s.ensures _ c.in-Refused.is

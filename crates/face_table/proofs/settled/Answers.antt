@@ -15,24 +15,6 @@ use Rattle.face.specs.declared.Rest.TheVariants.{Settled, Unsettled, NotAsked}
 use Rattle.face.specs.Asked.{rest_of}
 use Rattle.face_table.proofs.settled.Goals as goal
 
-pub returns-then-len-ne256 : goal.returns-then-len-ne256
-returns-then-len-ne256 c = no-list _ _ _ c.if-len-ne256.true
-
-pub returns-then-not-is_valid : goal.returns-then-not-is_valid
-returns-then-not-is_valid c = not_valid _ _ _ c.if-len-ne256.false (sym c.is_valid.ensures ∙ not-true _ c.if-not-is_valid.true-raw)
-
-pub is_settled_table-requires : goal.is_settled_table-requires
-is_settled_table-requires c = (sound _ _ (sym c.is_valid.ensures ∙ not-false _ c.if-not-is_valid.false-raw)).listed
-
-pub returns-then-is_settled_table : goal.returns-then-is_settled_table
-returns-then-is_settled_table c = at_rest _ _ _ c.if-len-ne256.false (sym c.is_valid.ensures ∙ not-false _ c.if-not-is_valid.false-raw)
-    (sym c.is_settled_table.ensures ∙ c.if-is_settled_table.true)
-
-pub returns-else-is_settled_table : goal.returns-else-is_settled_table
-returns-else-is_settled_table c = not-at-rest _ _ _ c.if-len-ne256.false (sym c.is_valid.ensures ∙ not-false _ c.if-not-is_valid.false-raw)
-    (sym c.is_settled_table.ensures ∙ c.if-is_settled_table.false)
-
-{- LEFT
 module _ (t : Table) (p : Pool) (len : ℕ) where
   no-list : (len ≡ 256 → ⊥) → NotAsked no.Invalid ≡ rest_of t p len
   unfolding rest_of is_sound
@@ -50,4 +32,20 @@ module _ (t : Table) (p : Pool) (len : ℕ) where
     not-at-rest : valid_of t p ≡ true → is_settled t ≡ false → Unsettled ≡ rest_of t p len
     unfolding rest_of is_sound
     not-at-rest v s = rw (eq-eqb len 256 e, v, s)
--}
+
+pub returns-then-len-ne256 : goal.returns-then-len-ne256
+returns-then-len-ne256 c = no-list _ _ _ c.if-len-ne256.true
+
+pub returns-then-not-is_valid : goal.returns-then-not-is_valid
+returns-then-not-is_valid c = not_valid _ _ _ c.if-len-ne256.false (sym c.is_valid.ensures ∙ c.if-not-is_valid.true)
+
+pub is_settled_table-requires : goal.is_settled_table-requires
+is_settled_table-requires c = (sound _ _ (sym c.is_valid.ensures ∙ c.if-not-is_valid.false)).listed
+
+pub returns-then-is_settled_table : goal.returns-then-is_settled_table
+returns-then-is_settled_table c = at_rest _ _ _ c.if-len-ne256.false (sym c.is_valid.ensures ∙ c.if-not-is_valid.false)
+    (sym c.is_settled_table.ensures ∙ c.if-is_settled_table.true)
+
+pub returns-else-is_settled_table : goal.returns-else-is_settled_table
+returns-else-is_settled_table c = not-at-rest _ _ _ c.if-len-ne256.false (sym c.is_valid.ensures ∙ c.if-not-is_valid.false)
+    (sym c.is_settled_table.ensures ∙ c.if-is_settled_table.false)

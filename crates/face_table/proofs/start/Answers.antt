@@ -16,19 +16,6 @@ use Rattle.table_type.specs.Start.{start_of}
 use Rattle.face.specs.Asked.{start_step}
 use Rattle.face_table.proofs.start.Goals as goal
 
-pub returns-then-len-ne256 : goal.returns-then-len-ne256
-returns-then-len-ne256 c = c.refused.ensures ∙ no-list _ _ _ _ _ _ _ c.if-len-ne256.true
-
-pub returns-in-Done : goal.returns-in-Done
-returns-in-Done c = c.done.ensures
-    ∙ made-done _ _ _ _ _ _ _ c.if-len-ne256.false c.start-made.result c.start-made.ensures c.in-Done.is
-    c.no_messages.result c.no_messages.ensures
-
-pub returns-in-Refused : goal.returns-in-Refused
-returns-in-Refused c = c.refused-in-Refused.ensures
-    ∙ made-refused _ _ _ _ _ _ _ c.if-len-ne256.false c.start-made.result c.start-made.ensures _ c.in-Refused.is
-
-{- LEFT
 module _ (t : Table) (p : Pool) (len m l : ℕ) (ids : List ℕ) (a : ℕ) where
   no-list : (len ≡ 256 → ⊥) → refused_of t p no.Invalid ≡ start_step t p len m l ids a
   unfolding start_step
@@ -42,4 +29,15 @@ module _ (t : Table) (p : Pool) (len m l : ℕ) (ids : List ℕ) (a : ℕ) where
     made-refused : (why : Refusal) → made.answer ≡ Refused why → refused_of t p why ≡ start_step t p len m l ids a
     unfolding start_step
     made-refused why d = rw (eq-eqb len 256 e, ← is, d)
--}
+
+pub returns-then-len-ne256 : goal.returns-then-len-ne256
+returns-then-len-ne256 c = c.refused.ensures ∙ no-list _ _ _ _ _ _ _ c.if-len-ne256.true
+
+pub returns-in-Done : goal.returns-in-Done
+returns-in-Done c = c.done.ensures
+    ∙ made-done _ _ _ _ _ _ _ c.if-len-ne256.false c.start-made.result c.start-made.ensures c.in-Done.is
+    c.no_messages.result c.no_messages.ensures
+
+pub returns-in-Refused : goal.returns-in-Refused
+returns-in-Refused c = c.refused-in-Refused.ensures
+    ∙ made-refused _ _ _ _ _ _ _ c.if-len-ne256.false c.start-made.result c.start-made.ensures _ c.in-Refused.is

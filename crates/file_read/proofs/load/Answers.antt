@@ -17,7 +17,7 @@ pub returns-then-not-header_fits : goal.returns-then-not-header_fits
 returns-then-not-header_fits c = let a = c.args in 
     c.refused-then-not-header_fits.ensures
     ∙ sym (load-header a.file.now a.t a.p a.len c.if-file-lt32.false
-    (sym c.header_fits.ensures ∙ not-true _ c.if-not-header_fits.true-raw))
+    (sym c.header_fits.ensures ∙ c.if-not-header_fits.true))
 
 pub offsets_fit-requires : goal.offsets_fit-requires
 offsets_fit-requires c = c.if-file-lt32.false
@@ -26,30 +26,30 @@ pub returns-then-not-offsets_fit : goal.returns-then-not-offsets_fit
 returns-then-not-offsets_fit c = let a = c.args in 
     c.refused-then-not-offsets_fit.ensures
     ∙ sym (load-offsets a.file.now a.t a.p a.len c.if-file-lt32.false
-    (sym c.header_fits.ensures ∙ not-false _ c.if-not-header_fits.false-raw)
-    (sym c.offsets_fit.ensures ∙ not-true _ c.if-not-offsets_fit.true-raw))
+    (sym c.header_fits.ensures ∙ c.if-not-header_fits.false)
+    (sym c.offsets_fit.ensures ∙ c.if-not-offsets_fit.true))
 
 pub returns-then-len-ne256 : goal.returns-then-len-ne256
 returns-then-len-ne256 c = let fits : Fitting c.args.file.now = record {
-      header = sym c.header_fits.ensures ∙ not-false _ c.if-not-header_fits.false-raw;
-      offsets = sym c.offsets_fit.ensures ∙ not-false _ c.if-not-offsets_fit.false-raw;
+      header = sym c.header_fits.ensures ∙ c.if-not-header_fits.false;
+      offsets = sym c.offsets_fit.ensures ∙ c.if-not-offsets_fit.false;
     } in
     let a = c.args in 
     c.refused-then-len-ne256.ensures
-    ∙ sym (load-places a.file.now a.t a.p a.len c.if-file-lt32.false (fits  c.if-len-ne256.true)
+    ∙ sym (load-places a.file.now a.t a.p a.len c.if-file-lt32.false (fits) c.if-len-ne256.true)
 
 pub load_records-requires : goal.load_records-requires
 load_records-requires c = let fits : Fitting c.args.file.now = record {
-      header = sym c.header_fits.ensures ∙ not-false _ c.if-not-header_fits.false-raw;
-      offsets = sym c.offsets_fit.ensures ∙ not-false _ c.if-not-offsets_fit.false-raw;
+      header = sym c.header_fits.ensures ∙ c.if-not-header_fits.false;
+      offsets = sym c.offsets_fit.ensures ∙ c.if-not-offsets_fit.false;
     } in
-    fits 
+    fits
 
 pub returns : goal.returns
 returns c = let fits : Fitting c.args.file.now = record {
-      header = sym c.header_fits.ensures ∙ not-false _ c.if-not-header_fits.false-raw;
-      offsets = sym c.offsets_fit.ensures ∙ not-false _ c.if-not-offsets_fit.false-raw;
+      header = sym c.header_fits.ensures ∙ c.if-not-header_fits.false;
+      offsets = sym c.offsets_fit.ensures ∙ c.if-not-offsets_fit.false;
     } in
     let a = c.args in 
     c.load_records.ensures
-    ∙ sym (load_goes a.file.now a.t a.p a.len c.if-file-lt32.false (fits  c.if-len-ne256.false)
+    ∙ sym (load_goes a.file.now a.t a.p a.len c.if-file-lt32.false (fits) c.if-len-ne256.false)

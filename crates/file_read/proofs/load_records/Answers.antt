@@ -13,7 +13,7 @@ statuses_fit-requires c = (omega (arith, offsets-long c.args.file.now c.requires
 pub returns-then-not-statuses_fit : goal.returns-then-not-statuses_fit
 returns-then-not-statuses_fit c = let a = c.args in 
     c.refused.ensures
-    ∙ sym (records-status a.file.now a.t a.p (sym c.statuses_fit.ensures ∙ not-true _ c.if-not-statuses_fit.true-raw))
+    ∙ sym (records-status a.file.now a.t a.p (sym c.statuses_fit.ensures ∙ c.if-not-statuses_fit.true))
 
 pub read_table-u-requires : goal.read_table-u-requires
 read_table-u-requires c = c.requires
@@ -23,13 +23,13 @@ read_messages-q-requires c = c.requires
 
 pub returns-then-not-is_valid : goal.returns-then-not-is_valid
 returns-then-not-is_valid c = let a = c.args in 
-    let e = sym c.is_valid.ensures ∙ not-true _ c.if-not-is_valid.true-raw in
+    let e = sym c.is_valid.ensures ∙ c.if-not-is_valid.true in
     c.refused-then-not-is_valid.ensures
     ∙ sym (records-invalid a.file.now a.t a.p (rw (c.read_messages-q.ensures, c.read_table-u.ensures) at e))
 
 pub returns : goal.returns
 returns c = let a = c.args in 
-    let e = sym c.is_valid.ensures ∙ not-false _ c.if-not-is_valid.false-raw in
+    let e = sym c.is_valid.ensures ∙ c.if-not-is_valid.false in
     rw (c.done.ensures, c.read_messages-q.ensures, c.read_table-u.ensures)
-    (sym (records-done a.file.now a.t a.p (sym c.statuses_fit.ensures ∙ not-false _ c.if-not-statuses_fit.false-raw)
+    (sym (records-done a.file.now a.t a.p (sym c.statuses_fit.ensures ∙ c.if-not-statuses_fit.false)
     (rw (c.read_messages-q.ensures, c.read_table-u.ensures) at e)))

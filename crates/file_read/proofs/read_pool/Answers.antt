@@ -13,24 +13,6 @@ pub loop-q-init : goal.loop-q-init
 loop-q-init c = let part = c.args.part.now in 
     (zero-le, rw c.blank_message-none.ensures (sym (passed_none 256 blank message_from message_widths 56 part)))
 
-pub overflow_mul-q : goal.overflow_mul-q
-overflow_mul-q c = omega arith
-
-pub read_message-m-requires : goal.read_message-m-requires
-read_message-m-requires c = omega arith
-
-pub offset_bounds-places-q : goal.offset_bounds-places-q
-offset_bounds-places-q c = omega arith
-
-pub bounds-places-q : goal.bounds-places-q
-bounds-places-q c = omega arith
-
-pub overflow_add-q : goal.overflow_add-q
-overflow_add-q c = omega arith
-
-pub loop-q-smaller : goal.loop-q-smaller
-loop-q-smaller c = omega arith
-
 pub loop-q-preserved : goal.loop-q-preserved
 loop-q-preserved c = let part = c.args.part.now in (
       omega arith,

@@ -13,18 +13,15 @@ use Rattle.file_read.proofs.read_table.Goals as goal
 
 pub word-m-requires : goal.word-m-requires
 word-m-requires c = let long : length c.args.bs.now ≡ total_of (file_n c.args.bs.now) (file_count c.args.bs.now) = offsets-long c.args.bs.now c.requires.offsets in
-    (omega arith, omega (arith, long )
+    (omega arith, omega (arith, long))
 
 pub word-l-requires : goal.word-l-requires
 word-l-requires c = let long : length c.args.bs.now ≡ total_of (file_n c.args.bs.now) (file_count c.args.bs.now) = offsets-long c.args.bs.now c.requires.offsets in
-    (omega arith, omega (arith, long )
+    (omega arith, omega (arith, long))
 
 pub word-n-requires : goal.word-n-requires
 word-n-requires c = let long : length c.args.bs.now ≡ total_of (file_n c.args.bs.now) (file_count c.args.bs.now) = offsets-long c.args.bs.now c.requires.offsets in
-    (omega arith, omega (arith, long )
-
-pub overflow_cast-n : goal.overflow_cast-n
-overflow_cast-n c = omega arith
+    (omega arith, omega (arith, long))
 
 pub loop-s-init : goal.loop-s-init
 loop-s-init c = let bs = c.args.bs.now in 
@@ -32,37 +29,34 @@ loop-s-init c = let bs = c.args.bs.now in
 
 pub overflow_mul-s : goal.overflow_mul-s
 overflow_mul-s c = let narrow : c.word-n.result ≤ 64 = omega (arith, c.word-n.ensures, header-counts c.args.bs.now c.requires.header) in
-    omega (arith, narrow 
+    omega (arith, narrow)
 
 pub overflow_add-s : goal.overflow_add-s
 overflow_add-s c = let narrow : c.word-n.result ≤ 64 = omega (arith, c.word-n.ensures, header-counts c.args.bs.now c.requires.header) in
-    omega (arith, narrow 
+    omega (arith, narrow)
 
 pub read_node-v-requires : goal.read_node-v-requires
 read_node-v-requires c = let long : length c.args.bs.now ≡ total_of (file_n c.args.bs.now) (file_count c.args.bs.now) = offsets-long c.args.bs.now c.requires.offsets in
-    omega (arith, long 
+    omega (arith, long)
 
 pub offset_bounds-nodes-s : goal.offset_bounds-nodes-s
 offset_bounds-nodes-s c = let narrow : c.word-n.result ≤ 64 = omega (arith, c.word-n.ensures, header-counts c.args.bs.now c.requires.header) in
-    omega (arith, narrow 
+    omega (arith, narrow)
 
 pub bounds-nodes-s : goal.bounds-nodes-s
 bounds-nodes-s c = let narrow : c.word-n.result ≤ 64 = omega (arith, c.word-n.ensures, header-counts c.args.bs.now c.requires.header) in
-    omega (arith, narrow 
+    omega (arith, narrow)
 
 pub overflow_add-s-in-loop-s : goal.overflow_add-s-in-loop-s
 overflow_add-s-in-loop-s c = let narrow : c.word-n.result ≤ 64 = omega (arith, c.word-n.ensures, header-counts c.args.bs.now c.requires.header) in
-    omega (arith, narrow 
-
-pub loop-s-smaller : goal.loop-s-smaller
-loop-s-smaller c = omega arith
+    omega (arith, narrow)
 
 pub loop-s-preserved : goal.loop-s-preserved
 loop-s-preserved c = let narrow : c.word-n.result ≤ 64 = omega (arith, c.word-n.ensures, header-counts c.args.bs.now c.requires.header) in
     let bs = c.args.bs.now in (
       omega arith,
       rw (c.read_node-v.ensures, c.loop-s.invariant.1, ← (drop-drop (64 * c.loop-s.s) nodes_at bs))
-          (passed-more 64 no_node node_from node_widths 64 (drop nodes_at bs) c.loop-s.s (omega (arith, narrow )),
+          (passed-more 64 no_node node_from node_widths 64 (drop nodes_at bs) c.loop-s.s (omega (arith, narrow))),
     )
 
 pub returns : goal.returns

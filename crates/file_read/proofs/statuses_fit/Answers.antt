@@ -14,17 +14,11 @@ use Rattle.words.proofs.Codec.{decode-at}
 use Rattle.file.specs.Format.{node_widths, nodes_at, total_of}
 use Rattle.file.specs.Load.{file_n, file_count, statuses_fit}
 use Rattle.file_read.proofs.Laws.{offsets-long}
+use Rattle.file_read.proofs.statuses_fit.Invariants.{fits_at}
 use Rattle.file_read.proofs.statuses_fit.Goals as goal
-
--- the status of node s is one of 0 to 3
-abbrev fits_at : List ℕ → ℕ → Bool
-fits_at bs s = leb (get_or (decode node_widths (drop (nodes_at + 64 * s) bs)) 1 0) 3
 
 pub word-n-requires : goal.word-n-requires
 word-n-requires c = (omega arith, c.requires.0)
-
-pub overflow_cast-n : goal.overflow_cast-n
-overflow_cast-n c = omega arith
 
 pub loop-s-init : goal.loop-s-init
 unfolding all_to
@@ -32,19 +26,19 @@ loop-s-init c = (zero-le, refl)
 
 pub overflow_mul-s : goal.overflow_mul-s
 overflow_mul-s c = let long : length c.args.bs.now ≡ total_of (file_n c.args.bs.now) (file_count c.args.bs.now) = offsets-long c.args.bs.now c.requires.1 in
-    omega (arith, long 
+    omega (arith, long)
 
 pub overflow_add-s : goal.overflow_add-s
 overflow_add-s c = let long : length c.args.bs.now ≡ total_of (file_n c.args.bs.now) (file_count c.args.bs.now) = offsets-long c.args.bs.now c.requires.1 in
-    omega (arith, long 
+    omega (arith, long)
 
 pub overflow_add-s-in-loop-s : goal.overflow_add-s-in-loop-s
 overflow_add-s-in-loop-s c = let long : length c.args.bs.now ≡ total_of (file_n c.args.bs.now) (file_count c.args.bs.now) = offsets-long c.args.bs.now c.requires.1 in
-    omega (arith, long 
+    omega (arith, long)
 
 pub read32-requires : goal.read32-requires
 read32-requires c = let long : length c.args.bs.now ≡ total_of (file_n c.args.bs.now) (file_count c.args.bs.now) = offsets-long c.args.bs.now c.requires.1 in
-    omega (arith, long 
+    omega (arith, long)
 
 pub returns-then-read32-gt3 : goal.returns-then-read32-gt3
 unfolding statuses_fit
@@ -52,20 +46,14 @@ returns-then-read32-gt3 c = let status : let bs = c.args.bs.now in
     get_or (decode node_widths (drop (nodes_at + 64 * c.loop-s.s) bs)) 1 0 ≡ c.read32.result = let bs = c.args.bs.now in 
     decode-at node_widths bs (nodes_at + 64 * c.loop-s.s) 1 (omega arith) ∙ sym c.read32.ensures in
     let bs = c.args.bs.now in 
-    sym (fails (file_n bs) (fits_at bs) c.loop-s.s (omega arith) (rw (status  (lt-leb _ 3 c.if-read32-gt3.true)))
-
-pub overflow_add-s-in-loop-s-2 : goal.overflow_add-s-in-loop-s-2
-overflow_add-s-in-loop-s-2 c = omega arith
-
-pub loop-s-smaller : goal.loop-s-smaller
-loop-s-smaller c = omega arith
+    sym (fails (file_n bs) (fits_at bs) c.loop-s.s (omega arith) (rw (status) (lt-leb _ 3 c.if-read32-gt3.true)))
 
 pub loop-s-preserved : goal.loop-s-preserved
 loop-s-preserved c = let status : let bs = c.args.bs.now in 
     get_or (decode node_widths (drop (nodes_at + 64 * c.loop-s.s) bs)) 1 0 ≡ c.read32.result = let bs = c.args.bs.now in 
     decode-at node_widths bs (nodes_at + 64 * c.loop-s.s) 1 (omega arith) ∙ sym c.read32.ensures in
     let bs = c.args.bs.now in 
-    (omega arith, more c.loop-s.s (fits_at bs) c.loop-s.invariant.1 (rw (status  (le-leb _ 3 c.if-read32-gt3.false)))
+    (omega arith, more c.loop-s.s (fits_at bs) c.loop-s.invariant.1 (rw (status) (le-leb _ 3 c.if-read32-gt3.false)))
 
 pub returns : goal.returns
 unfolding statuses_fit

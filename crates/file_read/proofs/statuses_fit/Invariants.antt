@@ -17,6 +17,10 @@ use Rattle.file.specs.Load.{file_n, file_count, statuses_fit}
 use Rattle.file_read.proofs.Laws.{offsets-long}
 use Rattle.file_read.proofs.statuses_fit.Given as goal
 
+-- the status of node s is one of 0 to 3
+abbrev pub fits_at : List ℕ → ℕ → Bool
+fits_at bs s = leb (get_or (decode node_widths (drop (nodes_at + 64 * s) bs)) 1 0) 3
+
 abbrev pub invariant-loop-s : goal.invariant-loop-s
 invariant-loop-s l = (l.s ≤ l.n) × (all_to l.s (fits_at l.bs) ≡ true)
 

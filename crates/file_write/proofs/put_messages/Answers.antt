@@ -18,32 +18,23 @@ pub loop-q-init : goal.loop-q-init
 unfolding encode_all
 loop-q-init c = (zero-le, stay _ _ (omega arith))
 
-pub offset_bounds-p-q : goal.offset_bounds-p-q
-offset_bounds-p-q c = omega arith
-
-pub bounds-p-q : goal.bounds-p-q
-bounds-p-q c = omega arith
-
 pub put_message-to-requires : goal.put_message-to-requires
 put_message-to-requires c = omega (arith, put-length c.loop-q.invariant.1)
-
-pub overflow_add-q : goal.overflow_add-q
-overflow_add-q c = omega arith
-
-pub loop-q-smaller : goal.loop-q-smaller
-loop-q-smaller c = omega arith
 
 pub loop-q-preserved : goal.loop-q-preserved
 loop-q-preserved c = let full : length c.args.p.places ≡ 256 = search (length-mapped, rules) in
     (
       omega arith,
-      rows_more message_row blank message_widths 56 c.args.p.places c.loop-q.q (omega (arith, full ) c.loop-q.invariant.1
+      rows_more message_row blank message_widths 56 c.args.p.places c.loop-q.q (omega (arith, full)) c.loop-q.invariant.1
           c.put_message-to.ensures,
     )
-
-pub shape_of-b : goal.shape_of-b
-shape_of-b c = put-length c.loop-q.invariant.1
 
 pub returns : goal.returns
 returns c = let e : c.loop-q.q ≡ c.args.p.count = omega arith in
     rw e at c.loop-q.invariant.1
+
+{- LEFT
+-- LOST same_length : same-length
+same_length : tie.Need-same-length invariant-loop decreases-loop
+same_length c = put-length c.before.loop.invariant.1
+-}

@@ -18,32 +18,23 @@ pub loop-s-init : goal.loop-s-init
 unfolding encode_all
 loop-s-init c = (zero-le, stay _ _ (omega arith))
 
-pub offset_bounds-t-s : goal.offset_bounds-t-s
-offset_bounds-t-s c = omega arith
-
-pub bounds-t-s : goal.bounds-t-s
-bounds-t-s c = omega arith
-
 pub put_node-to-requires : goal.put_node-to-requires
 put_node-to-requires c = omega (arith, put-length c.loop-s.invariant.1)
-
-pub overflow_add-s : goal.overflow_add-s
-overflow_add-s c = omega arith
-
-pub loop-s-smaller : goal.loop-s-smaller
-loop-s-smaller c = omega arith
 
 pub loop-s-preserved : goal.loop-s-preserved
 loop-s-preserved c = let full : length c.args.t.nodes ≡ 64 = search (length-mapped, rules) in
     (
       omega arith,
-      rows_more node_row no_node node_widths 64 c.args.t.nodes c.loop-s.s (omega (arith, full ) c.loop-s.invariant.1
+      rows_more node_row no_node node_widths 64 c.args.t.nodes c.loop-s.s (omega (arith, full)) c.loop-s.invariant.1
           c.put_node-to.ensures,
     )
-
-pub shape_of-b : goal.shape_of-b
-shape_of-b c = put-length c.loop-s.invariant.1
 
 pub returns : goal.returns
 returns c = let e : c.loop-s.s ≡ c.args.t.n = omega arith in
     rw e at c.loop-s.invariant.1
+
+{- LEFT
+-- LOST same_length : same-length
+same_length : tie.Need-same-length invariant-loop decreases-loop
+same_length c = put-length c.before.loop.invariant.1
+-}

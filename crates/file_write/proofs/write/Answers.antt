@@ -14,24 +14,24 @@ returns-then-len-ne256 c = let a = c.args in
 
 pub returns-then-not-is_valid : goal.returns-then-not-is_valid
 returns-then-not-is_valid c = let a = c.args in 
-    ends-invalid a.t a.p a.len a.buf.now (sym c.is_valid.ensures ∙ not-true _ c.if-not-is_valid.true-raw) _
+    ends-invalid a.t a.p a.len a.buf.now (sym c.is_valid.ensures ∙ c.if-not-is_valid.true) _
     c.not_written-then-not-is_valid.ensures
 
 pub total_of-requires : goal.total_of-requires
-total_of-requires c = let told : valid_of c.args.t c.args.p ≡ true = sym c.is_valid.ensures ∙ not-false _ c.if-not-is_valid.false-raw in
-    counts _ _ (told 
+total_of-requires c = let told : valid_of c.args.t c.args.p ≡ true = sym c.is_valid.ensures ∙ c.if-not-is_valid.false in
+    counts _ _ (told)
 
 pub returns-then-buf-total_of : goal.returns-then-buf-total_of
-returns-then-buf-total_of c = let told : valid_of c.args.t c.args.p ≡ true = sym c.is_valid.ensures ∙ not-false _ c.if-not-is_valid.false-raw in
+returns-then-buf-total_of c = let told : valid_of c.args.t c.args.p ≡ true = sym c.is_valid.ensures ∙ c.if-not-is_valid.false in
     let a = c.args in 
-    ends-room a.t a.p a.len a.buf.now c.if-len-ne256.false (told  (omega arith) _ c.not_written-then-buf-total_of.ensures
+    ends-room a.t a.p a.len a.buf.now c.if-len-ne256.false (told) (omega arith) _ c.not_written-then-buf-total_of.ensures
 
 pub put_file-count-requires : goal.put_file-count-requires
-put_file-count-requires c = let told : valid_of c.args.t c.args.p ≡ true = sym c.is_valid.ensures ∙ not-false _ c.if-not-is_valid.false-raw in
-    let k = counts _ _ (told  in
+put_file-count-requires c = let told : valid_of c.args.t c.args.p ≡ true = sym c.is_valid.ensures ∙ c.if-not-is_valid.false in
+    let k = counts _ _ (told) in
     (k.0, k.1, omega arith)
 
 pub returns : goal.returns
-returns c = let told : valid_of c.args.t c.args.p ≡ true = sym c.is_valid.ensures ∙ not-false _ c.if-not-is_valid.false-raw in
+returns c = let told : valid_of c.args.t c.args.p ≡ true = sym c.is_valid.ensures ∙ c.if-not-is_valid.false in
     let a = c.args in 
-    ends-done a.t a.p a.len a.buf.now c.if-len-ne256.false (told  (omega arith) _ _ c.put_file-count.ensures
+    ends-done a.t a.p a.len a.buf.now c.if-len-ne256.false (told) (omega arith) _ _ c.put_file-count.ensures

@@ -20,27 +20,27 @@ slots-init c = record { sum = refl; long = refl; whole = refl }
 
 pub overflow_cast-s : goal.overflow_cast-s
 overflow_cast-s c = let lowest : lowest_of c.slots.rest ≡ At c.in-At.s = sym c.lowest-next.ensures ∙ c.in-At.is in
-    omega (arith, (lowest-found _ _ lowest.below)
+    omega (arith, (lowest-found _ _ (lowest)).below)
 
 pub append-requires : goal.append-requires
 append-requires c = let lowest : lowest_of c.slots.rest ≡ At c.in-At.s = sym c.lowest-next.ensures ∙ c.in-At.is in
-    let low : c.slots.end < c.args.n + size_of c.args.set = sending-low _ (lowest  c.slots.invariant in
-    (omega (arith, low , omega (arith, low , c.slots.invariant.long))
+    let low : c.slots.end < c.args.n + size_of c.args.set = sending-low _ (lowest) c.slots.invariant in
+    (omega (arith, low), omega (arith, low, c.slots.invariant.long))
 
 pub overflow_add-end : goal.overflow_add-end
 overflow_add-end c = let lowest : lowest_of c.slots.rest ≡ At c.in-At.s = sym c.lowest-next.ensures ∙ c.in-At.is in
-    let low : c.slots.end < c.args.n + size_of c.args.set = sending-low _ (lowest  c.slots.invariant in
-    omega (arith, low 
+    let low : c.slots.end < c.args.n + size_of c.args.set = sending-low _ (lowest) c.slots.invariant in
+    omega (arith, low)
 
 pub slots-smaller : goal.slots-smaller
 slots-smaller c = let lowest : lowest_of c.slots.rest ≡ At c.in-At.s = sym c.lowest-next.ensures ∙ c.in-At.is in
-    rw c.removed-rest.ensures (omega (arith, fewer _ _ lowest)
+    rw c.removed-rest.ensures (omega (arith, fewer _ _ (lowest)))
 
 pub slots-preserved : goal.slots-preserved
 slots-preserved c = let lowest : lowest_of c.slots.rest ≡ At c.in-At.s = sym c.lowest-next.ensures ∙ c.in-At.is in
     let l = c.slots in 
     rw c.removed-rest.ensures
-    (sending-more _ (lowest  l.invariant _ c.append.auto.0
+    (sending-more _ (lowest) l.invariant _ c.append.auto.0
     (c.append.ensures ∙ ap (λ (z : Message). messages_in l.end l.part ++ (z ∷ [])) c.to_slot.ensures))
 
 pub returns : goal.returns

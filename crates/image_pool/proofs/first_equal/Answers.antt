@@ -20,12 +20,12 @@ place_of-place-requires c = omega (arith, left-few _ _ _ c.left_count-n.ensures)
 pub overflow_mul-place : goal.overflow_mul-place
 overflow_mul-place c = let inside : c.place_of-place.result < c.args.count = let a = c.args in 
     place_inside a.count a.gone a.part.now a.m _ _ (omega (arith, c.left_count-n.ensures)) c.place_of-place.ensures in
-    omega (arith, inside 
+    omega (arith, inside)
 
 pub read_message-q-requires : goal.read_message-q-requires
 read_message-q-requires c = let inside : c.place_of-place.result < c.args.count = let a = c.args in 
     place_inside a.count a.gone a.part.now a.m _ _ (omega (arith, c.left_count-n.ensures)) c.place_of-place.ensures in
-    omega (arith, inside 
+    omega (arith, inside)
 
 pub returns-then-same : goal.returns-then-same
 returns-then-same c = let read : let a = c.args in 
@@ -34,7 +34,7 @@ returns-then-same c = let read : let a = c.args in
     c.read_message-q.ensures in
     let a = c.args in 
     sym
-    (hit a.count a.gone a.part.now a.m _ _ (omega (arith, c.left_count-n.ensures)) c.place_of-place.ensures _ (read 
+    (hit a.count a.gone a.part.now a.m _ _ (omega (arith, c.left_count-n.ensures)) c.place_of-place.ensures _ (read)
     (sym c.same.ensures ∙ c.if-same.true) c.places.invariant.1)
 
 pub places-preserved : goal.places-preserved
@@ -44,7 +44,7 @@ places-preserved c = let read : let a = c.args in
     c.read_message-q.ensures in
     let a = c.args in (
       omega arith,
-      missed_more a.count a.gone a.part.now a.m _ _ (read  (sym c.same.ensures ∙ c.if-same.false)
+      missed_more a.count a.gone a.part.now a.m _ _ (read) (sym c.same.ensures ∙ c.if-same.false)
           c.places.invariant.1,
     )
 

@@ -14,34 +14,31 @@ loop-s-init c = (zero-le, sym (passed_none 64 0 id_in node_widths 64 (drop nodes
 
 pub overflow_mul-s : goal.overflow_mul-s
 overflow_mul-s c = let narrow : c.args.n ≤ 64 = omega (arith, c.requires.1, header-counts c.args.file.now c.requires.0.header) in
-    omega (arith, narrow 
+    omega (arith, narrow)
 
 pub overflow_add-s : goal.overflow_add-s
 overflow_add-s c = let narrow : c.args.n ≤ 64 = omega (arith, c.requires.1, header-counts c.args.file.now c.requires.0.header) in
-    omega (arith, narrow 
+    omega (arith, narrow)
 
 pub read32-requires : goal.read32-requires
 read32-requires c = let long : length c.args.file.now ≡ total_of (file_n c.args.file.now) (file_count c.args.file.now) = offsets-long c.args.file.now c.requires.0.offsets in
-    omega (arith, long 
+    omega (arith, long)
 
 pub offset_bounds-ids-s : goal.offset_bounds-ids-s
 offset_bounds-ids-s c = let narrow : c.args.n ≤ 64 = omega (arith, c.requires.1, header-counts c.args.file.now c.requires.0.header) in
-    omega (arith, narrow 
+    omega (arith, narrow)
 
 pub bounds-ids-s : goal.bounds-ids-s
 bounds-ids-s c = let narrow : c.args.n ≤ 64 = omega (arith, c.requires.1, header-counts c.args.file.now c.requires.0.header) in
-    omega (arith, narrow 
+    omega (arith, narrow)
 
 pub overflow_add-s-in-loop-s : goal.overflow_add-s-in-loop-s
 overflow_add-s-in-loop-s c = let narrow : c.args.n ≤ 64 = omega (arith, c.requires.1, header-counts c.args.file.now c.requires.0.header) in
-    omega (arith, narrow 
-
-pub loop-s-smaller : goal.loop-s-smaller
-loop-s-smaller c = omega arith
+    omega (arith, narrow)
 
 pub loop-s-preserved : goal.loop-s-preserved
 loop-s-preserved c = let narrow : c.args.n ≤ 64 = omega (arith, c.requires.1, header-counts c.args.file.now c.requires.0.header) in
-    (omega arith, ids_more c.args.file.now _ c.loop-s.s _ (omega (arith, narrow ) c.loop-s.invariant.1 c.read32.ensures)
+    (omega arith, ids_more c.args.file.now _ c.loop-s.s _ (omega (arith, narrow)) c.loop-s.invariant.1 c.read32.ensures)
 
 pub returns : goal.returns
 returns c = let e : c.loop-s.s ≡ file_n c.args.file.now = omega arith in

@@ -14,12 +14,6 @@ pub loop-q-init : goal.loop-q-init
 unfolding all_to
 loop-q-init c = (zero-le, refl)
 
-pub overflow_mul-q : goal.overflow_mul-q
-overflow_mul-q c = omega arith
-
-pub read_message-m-requires : goal.read_message-m-requires
-read_message-m-requires c = omega arith
-
 pub place_fits-requires : goal.place_fits-requires
 place_fits-requires c = (c.requires.2, c.requires.3)
 
@@ -29,13 +23,7 @@ returns-then-not-place_fits c = let turn : let a = c.args in
     place-turn a.count a.part.now a.g a.ids.now c.loop-q.q c.read_message-m.result _ (omega arith)
     c.read_message-m.ensures c.place_fits.ensures in
     let a = c.args in 
-    sym (message-fails a.count a.part.now a.g a.ids.now c.loop-q.q (omega arith) (sym (turn  ∙ not-true _ c.if-not-place_fits.true-raw))
-
-pub overflow_add-q : goal.overflow_add-q
-overflow_add-q c = omega arith
-
-pub loop-q-smaller : goal.loop-q-smaller
-loop-q-smaller c = omega arith
+    sym (message-fails a.count a.part.now a.g a.ids.now c.loop-q.q (omega arith) (sym (turn) ∙ c.if-not-place_fits.true))
 
 pub loop-q-preserved : goal.loop-q-preserved
 loop-q-preserved c = let turn : let a = c.args in 
@@ -45,7 +33,7 @@ loop-q-preserved c = let turn : let a = c.args in
     let a = c.args in (
       omega arith,
       more c.loop-q.q (place_in a.g a.ids.now (part_pool a.count a.part.now)) c.loop-q.invariant.1
-          (sym (turn  ∙ not-false _ c.if-not-place_fits.false-raw),
+          (sym (turn) ∙ c.if-not-place_fits.false),
     )
 
 pub returns : goal.returns

@@ -9,7 +9,7 @@ messages_fit_in-requires c = c.requires
 
 pub returns-then-not-messages_fit_in : goal.returns-then-not-messages_fit_in
 returns-then-not-messages_fit_in c = let a = c.args in 
-    sym (pool-fails a.count a.part.now a.g a.ids.now (sym c.messages_fit_in.ensures ∙ not-true _ c.if-not-messages_fit_in.true-raw))
+    sym (pool-fails a.count a.part.now a.g a.ids.now (sym c.messages_fit_in.ensures ∙ c.if-not-messages_fit_in.true))
 
 pub different_in-requires : goal.different_in-requires
 different_in-requires c = (c.requires.0, c.requires.1)
@@ -17,4 +17,4 @@ different_in-requires c = (c.requires.0, c.requires.1)
 pub returns : goal.returns
 returns c = let a = c.args in 
     c.different_in.ensures
-    ∙ pool-goes a.count a.part.now a.g a.ids.now c.requires.1 (sym c.messages_fit_in.ensures ∙ not-false _ c.if-not-messages_fit_in.false-raw)
+    ∙ pool-goes a.count a.part.now a.g a.ids.now c.requires.1 (sym c.messages_fit_in.ensures ∙ c.if-not-messages_fit_in.false)

@@ -16,29 +16,29 @@ pub statuses_fit-requires : goal.statuses_fit-requires
 statuses_fit-requires c = (omega (arith, offsets-long c.args.file.now c.requires.offsets), c.requires.offsets)
 
 pub returns-then-not-statuses_fit : goal.returns-then-not-statuses_fit
-returns-then-not-statuses_fit c = sym (status-fails c.args.file.now (sym c.statuses_fit.ensures ∙ not-true _ c.if-not-statuses_fit.true-raw))
+returns-then-not-statuses_fit c = sym (status-fails c.args.file.now (sym c.statuses_fit.ensures ∙ c.if-not-statuses_fit.true))
 
 pub ring_in-g-requires : goal.ring_in-g-requires
 ring_in-g-requires c = omega (arith, offsets-long c.args.file.now c.requires.offsets)
 
 pub all_nodes-all-requires : goal.all_nodes-all-requires
 all_nodes-all-requires c = let narrow : Numbers (ring_of (file_table c.args.file.now)) = numbers-told _ (header-numbers c.args.file.now c.requires.header) in
-    rw c.ring_in-g.ensures (narrow .n-high
+    rw c.ring_in-g.ensures (narrow).n-high
 
 pub nodes_fit_in-requires : goal.nodes_fit_in-requires
 nodes_fit_in-requires c = (c.requires, c.ring_in-g.ensures, c.all_nodes-all.ensures)
 
 pub returns-then-not-nodes_fit_in : goal.returns-then-not-nodes_fit_in
-returns-then-not-nodes_fit_in c = sym (nodes-fail c.args.file.now (sym c.nodes_fit_in.ensures ∙ not-true _ c.if-not-nodes_fit_in.true-raw))
+returns-then-not-nodes_fit_in c = sym (nodes-fail c.args.file.now (sym c.nodes_fit_in.ensures ∙ c.if-not-nodes_fit_in.true))
 
 pub ids_in-ids-requires : goal.ids_in-ids-requires
 ids_in-ids-requires c = (c.requires, ap (λ (g : Ring). g.n) c.ring_in-g.ensures ∙ n-is c.args.file.now)
 
 pub file_pool_fits-requires : goal.file_pool_fits-requires
 file_pool_fits-requires c = let told = header-numbers c.args.file.now c.requires.header in
-    let nodes = sym c.nodes_fit_in.ensures ∙ not-false _ c.if-not-nodes_fit_in.false-raw in
+    let nodes = sym c.nodes_fit_in.ensures ∙ c.if-not-nodes_fit_in.false in
     (c.requires, rw (c.ring_in-g.ensures, c.ids_in-ids.ensures) (nodes-listed (file_table c.args.file.now) told nodes), c.all_nodes-all.ensures)
 
 pub returns : goal.returns
-returns c = pool-decides c.args.file.now c.ring_in-g.result _ _ c.requires.header (sym c.statuses_fit.ensures ∙ not-false _ c.if-not-statuses_fit.false-raw)
-    (sym c.nodes_fit_in.ensures ∙ not-false _ c.if-not-nodes_fit_in.false-raw) c.ring_in-g.ensures c.ids_in-ids.ensures c.file_pool_fits.ensures
+returns c = pool-decides c.args.file.now c.ring_in-g.result _ _ c.requires.header (sym c.statuses_fit.ensures ∙ c.if-not-statuses_fit.false)
+    (sym c.nodes_fit_in.ensures ∙ c.if-not-nodes_fit_in.false) c.ring_in-g.ensures c.ids_in-ids.ensures c.file_pool_fits.ensures

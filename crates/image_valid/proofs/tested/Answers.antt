@@ -12,32 +12,32 @@ pub header_fits-requires : goal.header_fits-requires
 header_fits-requires c = c.if-file-lt32.false
 
 pub returns-then-not-header_fits : goal.returns-then-not-header_fits
-returns-then-not-header_fits c = λ t p. answer-header c.args.file.now t p c.if-file-lt32.false (sym c.header_fits.ensures ∙ not-true _ c.if-not-header_fits.true-raw)
+returns-then-not-header_fits c = λ t p. answer-header c.args.file.now t p c.if-file-lt32.false (sym c.header_fits.ensures ∙ c.if-not-header_fits.true)
 
 pub offsets_fit-requires : goal.offsets_fit-requires
 offsets_fit-requires c = c.if-file-lt32.false
 
 pub returns-then-not-offsets_fit : goal.returns-then-not-offsets_fit
-returns-then-not-offsets_fit c = λ t p. answer-offsets c.args.file.now t p c.if-file-lt32.false (sym c.header_fits.ensures ∙ not-false _ c.if-not-header_fits.false-raw)
-    (sym c.offsets_fit.ensures ∙ not-true _ c.if-not-offsets_fit.true-raw)
+returns-then-not-offsets_fit c = λ t p. answer-offsets c.args.file.now t p c.if-file-lt32.false (sym c.header_fits.ensures ∙ c.if-not-header_fits.false)
+    (sym c.offsets_fit.ensures ∙ c.if-not-offsets_fit.true)
 
 pub records_fit-requires : goal.records_fit-requires
 records_fit-requires c = let fits : Fitting c.args.file.now = record {
-      header = sym c.header_fits.ensures ∙ not-false _ c.if-not-header_fits.false-raw;
-      offsets = sym c.offsets_fit.ensures ∙ not-false _ c.if-not-offsets_fit.false-raw;
+      header = sym c.header_fits.ensures ∙ c.if-not-header_fits.false;
+      offsets = sym c.offsets_fit.ensures ∙ c.if-not-offsets_fit.false;
     } in
-    fits 
+    fits
 
 pub returns-then-records_fit : goal.returns-then-records_fit
 returns-then-records_fit c = let fits : Fitting c.args.file.now = record {
-      header = sym c.header_fits.ensures ∙ not-false _ c.if-not-header_fits.false-raw;
-      offsets = sym c.offsets_fit.ensures ∙ not-false _ c.if-not-offsets_fit.false-raw;
+      header = sym c.header_fits.ensures ∙ c.if-not-header_fits.false;
+      offsets = sym c.offsets_fit.ensures ∙ c.if-not-offsets_fit.false;
     } in
-    λ t p. answer-done c.args.file.now t p c.if-file-lt32.false (fits  (sym c.records_fit.ensures ∙ c.if-records_fit.true)
+    λ t p. answer-done c.args.file.now t p c.if-file-lt32.false (fits) (sym c.records_fit.ensures ∙ c.if-records_fit.true)
 
 pub returns-else-records_fit : goal.returns-else-records_fit
 returns-else-records_fit c = let fits : Fitting c.args.file.now = record {
-      header = sym c.header_fits.ensures ∙ not-false _ c.if-not-header_fits.false-raw;
-      offsets = sym c.offsets_fit.ensures ∙ not-false _ c.if-not-offsets_fit.false-raw;
+      header = sym c.header_fits.ensures ∙ c.if-not-header_fits.false;
+      offsets = sym c.offsets_fit.ensures ∙ c.if-not-offsets_fit.false;
     } in
-    λ t p. answer-invalid c.args.file.now t p c.if-file-lt32.false (fits  (sym c.records_fit.ensures ∙ c.if-records_fit.false)
+    λ t p. answer-invalid c.args.file.now t p c.if-file-lt32.false (fits) (sym c.records_fit.ensures ∙ c.if-records_fit.false)

@@ -8,26 +8,26 @@ use Rattle.leaf.proofs.covers.Goals as goal
 
 pub offset_bounds-ids-l : goal.offset_bounds-ids-l
 offset_bounds-ids-l c = let above_low : c.seen-l.result < 64 = rw c.seen-l.ensures (seen_low _ _ _ _ _ c.requires.1) in
-    omega (arith, above_low 
+    omega (arith, above_low)
 
 pub bounds-ids-l : goal.bounds-ids-l
 bounds-ids-l c = let above_low : c.seen-l.result < 64 = rw c.seen-l.ensures (seen_low _ _ _ _ _ c.requires.1) in
-    above_low 
+    above_low
 
 pub offset_bounds-ids-r : goal.offset_bounds-ids-r
 offset_bounds-ids-r c = let below-low : c.seen-r.result < 64 = rw c.seen-r.ensures (seen_low _ _ _ _ _ c.requires.1) in
-    omega (arith, below-low 
+    omega (arith, below-low)
 
 pub bounds-ids-r : goal.bounds-ids-r
 bounds-ids-r c = let below-low : c.seen-r.result < 64 = rw c.seen-r.ensures (seen_low _ _ _ _ _ c.requires.1) in
-    below-low 
+    below-low
 
 pub covers-requires : goal.covers-requires
 covers-requires c = let above_low : c.seen-l.result < 64 = rw c.seen-l.ensures (seen_low _ _ _ _ _ c.requires.1) in
     let below-low : c.seen-r.result < 64 = rw c.seen-r.ensures (seen_low _ _ _ _ _ c.requires.1) in
     let h = c.requires in (
-      record { width = h.0.width; first = h.0.ids-in _ h.1; second = h.0.ids-in _ (above_low  },
-      record { width = h.0.width; first = h.0.ids-in _ (below-low ; second = h.2 },
+      record { width = h.0.width; first = h.0.ids-in _ h.1; second = h.0.ids-in _ (above_low) },
+      record { width = h.0.width; first = h.0.ids-in _ (below-low); second = h.2 },
     )
 
 pub returns : goal.returns

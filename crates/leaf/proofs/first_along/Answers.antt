@@ -6,6 +6,7 @@ use Prim.Native.Nat.{◌-◌}
 use native.Mathlib.Omega.{arith}
 use Rattle.rules_laws.proofs.Steps.{Walked, walk-begin, walk-took, walk-passed, walk_looks, walk-full, walk_end}
 use Rattle.leaf.proofs.first_along.Goals as goal
+use Rattle.leaf.proofs.first_along.Goals.{then-looked, else-looked}
 
 pub loop-d-init : goal.loop-d-init
 loop-d-init c = walk-begin _ _ _ _ _ c.requires.0 c.requires.1
@@ -13,31 +14,17 @@ loop-d-init c = walk-begin _ _ _ _ _ c.requires.0 c.requires.1
 pub returns-then-got-l : goal.returns-then-got-l
 returns-then-got-l c = walk-full _ _ _ _ _ c.requires.0 c.requires.1 c.loop-d.invariant (omega arith)
 
-pub along-s-requires : goal.along-s-requires
-along-s-requires c = omega arith
-
 pub looked-requires : goal.looked-requires
 looked-requires c = walk_looks _ _ _ _ _ c.requires.0 c.requires.1 _ _ c.along-s.ensures.0 c.along-s.ensures.1 c.loop-d.invariant (λ e. omega arith)
-
-pub overflow_add-got : goal.overflow_add-got
-overflow_add-got c = omega arith
-
-pub overflow_add-d : goal.overflow_add-d
-overflow_add-d c = omega arith
-
-pub loop-d-smaller : goal.loop-d-smaller
-loop-d-smaller c = omega arith
 
 pub loop-d-preserved : goal.loop-d-preserved
 loop-d-preserved c = let pre = c.requires in 
     let at = c.along-s.ensures in 
     let member = sym c.looked.ensures in
-    ⊎_elim
-    (λ w.
-    rw (w.2, w.1.ensures, w.3)
-    (walk-took _ _ _ _ _ pre.0 pre.1 _ _ at.0 at.1 c.loop-d.invariant (λ e. omega arith) (member ∙ w.0.taken)))
-    (λ w. rw (w.1, w.2) (walk-passed _ _ _ _ _ pre.0 pre.1 _ _ at.0 at.1 c.loop-d.invariant (member ∙ w.0.left)))
-    c.if-looked.branch
+    elim c.if-looked.branch [
+      then-looked w ↦ rw (w.out-is, w.added-out.ensures, w.got-is) (walk-took _ _ _ _ _ pre.0 pre.1 _ _ at.0 at.1 c.loop-d.invariant (λ e. omega arith) (member ∙ w.if-looked.true))
+    | else-looked w ↦ rw (w.out-is, w.got-is) (walk-passed _ _ _ _ _ pre.0 pre.1 _ _ at.0 at.1 c.loop-d.invariant (member ∙ w.if-looked.false))
+    ]
 
 pub returns : goal.returns
 returns c = walk_end _ _ _ _ _ c.requires.0 c.requires.1 c.loop-d.invariant c.loop-d-test.false

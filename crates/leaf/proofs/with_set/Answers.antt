@@ -14,16 +14,14 @@ use Rattle.rules_laws.proofs.Steps.{side-walk-up, side-walk-down}
 use Rattle.rules.specs.InnerSteps.{steps_of, other_than}
 use Rattle.leaf.proofs.with_set.Goals as goal
 
-pub returns : goal.returns
-returns c = made c.requires.0 _ c.requires.1 c.args.s c.args.d _ _
-    (rw c.joined.ensures at c.first_along-left.ensures)
-    (rw c.joined-2.ensures at c.first_along-right.ensures)
-
-{- LEFT
 module _ {g : Ring} {ids : List ℕ} (v : Listed g ids) (i : ℕ) (h : i < g.n) (s : Sides) (d l r : ℕ) where
   made : l ≡ closest (steps_of true g.n i) g.n g.l (other_than (union s.left d) i)
       → r ≡ closest (steps_of false g.n i) g.n g.l (other_than (union s.right d) i)
       → record { left = l; right = r } ≡ leaf_with g ids i s d
   unfolding leaf_with
   made p q = rw (p, q, side-walk-up v i h s.left d g.l, side-walk-down v i h s.right d g.l)
--}
+
+pub returns : goal.returns
+returns c = made c.requires.0 _ c.requires.1 c.args.s c.args.d _ _
+    (rw c.joined.ensures at c.first_along-left.ensures)
+    (rw c.joined-2.ensures at c.first_along-right.ensures)

@@ -11,36 +11,36 @@ use borrow.Author.Rules.{rules}
 use Rattle.over_counts.proofs.first_message.Goals as goal
 
 pub returns-then-not-is_sound : goal.returns-then-not-is_sound
-returns-then-not-is_sound c = first-invalid _ _ (sym c.is_sound.ensures ∙ not-true _ c.if-not-is_sound.true-raw) _
+returns-then-not-is_sound c = first-invalid _ _ (sym c.is_sound.ensures ∙ c.if-not-is_sound.true) _
 
 pub returns-then-t-i : goal.returns-then-t-i
-returns-then-t-i c = let good : is_sound_counted c.args.x c.args.len ≡ true = sym c.is_sound.ensures ∙ not-false _ c.if-not-is_sound.false-raw in
-    first_out _ _ (good  _ (omega arith)
+returns-then-t-i c = let good : is_sound_counted c.args.x c.args.len ≡ true = sym c.is_sound.ensures ∙ c.if-not-is_sound.false in
+    first_out _ _ (good) _ (omega arith)
 
 pub offset_bounds-counts-i : goal.offset_bounds-counts-i
-offset_bounds-counts-i c = let good : is_sound_counted c.args.x c.args.len ≡ true = sym c.is_sound.ensures ∙ not-false _ c.if-not-is_sound.false-raw in
-    let low : c.args.i < 64 = omega (arith, (tells _ _ good.numbers.n-high) in
-    omega (arith, low 
+offset_bounds-counts-i c = let good : is_sound_counted c.args.x c.args.len ≡ true = sym c.is_sound.ensures ∙ c.if-not-is_sound.false in
+    let low : c.args.i < 64 = omega (arith, (tells _ _ (good)).numbers.n-high) in
+    omega (arith, low)
 
 pub bounds-counts-i : goal.bounds-counts-i
-bounds-counts-i c = let good : is_sound_counted c.args.x c.args.len ≡ true = sym c.is_sound.ensures ∙ not-false _ c.if-not-is_sound.false-raw in
-    let low : c.args.i < 64 = omega (arith, (tells _ _ good.numbers.n-high) in
-    low 
+bounds-counts-i c = let good : is_sound_counted c.args.x c.args.len ≡ true = sym c.is_sound.ensures ∙ c.if-not-is_sound.false in
+    let low : c.args.i < 64 = omega (arith, (tells _ _ (good)).numbers.n-high) in
+    low
 
 pub returns-then-counts-i-eq0 : goal.returns-then-counts-i-eq0
-returns-then-counts-i-eq0 c = let good : is_sound_counted c.args.x c.args.len ≡ true = sym c.is_sound.ensures ∙ not-false _ c.if-not-is_sound.false-raw in
-    first-none _ _ (good  _ (omega arith) (omega arith)
+returns-then-counts-i-eq0 c = let good : is_sound_counted c.args.x c.args.len ≡ true = sym c.is_sound.ensures ∙ c.if-not-is_sound.false in
+    first-none _ _ (good) _ (omega arith) (omega arith)
 
 pub overflow_cast-i : goal.overflow_cast-i
-overflow_cast-i c = let good : is_sound_counted c.args.x c.args.len ≡ true = sym c.is_sound.ensures ∙ not-false _ c.if-not-is_sound.false-raw in
-    let low : c.args.i < 64 = omega (arith, (tells _ _ good.numbers.n-high) in
-    omega (arith, low 
+overflow_cast-i c = let good : is_sound_counted c.args.x c.args.len ≡ true = sym c.is_sound.ensures ∙ c.if-not-is_sound.false in
+    let low : c.args.i < 64 = omega (arith, (tells _ _ (good)).numbers.n-high) in
+    omega (arith, low)
 
 pub first_said-requires : goal.first_said-requires
-first_said-requires c = let good : is_sound_counted c.args.x c.args.len ≡ true = sym c.is_sound.ensures ∙ not-false _ c.if-not-is_sound.false-raw in
-    (tells _ _ good.counted
+first_said-requires c = let good : is_sound_counted c.args.x c.args.len ≡ true = sym c.is_sound.ensures ∙ c.if-not-is_sound.false in
+    (tells _ _ (good)).counted
 
 pub returns : goal.returns
-returns c = let good : is_sound_counted c.args.x c.args.len ≡ true = sym c.is_sound.ensures ∙ not-false _ c.if-not-is_sound.false-raw in
+returns c = let good : is_sound_counted c.args.x c.args.len ≡ true = sym c.is_sound.ensures ∙ c.if-not-is_sound.false in
     c.first_said_lem.ensures⟪?⟫
-    ∙ first-walked _ _ (good  _ (omega arith) c.if-counts-i-eq0.false
+    ∙ first-walked _ _ (good) _ (omega arith) c.if-counts-i-eq0.false

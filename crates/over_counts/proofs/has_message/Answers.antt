@@ -10,26 +10,26 @@ use borrow.Author.Rules.{rules}
 use Rattle.over_counts.proofs.has_message.Goals as goal
 
 pub returns-then-not-is_sound : goal.returns-then-not-is_sound
-returns-then-not-is_sound c = has-invalid _ _ (sym c.is_sound.ensures ∙ not-true _ c.if-not-is_sound.true-raw) _
+returns-then-not-is_sound c = has-invalid _ _ (sym c.is_sound.ensures ∙ c.if-not-is_sound.true) _
 
 pub returns-then-t-i : goal.returns-then-t-i
-returns-then-t-i c = let good : is_sound_counted c.args.x c.args.len ≡ true = sym c.is_sound.ensures ∙ not-false _ c.if-not-is_sound.false-raw in
-    has-out _ _ (good  _ (omega arith)
+returns-then-t-i c = let good : is_sound_counted c.args.x c.args.len ≡ true = sym c.is_sound.ensures ∙ c.if-not-is_sound.false in
+    has-out _ _ (good) _ (omega arith)
 
 pub offset_bounds-counts-i : goal.offset_bounds-counts-i
-offset_bounds-counts-i c = let good : is_sound_counted c.args.x c.args.len ≡ true = sym c.is_sound.ensures ∙ not-false _ c.if-not-is_sound.false-raw in
-    let low : c.args.i < 64 = omega (arith, (tells _ _ good.numbers.n-high) in
-    omega (arith, low 
+offset_bounds-counts-i c = let good : is_sound_counted c.args.x c.args.len ≡ true = sym c.is_sound.ensures ∙ c.if-not-is_sound.false in
+    let low : c.args.i < 64 = omega (arith, (tells _ _ (good)).numbers.n-high) in
+    omega (arith, low)
 
 pub bounds-counts-i : goal.bounds-counts-i
-bounds-counts-i c = let good : is_sound_counted c.args.x c.args.len ≡ true = sym c.is_sound.ensures ∙ not-false _ c.if-not-is_sound.false-raw in
-    let low : c.args.i < 64 = omega (arith, (tells _ _ good.numbers.n-high) in
-    low 
+bounds-counts-i c = let good : is_sound_counted c.args.x c.args.len ≡ true = sym c.is_sound.ensures ∙ c.if-not-is_sound.false in
+    let low : c.args.i < 64 = omega (arith, (tells _ _ (good)).numbers.n-high) in
+    low
 
 pub returns-then-counts-i-gt0 : goal.returns-then-counts-i-gt0
-returns-then-counts-i-gt0 c = let good : is_sound_counted c.args.x c.args.len ≡ true = sym c.is_sound.ensures ∙ not-false _ c.if-not-is_sound.false-raw in
-    has-yes _ _ (good  _ (omega arith) (omega arith)
+returns-then-counts-i-gt0 c = let good : is_sound_counted c.args.x c.args.len ≡ true = sym c.is_sound.ensures ∙ c.if-not-is_sound.false in
+    has-yes _ _ (good) _ (omega arith) (omega arith)
 
 pub returns-else-counts-i-gt0 : goal.returns-else-counts-i-gt0
-returns-else-counts-i-gt0 c = let good : is_sound_counted c.args.x c.args.len ≡ true = sym c.is_sound.ensures ∙ not-false _ c.if-not-is_sound.false-raw in
-    has_no _ _ (good  _ (omega arith) (omega arith)
+returns-else-counts-i-gt0 c = let good : is_sound_counted c.args.x c.args.len ≡ true = sym c.is_sound.ensures ∙ c.if-not-is_sound.false in
+    has_no _ _ (good) _ (omega arith) (omega arith)

@@ -9,8 +9,8 @@ pub returns-then-len-ne256 : goal.returns-then-len-ne256
 returns-then-len-ne256 c = other_length _ _ c.if-len-ne256.true
 
 pub returns-then-not-is_valid : goal.returns-then-not-is_valid
-returns-then-not-is_valid c = not_valid _ _ c.if-len-ne256.false (sym c.is_valid.ensures ∙ not-true _ c.if-not-is_valid.true-raw)
+returns-then-not-is_valid c = not_valid _ _ c.if-len-ne256.false (sym c.is_valid.ensures ∙ c.if-not-is_valid.true)
 
 pub returns : goal.returns
 returns c = c.agree.ensures
-    ∙ then_agrees _ _ c.if-len-ne256.false (sym c.is_valid.ensures ∙ not-false _ c.if-not-is_valid.false-raw)
+    ∙ then_agrees _ _ c.if-len-ne256.false (sym c.is_valid.ensures ∙ c.if-not-is_valid.false)

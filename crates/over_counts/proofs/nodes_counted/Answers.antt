@@ -11,32 +11,22 @@ use lib.Dec.{ltb}
 use Rattle.marks.specs.Marks.{gather}
 use Rattle.marks.proofs.Laws.{gather-next}
 use Rattle.counts.specs.Counts.{count_at}
+use Rattle.over_counts.proofs.nodes_counted.Invariants.{some_for}
 use Rattle.over_counts.proofs.nodes_counted.Goals as goal
-
-abbrev some_for : List ℕ → ℕ → Bool
-some_for c i = ltb 0 (count_at c i)
+use Rattle.over_counts.proofs.nodes_counted.Goals.{then-counts-i-gt0, else-counts-i-gt0}
 
 pub loop-i-init : goal.loop-i-init
 unfolding gather
 loop-i-init c = (omega arith, refl)
 
-pub offset_bounds-counts-i : goal.offset_bounds-counts-i
-offset_bounds-counts-i c = omega arith
-
-pub bounds-counts-i : goal.bounds-counts-i
-bounds-counts-i c = omega arith
-
-pub overflow_add-i : goal.overflow_add-i
-overflow_add-i c = omega arith
-
-pub loop-i-smaller : goal.loop-i-smaller
-loop-i-smaller c = omega arith
-
 pub loop-i-preserved : goal.loop-i-preserved
 loop-i-preserved c = let f = some_for c.args.counts.now in (
       omega arith,
       gather-next f c.loop-i.i c.loop-i.set c.if-counts-i-gt0.set (omega arith) c.loop-i.invariant.1
-          (⊎_elim (λ w. inl (lt-ltb 0 _ w.0.taken, w.2 ∙ w.1.ensures)) (λ w. inr (le-ltb 0 _ w.0.left, w.1)) c.if-counts-i-gt0.branch),
+          (elim c.if-counts-i-gt0.branch [
+            then-counts-i-gt0 w ↦ inl (lt-ltb 0 _ w.if-counts-i-gt0.true, w.out-is ∙ w.added-out.ensures)
+          | else-counts-i-gt0 w ↦ inr (le-ltb 0 _ w.if-counts-i-gt0.false, w.out-is)
+          ]),
     )
 
 pub returns : goal.returns

@@ -14,6 +14,9 @@ use Rattle.marks.proofs.Laws.{gather-next}
 use Rattle.counts.specs.Counts.{count_at}
 use Rattle.over_counts.proofs.nodes_counted.Given as goal
 
+abbrev pub some_for : List ℕ → ℕ → Bool
+some_for c i = ltb 0 (count_at c i)
+
 abbrev pub invariant-loop-i : goal.invariant-loop-i
 invariant-loop-i l = (l.i ≤ l.n) × (l.set ≡ gather l.i (some_for l.counts))
 

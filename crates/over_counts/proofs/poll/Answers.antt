@@ -9,12 +9,12 @@ use borrow.Author.Rules.{rules}
 use Rattle.over_counts.proofs.poll.Goals as goal
 
 pub returns-then-not-is_sound : goal.returns-then-not-is_sound
-returns-then-not-is_sound c = polled-invalid _ _ (sym c.is_sound.ensures ∙ not-true _ c.if-not-is_sound.true-raw)
+returns-then-not-is_sound c = polled-invalid _ _ (sym c.is_sound.ensures ∙ c.if-not-is_sound.true)
 
 pub nodes_counted-requires : goal.nodes_counted-requires
-nodes_counted-requires c = let good : is_sound_counted c.args.x c.args.len ≡ true = sym c.is_sound.ensures ∙ not-false _ c.if-not-is_sound.false-raw in
-    (tells _ _ good.numbers.n-high
+nodes_counted-requires c = let good : is_sound_counted c.args.x c.args.len ≡ true = sym c.is_sound.ensures ∙ c.if-not-is_sound.false in
+    (tells _ _ (good)).numbers.n-high
 
 pub returns : goal.returns
-returns c = let good : is_sound_counted c.args.x c.args.len ≡ true = sym c.is_sound.ensures ∙ not-false _ c.if-not-is_sound.false-raw in
-    ap polled.Nodes c.nodes_counted.ensures ∙ polled-nodes _ _ (good 
+returns c = let good : is_sound_counted c.args.x c.args.len ≡ true = sym c.is_sound.ensures ∙ c.if-not-is_sound.false in
+    ap polled.Nodes c.nodes_counted.ensures ∙ polled-nodes _ _ (good)

@@ -9,36 +9,16 @@ use lib.Dec.{eqb}
 use lib.ListN.{get_or}
 use Rattle.marks.specs.Marks.{all_to}
 use Rattle.marks.proofs.Laws.{more, fails}
+use Rattle.over_counts.proofs.same.Invariants.{same_at}
 use Rattle.over_counts.proofs.same.Goals as goal
-
-abbrev same_at : List ℕ → List ℕ → ℕ → Bool
-same_at a b i = eqb (get_or a i 0) (get_or b i 0)
 
 pub loop-i-init : goal.loop-i-init
 unfolding all_to
 loop-i-init c = (omega arith, refl)
 
-pub offset_bounds-a-i : goal.offset_bounds-a-i
-offset_bounds-a-i c = omega arith
-
-pub bounds-a-i : goal.bounds-a-i
-bounds-a-i c = omega arith
-
-pub offset_bounds-b-i : goal.offset_bounds-b-i
-offset_bounds-b-i c = omega arith
-
-pub bounds-b-i : goal.bounds-b-i
-bounds-b-i c = omega arith
-
 pub returns-then-a-i : goal.returns-then-a-i
 returns-then-a-i c = let a = c.args in 
     sym (fails 64 (same_at a.a.now a.b.now) c.loop-i.i (omega arith) (ne_eqb _ _ c.if-a-i.true))
-
-pub overflow_add-i : goal.overflow_add-i
-overflow_add-i c = omega arith
-
-pub loop-i-smaller : goal.loop-i-smaller
-loop-i-smaller c = omega arith
 
 pub loop-i-preserved : goal.loop-i-preserved
 loop-i-preserved c = let a = c.args in 

@@ -11,6 +11,9 @@ use Rattle.marks.specs.Marks.{all_to}
 use Rattle.marks.proofs.Laws.{more, fails}
 use Rattle.over_counts.proofs.same.Given as goal
 
+abbrev pub same_at : List ℕ → List ℕ → ℕ → Bool
+same_at a b i = eqb (get_or a i 0) (get_or b i 0)
+
 abbrev pub invariant-loop-i : goal.invariant-loop-i
 invariant-loop-i l = (l.i ≤ 64) × (all_to l.i (same_at l.a l.b) ≡ true)
 

@@ -7,9 +7,9 @@ use Rattle.over_counts.proofs.settled.Goals as goal
 
 pub returns-then-not-agree : goal.returns-then-not-agree
 returns-then-not-agree c = let a = c.args in 
-    rest-disagreed a.x a.len (sym c.agree.ensures ∙ not-true _ c.if-not-agree.true-raw)
+    rest-disagreed a.x a.len (sym c.agree.ensures ∙ c.if-not-agree.true)
 
 pub returns : goal.returns
 returns c = let a = c.args in 
     c.settled.ensures
-    ∙ rest-agreed a.x a.len (sym c.agree.ensures ∙ not-false _ c.if-not-agree.false-raw)
+    ∙ rest-agreed a.x a.len (sym c.agree.ensures ∙ c.if-not-agree.false)

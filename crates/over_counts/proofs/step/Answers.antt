@@ -9,9 +9,9 @@ use Rattle.over_counts.proofs.step.Goals as goal
 pub returns-then-not-agree : goal.returns-then-not-agree
 returns-then-not-agree c = let a = c.args in 
     c.refused.ensures
-    ∙ step-disagreed a.x a.len (sym c.agree.ensures ∙ not-true _ c.if-not-agree.true-raw) a.a
+    ∙ step-disagreed a.x a.len (sym c.agree.ensures ∙ c.if-not-agree.true) a.a
 
 pub returns : goal.returns
 returns c = let a = c.args in 
     c.with_counts.ensures ∙ ap (after_by _) c.step.ensures
-    ∙ step-agreed a.x a.len (sym c.agree.ensures ∙ not-false _ c.if-not-agree.false-raw) a.a
+    ∙ step-agreed a.x a.len (sym c.agree.ensures ∙ c.if-not-agree.false) a.a

@@ -14,24 +14,6 @@ use Rattle.holder.specs.declared.Holding.TheVariants.{OutOfRange, Unsettled}
 use Rattle.holder.specs.Holder.{covered_by, held_at, holding_in}
 use Rattle.over_holder.proofs.looked_for.Goals as goal
 
-pub returns-then-k-t : goal.returns-then-k-t
-returns-then-k-t c = outside c.args.t c.args.settled c.args.k c.requires.width.high c.if-k-t.true
-
-pub overflow_cast-k : goal.overflow_cast-k
-overflow_cast-k c = record { fits = narrow c.args.t true c.args.k c.requires.width.high c.if-k-t.false }
-
-pub held_at-requires : goal.held_at-requires
-held_at-requires c = (c.requires, inside c.args.t true c.args.k c.requires.width.high c.if-k-t.false)
-
-pub returns-then-settled : goal.returns-then-settled
-returns-then-settled c = looked c.args.t c.args.settled c.args.k c.requires.width.high
-    c.if-k-t.false _ c.if-settled.true c.held_at.ensures
-
-pub returns-else-settled : goal.returns-else-settled
-returns-else-settled c = not-settled c.args.t c.args.settled c.args.k c.requires.width.high
-    c.if-k-t.false c.if-settled.false
-
-{- LEFT
 module _ (t : Table) (settled : Bool) (k : ℕ) (h : t.m ≤ 32) where
   -- a one shifted by less than the width loses nothing
   size : 1 * 2 ^ t.m % 2 ^ 64 ≡ 2 ^ t.m
@@ -52,4 +34,20 @@ module _ (t : Table) (settled : Bool) (k : ℕ) (h : t.m ≤ 32) where
 
     not-settled : settled ≡ false → Unsettled ≡ holding_in t settled k
     not-settled s = rw (s, lt-ltb k (2 ^ t.m) inside)
--}
+
+pub returns-then-k-t : goal.returns-then-k-t
+returns-then-k-t c = outside c.args.t c.args.settled c.args.k c.requires.width.high c.if-k-t.true
+
+pub overflow_cast-k : goal.overflow_cast-k
+overflow_cast-k c = record { fits = narrow c.args.t true c.args.k c.requires.width.high c.if-k-t.false }
+
+pub held_at-requires : goal.held_at-requires
+held_at-requires c = (c.requires, inside c.args.t true c.args.k c.requires.width.high c.if-k-t.false)
+
+pub returns-then-settled : goal.returns-then-settled
+returns-then-settled c = looked c.args.t c.args.settled c.args.k c.requires.width.high
+    c.if-k-t.false _ c.if-settled.true c.held_at.ensures
+
+pub returns-else-settled : goal.returns-else-settled
+returns-else-settled c = not-settled c.args.t c.args.settled c.args.k c.requires.width.high
+    c.if-k-t.false c.if-settled.false

@@ -13,22 +13,10 @@ returns-then-b-n c = sym (same-long c.args.a.now c.args.b.now c.if-b-n.true)
 pub loop-i-init : goal.loop-i-init
 loop-i-init c = (omega arith, refl)
 
-pub bounds-a-i : goal.bounds-a-i
-bounds-a-i c = omega arith
-
-pub bounds-b-i : goal.bounds-b-i
-bounds-b-i c = omega arith
-
 pub returns-then-a-i : goal.returns-then-a-i
 returns-then-a-i c = let a = c.args.a.now in 
     let b = c.args.b.now in 
     sym (sym c.loop-i.invariant.1 ∙ same_not a b c.loop-i.i (omega arith) (omega arith) c.if-a-i.true)
-
-pub overflow_add-i : goal.overflow_add-i
-overflow_add-i c = omega arith
-
-pub loop-i-smaller : goal.loop-i-smaller
-loop-i-smaller c = omega arith
 
 pub loop-i-preserved : goal.loop-i-preserved
 loop-i-preserved c = let a = c.args.a.now in 

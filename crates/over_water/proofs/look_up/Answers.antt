@@ -13,6 +13,15 @@ use Rattle.water.proofs.Seats.{count_most}
 use Rattle.over_water.proofs.Places.{Full, full, held-length, held-at, look-found, look_none}
 use Rattle.over_water.proofs.look_up.Goals as goal
 
+module _ (s : Store) (f : Full s) (r : Record) (i n : ℕ) (e : i ≡ seat_of (held_of s) r) (q : n ≡ count_of s.count) where
+  there : i < n → At (get_or s.places i none_held) ≡ found_in (held_of s) r
+  there l =
+      ap (λ (h : Held). At h) (sym (held-at s f i (omega arith)) ∙ ap (λ (j : ℕ). get_or (held_of s) j none_held) e)
+      ∙ sym (look-found (held_of s) r (omega (arith, held-length s f)))
+
+  not_there : n ≤ i → Nothing ≡ found_in (held_of s) r
+  not_there l = sym (look_none (held_of s) r (omega (arith, held-length s f)))
+
 pub offset_bounds-s-i : goal.offset_bounds-s-i
 offset_bounds-s-i c = omega (arith, c.held_count.ensures, count_most c.args.s.count)
 
@@ -26,14 +35,3 @@ returns-then-i-held_count c = there c.args.s (full c.args.s _ c.well_formed.0) _
 pub returns-else-i-held_count : goal.returns-else-i-held_count
 returns-else-i-held_count c = not_there c.args.s (full c.args.s _ c.well_formed.0) _ c.seat-i.result c.held_count.result c.seat-i.ensures
     c.held_count.ensures c.if-i-held_count.false
-
-{- LEFT
-module _ (s : Store) (f : Full s) (r : Record) (i n : ℕ) (e : i ≡ seat_of (held_of s) r) (q : n ≡ count_of s.count) where
-  there : i < n → At (get_or s.places i none_held) ≡ found_in (held_of s) r
-  there l =
-      ap (λ (h : Held). At h) (sym (held-at s f i (omega arith)) ∙ ap (λ (j : ℕ). get_or (held_of s) j none_held) e)
-      ∙ sym (look-found (held_of s) r (omega (arith, held-length s f)))
-
-  not_there : n ≤ i → Nothing ≡ found_in (held_of s) r
-  not_there l = sym (look_none (held_of s) r (omega (arith, held-length s f)))
--}

@@ -13,30 +13,6 @@ use Rattle.water.specs.declared.Why.TheVariants.{Invalid, OutOfRange, Unsettled}
 use Rattle.water.specs.Water.{in_range, refused_of, put_of, place_by}
 use Rattle.over_water.proofs.place_by.Goals as goal
 
-pub returns-in-NotAsked : goal.returns-in-NotAsked
-returns-in-NotAsked c = c.refused.ensures ∙ not-asked c.args.w c.args.s c.args.r _ c.in-NotAsked.is
-
-pub returns-in-OutOfRange : goal.returns-in-OutOfRange
-returns-in-OutOfRange c = c.refused-in-OutOfRange.ensures ∙ key-out c.args.w c.args.s c.args.r c.in-OutOfRange.is
-
-pub returns-then-in_range : goal.returns-then-in_range
-returns-then-in_range c = c.refused-then-in_range.ensures
-    ∙ not-settled c.args.w c.args.s c.args.r c.in-Unsettled.is
-    (sym c.in_range.ensures ∙ c.if-in_range.true)
-
-pub returns-else-in_range : goal.returns-else-in_range
-returns-else-in_range c = c.refused-else-in_range.ensures
-    ∙ out_first c.args.w c.args.s c.args.r c.in-Unsettled.is (sym c.in_range.ensures ∙ c.if-in_range.false)
-
-pub returns-then-in_range-2 : goal.returns-then-in_range-2
-returns-then-in_range-2 c = c.put.ensures
-    ∙ goes c.args.w c.args.s c.args.r _ _ c.in-By.is (sym c.in_range-in-By.ensures ∙ c.if-in_range-2.true)
-
-pub returns-else-in_range-2 : goal.returns-else-in_range-2
-returns-else-in_range-2 c = c.refused-else-in_range-2.ensures
-    ∙ out c.args.w c.args.s c.args.r _ _ c.in-By.is (sym c.in_range-in-By.ensures ∙ c.if-in_range-2.false)
-
-{- LEFT
 module _ (w : Holding) (s : Store) (r : Record) where
   not-asked : (why : Refusal) → w ≡ held.NotAsked why → refused_of s Invalid ≡ place_by w s r
   unfolding place_by
@@ -61,4 +37,26 @@ module _ (w : Holding) (s : Store) (r : Record) where
   out : (holder copies : ℕ) → w ≡ held.By holder copies → in_range r ≡ false → refused_of s OutOfRange ≡ place_by w s r
   unfolding place_by
   out holder copies e q = rw (e, q)
--}
+
+pub returns-in-NotAsked : goal.returns-in-NotAsked
+returns-in-NotAsked c = c.refused.ensures ∙ not-asked c.args.w c.args.s c.args.r _ c.in-NotAsked.is
+
+pub returns-in-OutOfRange : goal.returns-in-OutOfRange
+returns-in-OutOfRange c = c.refused-in-OutOfRange.ensures ∙ key-out c.args.w c.args.s c.args.r c.in-OutOfRange.is
+
+pub returns-then-in_range : goal.returns-then-in_range
+returns-then-in_range c = c.refused-then-in_range.ensures
+    ∙ not-settled c.args.w c.args.s c.args.r c.in-Unsettled.is
+    (sym c.in_range.ensures ∙ c.if-in_range.true)
+
+pub returns-else-in_range : goal.returns-else-in_range
+returns-else-in_range c = c.refused-else-in_range.ensures
+    ∙ out_first c.args.w c.args.s c.args.r c.in-Unsettled.is (sym c.in_range.ensures ∙ c.if-in_range.false)
+
+pub returns-then-in_range-2 : goal.returns-then-in_range-2
+returns-then-in_range-2 c = c.put.ensures
+    ∙ goes c.args.w c.args.s c.args.r _ _ c.in-By.is (sym c.in_range-in-By.ensures ∙ c.if-in_range-2.true)
+
+pub returns-else-in_range-2 : goal.returns-else-in_range-2
+returns-else-in_range-2 c = c.refused-else-in_range-2.ensures
+    ∙ out c.args.w c.args.s c.args.r _ _ c.in-By.is (sym c.in_range-in-By.ensures ∙ c.if-in_range-2.false)

@@ -10,14 +10,6 @@ use Rattle.water.specs.declared.Why.TheVariants.{NoRoom}
 use Rattle.water.specs.Water.{held_of, seat_of, kept_at, refused_of, put_of}
 use Rattle.over_water.proofs.put.Goals as goal
 
-pub returns-then-i-ge512 : goal.returns-then-i-ge512
-returns-then-i-ge512 c = c.refused.ensures ∙ no_room_lem c.args.s c.args.r _ _ c.seat-i.result c.seat-i.ensures c.if-i-ge512.true
-
-pub returns : goal.returns
-returns c = room c.args.s c.args.r c.args.holder c.args.copies c.seat-i.result c.seat-i.ensures
-    c.kept.result c.if-i-ge512.false c.kept.ensures
-
-{- LEFT
 module _ (s : Store) (r : Record) (holder copies i : ℕ) (e : i ≡ seat_of (held_of s) r) where
   no_room_lem : 512 ≤ i → refused_of s NoRoom ≡ put_of s r holder copies
   unfolding put_of
@@ -27,4 +19,10 @@ module _ (s : Store) (r : Record) (holder copies i : ℕ) (e : i ≡ seat_of (he
       → record { reply = Accepted; store = u } ≡ put_of s r holder copies
   unfolding put_of
   room u h is = rw (← e, lt-ltb i 512 h, is)
--}
+
+pub returns-then-i-ge512 : goal.returns-then-i-ge512
+returns-then-i-ge512 c = c.refused.ensures ∙ no_room_lem c.args.s c.args.r _ _ c.seat-i.result c.seat-i.ensures c.if-i-ge512.true
+
+pub returns : goal.returns
+returns c = room c.args.s c.args.r c.args.holder c.args.copies c.seat-i.result c.seat-i.ensures
+    c.kept.result c.if-i-ge512.false c.kept.ensures

@@ -22,17 +22,17 @@ members-init c = look-begin _ _ c.ranges.set.fits
 pub better-found-requires : goal.better-found-requires
 better-found-requires c = let taken : lowest_of c.members.rest ≡ At c.in-At.s = sym c.lowest-next.ensures ∙ c.in-At.is in
     let k = c.members.invariant in 
-    (c.requires, look-low _ _ _ _ k _ (taken , found-low _ _ _ _ k)
+    (c.requires, look-low _ _ _ _ k _ (taken), found-low _ _ _ _ k)
 
 pub members-smaller : goal.members-smaller
 members-smaller c = let taken : lowest_of c.members.rest ≡ At c.in-At.s = sym c.lowest-next.ensures ∙ c.in-At.is in
     let k = c.members.invariant in 
-    rw c.removed-rest.ensures (look-less _ _ _ _ k _ taken
+    rw c.removed-rest.ensures (look-less _ _ _ _ k _ (taken))
 
 pub members-preserved : goal.members-preserved
 members-preserved c = let taken : lowest_of c.members.rest ≡ At c.in-At.s = sym c.lowest-next.ensures ∙ c.in-At.is in
     let k = c.members.invariant in 
-    rw (c.removed-rest.ensures, c.better-found.ensures) (look-more _ _ _ _ k _ taken
+    rw (c.removed-rest.ensures, c.better-found.ensures) (look-more _ _ _ _ k _ (taken))
 
 pub returns : goal.returns
 returns c = let k = c.members.invariant in 

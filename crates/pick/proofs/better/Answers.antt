@@ -19,18 +19,15 @@ kept : (ahead : ℕ → ℕ → Bool) (f : Found) (b s : ℕ) → f ≡ At b →
 kept ahead f b s e h = rw (e, h)
 
 pub ahead-requires : goal.ahead-requires
-ahead-requires c = let b = c.in-At.given⟪arm⟫ in 
-    (c.requires.0, c.requires.1, below _ _ 64 b.1 c.requires.2)
+ahead-requires c = (c.requires.0, c.requires.1, below _ _ 64 c.in-At.is c.requires.2)
 
 pub returns-then-ahead : goal.returns-then-ahead
 returns-then-ahead c = let a = c.args in 
-    let b = c.in-At.given⟪arm⟫ in 
-    took (ahead_of a.w (2 ^ a.m) a.k a.ids.now) a.found b.0.0 a.s b.1 (sym c.ahead.ensures ∙ c.if-ahead.true)
+    took (ahead_of a.w (2 ^ a.m) a.k a.ids.now) a.found c.in-At.b a.s c.in-At.is (sym c.ahead.ensures ∙ c.if-ahead.true)
 
 pub returns-else-ahead : goal.returns-else-ahead
 returns-else-ahead c = let a = c.args in 
-    let b = c.in-At.given⟪arm⟫ in 
-    kept (ahead_of a.w (2 ^ a.m) a.k a.ids.now) a.found b.0.0 a.s b.1 (sym c.ahead.ensures ∙ c.if-ahead.false)
+    kept (ahead_of a.w (2 ^ a.m) a.k a.ids.now) a.found c.in-At.b a.s c.in-At.is (sym c.ahead.ensures ∙ c.if-ahead.false)
 
 pub returns-in-Nothing : goal.returns-in-Nothing
 returns-in-Nothing c = rw c.in-Nothing.is

@@ -8,6 +8,7 @@ use Rattle.plan.specs.Actions.{plan_lease_expired, is_neighbour}
 use Rattle.rules.specs.declared.Status.TheVariants as status
 use Rattle.rules.specs.Plans.{is_ready}
 use Rattle.plan_lease.proofs.plan_lease_expired.Goals as goal
+use Rattle.plan_lease.proofs.plan_lease_expired.Goals.{then-is_ready-near, else-is_ready-near}
 
 pub returns-then-not-is_up : goal.returns-then-not-is_up
 unfolding plan_lease_expired
@@ -21,6 +22,9 @@ pub returns : goal.returns
 unfolding plan_lease_expired
 returns c = let next : let a = c.args in 
     c.if-is_ready-near.next ≡ cond (is_ready a.v.status && is_neighbour a.g a.ids.now a.i a.v a.j) status.Ok a.v.status = rw (← c.is_ready.ensures, ← c.neighbours-near.ensures)
-    (⊎_elim (λ w. rw w.0.taken w.1) (λ w. rw w.0.left w.1) c.if-is_ready-near.branch) in
+    (elim c.if-is_ready-near.branch [
+      then-is_ready-near w ↦ rw w.if-is_ready-near.true w.next-is
+    | else-is_ready-near w ↦ rw w.if-is_ready-near.false w.next-is
+    ]) in
     rw (← c.is_up.ensures, c.if-not-is_up.false-raw, ← c.is_in.ensures, c.if-i-j.false)
-    (rw (c.quiet_plan.ensures, c.with_leases-node.ensures, c.removed.ensures, next )
+    (rw (c.quiet_plan.ensures, c.with_leases-node.ensures, c.removed.ensures, next))

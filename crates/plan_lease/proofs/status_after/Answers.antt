@@ -13,7 +13,7 @@ returns-then-leased-same c = let test : let a = c.args in
     && (eqb c.seen-above.result c.seen-old_above.result && eqb c.seen-below.result c.seen-old_below.result)
     ≡ (both_leased a.g a.ids.now a.i a.s a.lease && same_neighbours a.g a.ids.now a.i a.s (sides_of a.v)) = rw (c.is_in-2.ensures, c.is_in.ensures)
     (rw (c.seen-old_below.ensures, c.seen-old_above.ensures, c.seen-below.ensures, c.seen-above.ensures)) in
-    rw (← test , c.if-leased-same.true)
+    rw (← test, c.if-leased-same.true)
 
 pub returns-else-leased-same : goal.returns-else-leased-same
 returns-else-leased-same c = let test : let a = c.args in 
@@ -21,4 +21,4 @@ returns-else-leased-same c = let test : let a = c.args in
     && (eqb c.seen-above.result c.seen-old_above.result && eqb c.seen-below.result c.seen-old_below.result)
     ≡ (both_leased a.g a.ids.now a.i a.s a.lease && same_neighbours a.g a.ids.now a.i a.s (sides_of a.v)) = rw (c.is_in-2.ensures, c.is_in.ensures)
     (rw (c.seen-old_below.ensures, c.seen-old_above.ensures, c.seen-below.ensures, c.seen-above.ensures)) in
-    rw (← test , c.if-leased-same.false)
+    rw (← test, c.if-leased-same.false)

@@ -9,34 +9,20 @@ use lib.ListN.{length}
 use Rattle.pool_laws.proofs.Places.{places-length}
 use Rattle.pool_laws.proofs.Probes.{Kept, kept-none, kept-took, kept-passed, kept-end}
 use Rattle.pool.proofs.without_probes.Goals as goal
+use Rattle.pool.proofs.without_probes.Goals.{then-not-is_probe_from, else-not-is_probe_from}
 
 pub loop-at-init : goal.loop-at-init
 loop-at-init c = (omega arith, omega arith, rw c.blank_message-none.ensures (kept-none _ _ _))
-
-pub offset_bounds-places-count : goal.offset_bounds-places-count
-offset_bounds-places-count c = omega arith
-
-pub bounds-places-count : goal.bounds-places-count
-bounds-places-count c = omega arith
-
-pub overflow_add-count : goal.overflow_add-count
-overflow_add-count c = omega arith
-
-pub overflow_add-at : goal.overflow_add-at
-overflow_add-at c = omega arith
-
-pub loop-at-smaller : goal.loop-at-smaller
-loop-at-smaller c = omega arith
 
 pub loop-at-preserved : goal.loop-at-preserved
 loop-at-preserved c = let long = places-length c.args.p _ c.well_formed.0 in
     let low : c.loop-at.at < length c.args.p.places = omega (arith, long) in
     let is = sym c.is_probe_from.ensures in
     let few : c.loop-at.count < 256 = omega arith in
-    ⊎_elim
-    (λ w. rw (w.1, w.2) (omega arith, omega arith, kept-took _ _ _ low c.loop-at.invariant.2 few (is ∙ not-true _ w.0.taken)))
-    (λ w. rw (w.1, w.2) (omega arith, omega arith, kept-passed _ _ _ low c.loop-at.invariant.2 (is ∙ not-false _ w.0.left)))
-    c.if-not-is_probe_from.branch
+    elim c.if-not-is_probe_from.branch [
+      then-not-is_probe_from w ↦ rw (w.places-is, w.count-is) (omega arith, omega arith, kept-took _ _ _ low c.loop-at.invariant.2 few (is ∙ w.if-not-is_probe_from.true))
+    | else-not-is_probe_from w ↦ rw (w.places-is, w.count-is) (omega arith, omega arith, kept-passed _ _ _ low c.loop-at.invariant.2 (is ∙ w.if-not-is_probe_from.false))
+    ]
 
 pub returns : goal.returns
 returns c = let e : c.loop-at.at ≡ c.args.p.count = omega arith in

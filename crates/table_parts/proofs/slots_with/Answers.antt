@@ -13,33 +13,22 @@ use Rattle.table_type.specs.declared.Table.{Table}
 use Rattle.table_type.specs.Table.{node_at}
 use Rattle.table_parts.specs.InnerSlots.{slots_with}
 use Rattle.marks.proofs.Laws.{gather-next}
+use Rattle.table_parts.proofs.slots_with.Invariants.{is_with}
 use Rattle.table_parts.proofs.slots_with.Goals as goal
-
-abbrev is_with : Table → ℕ → ℕ → Bool
-is_with t number s = eqb (status_number (node_at t s).status) number
+use Rattle.table_parts.proofs.slots_with.Goals.{then-status_number-number, else-status_number-number}
 
 pub loop-s-init : goal.loop-s-init
 unfolding gather
 loop-s-init c = (omega arith, refl)
 
-pub offset_bounds-t-s : goal.offset_bounds-t-s
-offset_bounds-t-s c = omega arith
-
-pub bounds-t-s : goal.bounds-t-s
-bounds-t-s c = omega arith
-
-pub overflow_add-s : goal.overflow_add-s
-overflow_add-s c = omega arith
-
-pub loop-s-smaller : goal.loop-s-smaller
-loop-s-smaller c = omega arith
-
 pub loop-s-preserved : goal.loop-s-preserved
 loop-s-preserved c = let e = c.status_number.ensures in (
       omega arith,
       gather-next (is_with c.args.t c.args.number) c.loop-s.s c.loop-s.out c.if-status_number-number.out (omega arith) c.loop-s.invariant.1
-          (⊎_elim (λ w. inl (eq-eqb _ _ (sym e ∙ w.0.taken), w.2 ∙ w.1.ensures))
-          (λ w. inr (ne_eqb _ _ (λ q. w.0.left (e ∙ q)), w.1)) c.if-status_number-number.branch),
+          (elim c.if-status_number-number.branch [
+            then-status_number-number w ↦ inl (eq-eqb _ _ (sym e ∙ w.if-status_number-number.true), w.out-is ∙ w.added-out.ensures)
+          | else-status_number-number w ↦ inr (ne_eqb _ _ (λ q. w.if-status_number-number.false (e ∙ q)), w.out-is)
+          ]),
     )
 
 pub returns : goal.returns

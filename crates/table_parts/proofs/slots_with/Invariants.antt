@@ -16,6 +16,9 @@ use Rattle.table_parts.specs.InnerSlots.{slots_with}
 use Rattle.marks.proofs.Laws.{gather-next}
 use Rattle.table_parts.proofs.slots_with.Given as goal
 
+abbrev pub is_with : Table → ℕ → ℕ → Bool
+is_with t number s = eqb (status_number (node_at t s).status) number
+
 abbrev pub invariant-loop-s : goal.invariant-loop-s
 invariant-loop-s l = (l.s ≤ l.n) × (l.out ≡ gather l.s (is_with l.t l.number))
 

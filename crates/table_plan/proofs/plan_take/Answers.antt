@@ -39,32 +39,32 @@ plan_take_join_request-requires c = let n = c.requires.0.n-high in
 pub returns-in-2 : goal.returns-in-2
 unfolding plan_take
 returns-in-2 c = let by : ℕ → Planned = λ k. let a = c.args in plan_take k a.g a.ids.now a.dead a.i a.v a.m in
-    c.plan_take_join_request.ensures ∙ sym (ap (by  c.in-2.is)
+    c.plan_take_join_request.ensures ∙ sym (ap (by) c.in-2.is)
 
 pub returns-in-3 : goal.returns-in-3
 unfolding plan_take
 returns-in-3 c = let by : ℕ → Planned = λ k. let a = c.args in plan_take k a.g a.ids.now a.dead a.i a.v a.m in
-    c.plan_take_join_reply.ensures ∙ sym (ap (by  c.in-3.is)
+    c.plan_take_join_reply.ensures ∙ sym (ap (by) c.in-3.is)
 
 pub returns-in-4 : goal.returns-in-4
 unfolding plan_take
 returns-in-4 c = let by : ℕ → Planned = λ k. let a = c.args in plan_take k a.g a.ids.now a.dead a.i a.v a.m in
-    c.plan_take_probe.ensures ∙ sym (ap (by  c.in-4.is)
+    c.plan_take_probe.ensures ∙ sym (ap (by) c.in-4.is)
 
 pub returns-in-5 : goal.returns-in-5
 unfolding plan_take
 returns-in-5 c = let by : ℕ → Planned = λ k. let a = c.args in plan_take k a.g a.ids.now a.dead a.i a.v a.m in
-    c.plan_take_probe_reply.ensures ∙ sym (ap (by  c.in-5.is)
+    c.plan_take_probe_reply.ensures ∙ sym (ap (by) c.in-5.is)
 
 pub returns-in-7 : goal.returns-in-7
 unfolding plan_take
 returns-in-7 c = let by : ℕ → Planned = λ k. let a = c.args in plan_take k a.g a.ids.now a.dead a.i a.v a.m in
-    c.plan_take_lease_request.ensures ∙ sym (ap (by  c.in-7.is)
+    c.plan_take_lease_request.ensures ∙ sym (ap (by) c.in-7.is)
 
 pub returns-in-8 : goal.returns-in-8
 unfolding plan_take
 returns-in-8 c = let by : ℕ → Planned = λ k. let a = c.args in plan_take k a.g a.ids.now a.dead a.i a.v a.m in
-    c.plan_take_broadcast.ensures ∙ sym (ap (by  c.in-8.is)
+    c.plan_take_broadcast.ensures ∙ sym (ap (by) c.in-8.is)
 
 pub returns-in_default : goal.returns-in_default
 returns-in_default c = let r = c.in_default.in_default-own.rest in 

@@ -65,25 +65,25 @@ unasked t p (Recover i) h d = refl
 
 pub overflow_cast-k : goal.overflow_cast-k
 overflow_cast-k c = let called : (b : Action) → c.args.a ≡ b → Called c.requires.0 c.args.p b = λ b e. subst (Called c.requires.0 c.args.p) e c.requires.1 in
-    record { fits = key-low (called  _ c.in-Lookup.is) }
+    record { fits = key-low (called _ c.in-Lookup.is) }
 
 pub overflow_cast-i : goal.overflow_cast-i
 overflow_cast-i c = let called : (b : Action) → c.args.a ≡ b → Called c.requires.0 c.args.p b = λ b e. subst (Called c.requires.0 c.args.p) e c.requires.1 in
-    omega (arith, slot-low (called  _ c.in-Lookup.is))
+    omega (arith, slot-low (called _ c.in-Lookup.is))
 
 pub waits-requires : goal.waits-requires
 waits-requires c = counted c.requires.1
 
 pub overflow_cast-i-in-Join : goal.overflow_cast-i-in-Join
 overflow_cast-i-in-Join c = let called : (b : Action) → c.args.a ≡ b → Called c.requires.0 c.args.p b = λ b e. subst (Called c.requires.0 c.args.p) e c.requires.1 in
-    omega (arith, slot-low (called  _ c.in-Join.is))
+    omega (arith, slot-low (called _ c.in-Join.is))
 
 pub join_waits-requires : goal.join_waits-requires
 join_waits-requires c = counted c.requires.1
 
 pub overflow_cast-i-in-ResignNode : goal.overflow_cast-i-in-ResignNode
 overflow_cast-i-in-ResignNode c = let called : (b : Action) → c.args.a ≡ b → Called c.requires.0 c.args.p b = λ b e. subst (Called c.requires.0 c.args.p) e c.requires.1 in
-    omega (arith, slot-low (called  _ c.in-ResignNode.is))
+    omega (arith, slot-low (called _ c.in-ResignNode.is))
 
 pub reply_waits-requires : goal.reply_waits-requires
 reply_waits-requires c = counted c.requires.1

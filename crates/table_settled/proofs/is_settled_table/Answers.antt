@@ -17,6 +17,7 @@ use Rattle.table_type.specs.Table.{node_at, ids_of, ring_of}
 use Rattle.table.specs.Settled.{ready_set, settled_at}
 use Rattle.table_settled.proofs.Laws.{calm_in, calm-ready, calm-other, settled-none, settled-not, settled-all}
 use Rattle.table_settled.proofs.is_settled_table.Goals as goal
+use Rattle.table_settled.proofs.is_settled_table.Goals.{then-is_ready, else-is_ready}
 
 -- what was asked once, before the loop, is of the table
 asked : (g : Ring) (ids : List ℕ) (ready i : ℕ) (v : Node) (t : Table) → g ≡ ring_of t → ids ≡ ids_of t → ready ≡ ready_set t
@@ -35,60 +36,57 @@ loop-i-init c = (omega arith, refl)
 
 pub offset_bounds-t-i : goal.offset_bounds-t-i
 offset_bounds-t-i c = let table_at : Table = c.args.t in
-    let low : (table_at .n ≤ 64 = c.requires.n-high in
-    omega (arith, low 
+    let low : (table_at).n ≤ 64 = c.requires.n-high in
+    omega (arith, low)
 
 pub bounds-t-i : goal.bounds-t-i
 bounds-t-i c = let table_at : Table = c.args.t in
-    let low : (table_at .n ≤ 64 = c.requires.n-high in
-    omega (arith, low 
+    let low : (table_at).n ≤ 64 = c.requires.n-high in
+    omega (arith, low)
 
 pub settled_at-requires : goal.settled_at-requires
 settled_at-requires c = let table_at : Table = c.args.t in
-    let low : (table_at .n ≤ 64 = c.requires.n-high in
-    (rw (c.ring_of-g.ensures, c.ids-ids.ensures) c.requires, omega (arith, low )
+    let low : (table_at).n ≤ 64 = c.requires.n-high in
+    (rw (c.ring_of-g.ensures, c.ids-ids.ensures) c.requires, omega (arith, low))
 
 pub returns-then-not-settled_at : goal.returns-then-not-settled_at
 returns-then-not-settled_at c = let table_at : Table = c.args.t in
-    let node_in : Node = node_at (table_at  c.loop-i.i in
-    let fine_at : Bool = settled_at c.ring_of-g.result c.ids-ids.result c.ready_set-ready.result c.loop-i.i (node_in  in
-    let turn-ready : (r : Bool) → is_ready (node_in .status ≡ true → r ≡ fine_at  → calm_in (table_at  c.loop-i.i ≡ r = λ r up s. calm-ready (is_dead (node_in .status) _ _ up
+    let node_in : Node = node_at (table_at) c.loop-i.i in
+    let fine_at : Bool = settled_at c.ring_of-g.result c.ids-ids.result c.ready_set-ready.result c.loop-i.i (node_in) in
+    let turn-ready : (r : Bool) → is_ready (node_in).status ≡ true → r ≡ fine_at → calm_in (table_at) c.loop-i.i ≡ r = λ r up s. calm-ready (is_dead (node_in).status) _ _ up
     ∙ sym (s ∙ asked _ _ _ _ _ _ c.ring_of-g.ensures c.ids-ids.ensures c.ready_set-ready.ensures) in
-    sym (settled-not (table_at  c.loop-i.i (omega arith)
-    (turn-ready  c.settled_at.result (sym c.is_ready.ensures ∙ c.if-is_ready.true) c.settled_at.ensures
-    ∙ not-true _ c.if-not-settled_at.true-raw))
+    sym (settled-not (table_at) c.loop-i.i (omega arith)
+    (turn-ready c.settled_at.result (sym c.is_ready.ensures ∙ c.if-is_ready.true) c.settled_at.ensures
+    ∙ c.if-not-settled_at.true))
 
 pub returns-then-not-is_dead : goal.returns-then-not-is_dead
 returns-then-not-is_dead c = let table_at : Table = c.args.t in
-    let node_in : Node = node_at (table_at  c.loop-i.i in
-    let turn-other : (r : Bool) → is_ready (node_in .status ≡ false → r ≡ is_dead (node_in .status → calm_in (table_at  c.loop-i.i ≡ r = λ r up s. calm-other _ _ _ up ∙ sym s in
-    sym (settled-not (table_at  c.loop-i.i (omega arith)
-    (turn-other  c.is_dead.result (sym c.is_ready.ensures ∙ c.if-is_ready.false) c.is_dead.ensures
-    ∙ not-true _ c.if-not-is_dead.true-raw))
+    let node_in : Node = node_at (table_at) c.loop-i.i in
+    let turn-other : (r : Bool) → is_ready (node_in).status ≡ false → r ≡ is_dead (node_in).status → calm_in (table_at) c.loop-i.i ≡ r = λ r up s. calm-other _ _ _ up ∙ sym s in
+    sym (settled-not (table_at) c.loop-i.i (omega arith)
+    (turn-other c.is_dead.result (sym c.is_ready.ensures ∙ c.if-is_ready.false) c.is_dead.ensures
+    ∙ c.if-not-is_dead.true))
 
 pub overflow_add-i : goal.overflow_add-i
 overflow_add-i c = let table_at : Table = c.args.t in
-    let low : (table_at .n ≤ 64 = c.requires.n-high in
-    omega (arith, low 
-
-pub loop-i-smaller : goal.loop-i-smaller
-loop-i-smaller c = omega arith
+    let low : (table_at).n ≤ 64 = c.requires.n-high in
+    omega (arith, low)
 
 pub loop-i-preserved : goal.loop-i-preserved
 loop-i-preserved c = let table_at : Table = c.args.t in
-    let node_in : Node = node_at (table_at  c.loop-i.i in
-    let fine_at : Bool = settled_at c.ring_of-g.result c.ids-ids.result c.ready_set-ready.result c.loop-i.i (node_in  in
-    let turn-ready : (r : Bool) → is_ready (node_in .status ≡ true → r ≡ fine_at  → calm_in (table_at  c.loop-i.i ≡ r = λ r up s. calm-ready (is_dead (node_in .status) _ _ up
+    let node_in : Node = node_at (table_at) c.loop-i.i in
+    let fine_at : Bool = settled_at c.ring_of-g.result c.ids-ids.result c.ready_set-ready.result c.loop-i.i (node_in) in
+    let turn-ready : (r : Bool) → is_ready (node_in).status ≡ true → r ≡ fine_at → calm_in (table_at) c.loop-i.i ≡ r = λ r up s. calm-ready (is_dead (node_in).status) _ _ up
     ∙ sym (s ∙ asked _ _ _ _ _ _ c.ring_of-g.ensures c.ids-ids.ensures c.ready_set-ready.ensures) in
-    let turn-other : (r : Bool) → is_ready (node_in .status ≡ false → r ≡ is_dead (node_in .status → calm_in (table_at  c.loop-i.i ≡ r = λ r up s. calm-other _ _ _ up ∙ sym s in
+    let turn-other : (r : Bool) → is_ready (node_in).status ≡ false → r ≡ is_dead (node_in).status → calm_in (table_at) c.loop-i.i ≡ r = λ r up s. calm-other _ _ _ up ∙ sym s in
     (
       omega arith,
-      more c.loop-i.i (calm_in table_at c.loop-i.invariant.1 (⊎_elim
-          (λ w. turn-ready  w.2.result (sym c.is_ready.ensures ∙ w.0.taken) w.2.ensures ∙ not-false _ w.3.left)
-          (λ w. turn-other  w.1.result (sym c.is_ready.ensures ∙ w.0.left) w.1.ensures ∙ not-false _ w.2.left)
-          c.if-is_ready.branch),
+      more c.loop-i.i (calm_in (table_at)) c.loop-i.invariant.1 (elim c.if-is_ready.branch [
+        then-is_ready w ↦ turn-ready w.settled_at.result (sym c.is_ready.ensures ∙ w.if-is_ready.true) w.settled_at.ensures ∙ w.if-not-settled_at.false
+      | else-is_ready w ↦ turn-other w.is_dead.result (sym c.is_ready.ensures ∙ w.if-is_ready.false) w.is_dead.ensures ∙ w.if-not-is_dead.false
+      ]),
     )
 
 pub returns : goal.returns
 returns c = let table_at : Table = c.args.t in
-    sym (settled-all (table_at  c.loop-i.i (λ z. c.if-ready-eq0.false (c.ready_set-ready.ensures ∙ z)) (omega arith) c.loop-i.invariant.1)
+    sym (settled-all (table_at) c.loop-i.i (λ z. c.if-ready-eq0.false (c.ready_set-ready.ensures ∙ z)) (omega arith) c.loop-i.invariant.1)

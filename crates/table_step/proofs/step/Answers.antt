@@ -35,6 +35,7 @@ use Rattle.table_laws.proofs.Sound.{sound, is-valid}
 use Rattle.table_step.proofs.Lowered.{lowered-valid}
 use Rattle.table_step.proofs.Settles.{sound-is, step-invalid, step_range, calls, plan-slotted}
 use Rattle.table_step.proofs.Settles.{read_of, reads, acts-low, refuses, carries, first-told, timed-slot, timed-partner, times-out}
+use Rattle.table_step.proofs.step.Invariants.{told, closed}
 use Rattle.table_step.proofs.step.Goals as goal
 
 abbrev Tested : Type 0
@@ -75,11 +76,6 @@ Closing = tie.After-gap invariant-gap decreases-gap invariant-slots decreases-sl
 
 abbrev Putting : Type 0
 Putting = tie.At-match2-branch invariant-gap decreases-gap invariant-slots decreases-slots invariant-blanks decreases-blanks
-
-told : (c : Tested) → c.is-valid.result ≡ valid_of c.before.before.before.args.t c.before.before.before.args.p
-told c =
-    let s = c.before.before.before.args in
-    c.is-valid.ensures ∙ rw (c.before.at-most2.ensures, c.before.before.at_most.ensures) (lowered-valid s.t s.p)
 
 abbrev begun : (c : Sure) → Start
 begun c = c.before.before.before.before
@@ -200,14 +196,6 @@ left-slot c = let e = aim (leaving c) in timed-slot (called e) (left-asks c) (as
 left-partner : (c : Leaving) → (left-asks c).partner < 64
 left-partner c = let e = aim (leaving c) in timed-partner (called e) (left-asks c) (asks-is (asks e)) c.before.if4.true
 
-closed : (c : Closing)
-    → let k = (ready c.before.before).before.before in
-    take c.before.before.left-count.result c.before.gap.q.places ≡ left_of (pool-of k) (told-gone k)
-closed c =
-    let l = c.before.before in
-    let k = (ready l).before.before in
-    closed-end _ _ (pool-of k) (counted_of k) (long k) l.left-count.ensures _ _ c.gap-test.false c.before.gap.invariant
-
 put_is : (c : Putting)
     → let l = c.before.before.before in
     let k = (ready l).before.before in
@@ -226,7 +214,7 @@ put_is c =
 pub returns-then-not-len-valid : goal.returns-then-not-len-valid
 returns-then-not-len-valid c = let s = c.args in 
     c.answered.ensures
-    ∙ step-invalid s.t s.p s.len s.a (sound-is s.t s.p s.len _ (told ⟦After-is_valid⟧) ∙ not-true _ c.if-not-len-valid.true-raw)
+    ∙ step-invalid s.t s.p s.len s.a (sound-is s.t s.p s.len _ (told ⟦After-is_valid⟧) ∙ c.if-not-len-valid.true)
 
 pub asked-asks-requires : goal.asked-asks-requires
 asked-asks-requires c = let s = (begun ⟦Else1⟧).args in
@@ -236,12 +224,6 @@ pub returns-then-not-asks : goal.returns-then-not-asks
 returns-then-not-asks c = let s = (begun ⟦Else1⟧).args in
     c.answered-then-not-asks.ensures
     ∙ step_range s.t s.p s.len s.a (is-sound ⟦Else1⟧) _ (asks-is ⟦After-asked⟧) (not-true _ c.if-not-asks.true)
-
-pub offset_bounds-q-gone : goal.offset_bounds-q-gone
-offset_bounds-q-gone c = omega arith
-
-pub bounds-q-gone : goal.bounds-q-gone
-bounds-q-gone c = omega arith
 
 pub repeated-there-requires : goal.repeated-there-requires
 repeated-there-requires c = ((start ⟦Else2⟧).args.t, called ⟦Else2⟧)
@@ -292,19 +274,19 @@ returns-then-not-room c = let e = aim (aimed ⟦Joined5⟧) in
     let m = read_of (called e) (told-asks ⟦Joined5⟧) (asks-is (asks e)) in
     c.answered-then-not-room.ensures
     ∙ full s.t s.p (told-gone ⟦Joined5⟧) (slot_with (told-asks ⟦Joined5⟧) m) (told-plan ⟦Joined5⟧) _ (whole ⟦Joined5⟧) (new_is ⟦Joined5⟧)
-    (sym c.room.ensures ∙ not-true _ c.if-not-room.true-raw)
+    (sym c.room.ensures ∙ c.if-not-room.true)
     ∙ carries (called e) (told-asks ⟦Joined5⟧) (asks-is (asks e)) s.len (is-sound (asks e).before) _ (planned-is (aimed ⟦Joined5⟧)) (untimed ⟦Joined5⟧).if4.false (told-plan ⟦Joined5⟧) _
     (going ⟦Joined5⟧).what.given.1 refl
 
 pub offset_bounds-u-i : goal.offset_bounds-u-i
 offset_bounds-u-i c = let slot-fits : c.slot_of-i.result < 64 = let e = aim (aimed ⟦Joined5⟧) in
     rw c.slot_of-i.ensures (acts-low (called e) (told-asks ⟦Joined5⟧) (asks-is (asks e))) in
-    omega (arith, slot-fits 
+    omega (arith, slot-fits)
 
 pub bounds-u-i : goal.bounds-u-i
 bounds-u-i c = let slot-fits : c.slot_of-i.result < 64 = let e = aim (aimed ⟦Joined5⟧) in
     rw c.slot_of-i.ensures (acts-low (called e) (told-asks ⟦Joined5⟧) (asks-is (asks e))) in
-    slot-fits 
+    slot-fits
 
 pub gap-init : goal.gap-init
 gap-init c = let k = (ready ⟦After-left_count⟧).before.before in closed_none _ _ _ (counted_of k) (long k) c.left_count-n.ensures
@@ -312,32 +294,32 @@ gap-init c = let k = (ready ⟦After-left_count⟧).before.before in closed_none
 pub overflow_add-x : goal.overflow_add-x
 overflow_add-x c = let low : c.gap.at + 1 < 256 = let k = (ready ⟦After-left_count⟧).before.before in
     next_low _ _ _ (counted_of k) (long k) c.left_count-n.ensures _ _ c.gap-test.true c.gap.invariant in
-    omega (arith, low 
+    omega (arith, low)
 
 pub offset_bounds-q-at : goal.offset_bounds-q-at
 offset_bounds-q-at c = let low : c.gap.at + 1 < 256 = let k = (ready ⟦After-left_count⟧).before.before in
     next_low _ _ _ (counted_of k) (long k) c.left_count-n.ensures _ _ c.gap-test.true c.gap.invariant in
-    omega (arith, low 
+    omega (arith, low)
 
 pub bounds-q-at : goal.bounds-q-at
 bounds-q-at c = let low : c.gap.at + 1 < 256 = let k = (ready ⟦After-left_count⟧).before.before in
     next_low _ _ _ (counted_of k) (long k) c.left_count-n.ensures _ _ c.gap-test.true c.gap.invariant in
-    low 
+    low
 
 pub offset_bounds-q-at-in-gap : goal.offset_bounds-q-at-in-gap
 offset_bounds-q-at-in-gap c = let low : c.gap.at + 1 < 256 = let k = (ready ⟦After-left_count⟧).before.before in
     next_low _ _ _ (counted_of k) (long k) c.left_count-n.ensures _ _ c.gap-test.true c.gap.invariant in
-    omega (arith, low 
+    omega (arith, low)
 
 pub bounds-q-at-in-gap : goal.bounds-q-at-in-gap
 bounds-q-at-in-gap c = let low : c.gap.at + 1 < 256 = let k = (ready ⟦After-left_count⟧).before.before in
     next_low _ _ _ (counted_of k) (long k) c.left_count-n.ensures _ _ c.gap-test.true c.gap.invariant in
-    omega (arith, low 
+    omega (arith, low)
 
 pub overflow_add-at : goal.overflow_add-at
 overflow_add-at c = let low : c.gap.at + 1 < 256 = let k = (ready ⟦After-left_count⟧).before.before in
     next_low _ _ _ (counted_of k) (long k) c.left_count-n.ensures _ _ c.gap-test.true c.gap.invariant in
-    omega (arith, low 
+    omega (arith, low)
 
 pub gap-preserved : goal.gap-preserved
 gap-preserved c = let k = (ready ⟦After-left_count⟧).before.before in
@@ -348,11 +330,11 @@ overflow_cast-s c = omega (arith, slot-low _ _ c.in-At.is (new-slot _ _ _ (new-o
 
 pub bounds-q-n : goal.bounds-q-n
 bounds-q-n c = let low-one : c.left_count-n.result < 256 = one-fits _ _ _ (new-of ⟦At-gap⟧) (roomy (ready ⟦At-gap⟧)) _ _ c.left_count-n.ensures c.in-At.is in
-    low-one 
+    low-one
 
 pub overflow_add-n : goal.overflow_add-n
 overflow_add-n c = let low-one : c.left_count-n.result < 256 = one-fits _ _ _ (new-of ⟦At-gap⟧) (roomy (ready ⟦At-gap⟧)) _ _ c.left_count-n.ensures c.in-At.is in
-    omega (arith, low-one 
+    omega (arith, low-one)
 
 pub slots-init : goal.slots-init
 slots-init c = let fit = new-fit _ _ _ (new-of ⟦After-left_count⟧) (roomy (ready ⟦After-left_count⟧)) _ c.left_count-n.ensures in
@@ -360,26 +342,26 @@ slots-init c = let fit = new-fit _ _ _ (new-of ⟦After-left_count⟧) (roomy (r
 
 pub overflow_cast-s-in-slots : goal.overflow_cast-s-in-slots
 overflow_cast-s-in-slots c = let lowest : lowest_of c.slots.rest ≡ At c.in-At-next.s = sym c.lowest-next.ensures ∙ c.in-At-next.is in
-    omega (arith, (lowest-found _ _ lowest.below)
+    omega (arith, (lowest-found _ _ (lowest)).below)
 
 pub bounds-q-n-in-slots : goal.bounds-q-n-in-slots
 bounds-q-n-in-slots c = let lowest : lowest_of c.slots.rest ≡ At c.in-At-next.s = sym c.lowest-next.ensures ∙ c.in-At-next.is in
-    let low-next : c.slots.n < 256 = filling-low _ _ _ _ _ _ (lowest  c.slots.invariant in
-    low-next 
+    let low-next : c.slots.n < 256 = filling-low _ _ _ _ _ _ (lowest) c.slots.invariant in
+    low-next
 
 pub overflow_add-n-in-slots : goal.overflow_add-n-in-slots
 overflow_add-n-in-slots c = let lowest : lowest_of c.slots.rest ≡ At c.in-At-next.s = sym c.lowest-next.ensures ∙ c.in-At-next.is in
-    let low-next : c.slots.n < 256 = filling-low _ _ _ _ _ _ (lowest  c.slots.invariant in
-    omega (arith, low-next 
+    let low-next : c.slots.n < 256 = filling-low _ _ _ _ _ _ (lowest) c.slots.invariant in
+    omega (arith, low-next)
 
 pub slots-smaller : goal.slots-smaller
 slots-smaller c = let lowest : lowest_of c.slots.rest ≡ At c.in-At-next.s = sym c.lowest-next.ensures ∙ c.in-At-next.is in
-    rw c.removed-rest.ensures (omega (arith, fewer _ _ lowest)
+    rw c.removed-rest.ensures (omega (arith, fewer _ _ (lowest)))
 
 pub slots-preserved : goal.slots-preserved
 slots-preserved c = let lowest : lowest_of c.slots.rest ≡ At c.in-At-next.s = sym c.lowest-next.ensures ∙ c.in-At-next.is in
     rw (c.removed-rest.ensures, c.to_slot-in-slots.ensures)
-    (filling-more _ _ _ _ _ _ (lowest  c.slots.invariant)
+    (filling-more _ _ _ _ _ _ (lowest) c.slots.invariant)
 
 pub blanks-init : goal.blanks-init
 blanks-init c = blanked-none _ (omega (arith, c.slots.invariant.room)) c.slots.invariant.long

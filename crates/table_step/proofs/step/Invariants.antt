@@ -45,6 +45,19 @@ use Rattle.table_step.proofs.Settles.{sound-is, step-invalid, step_range, calls,
 use Rattle.table_step.proofs.Settles.{read_of, reads, acts-low, refuses, carries, first-told, timed-slot, timed-partner, times-out}
 use Rattle.table_step.proofs.step.Given as goal
 
+pub told : (c : Tested) → c.is-valid.result ≡ valid_of c.before.before.before.args.t c.before.before.before.args.p
+told c =
+    let s = c.before.before.before.args in
+    c.is-valid.ensures ∙ rw (c.before.at-most2.ensures, c.before.before.at_most.ensures) (lowered-valid s.t s.p)
+
+pub closed : (c : Closing)
+    → let k = (ready c.before.before).before.before in
+    take c.before.before.left-count.result c.before.gap.q.places ≡ left_of (pool-of k) (told-gone k)
+closed c =
+    let l = c.before.before in
+    let k = (ready l).before.before in
+    closed-end _ _ (pool-of k) (counted_of k) (long k) l.left-count.ensures _ _ c.gap-test.false c.before.gap.invariant
+
 abbrev pub invariant-gap : goal.invariant-gap
 invariant-gap l = Closed l.gone l.n l.initial.q l.q l.at
 

@@ -10,10 +10,8 @@ use Rattle.rules.specs.Nodes.{no_node}
 use Rattle.table_type.specs.Table.{id_of}
 use Rattle.table_type.proofs.IdLaws.{ids_at}
 use Rattle.table_type.proofs.Laws.{Filled, fill-begin, fill_more, fill_end, length-mapped}
+use Rattle.table_type.proofs.ids.Invariants.{id_in}
 use Rattle.table_type.proofs.ids.Goals as goal
-
-abbrev id_in : List Node → ℕ → ℕ
-id_in vs i = (get_or vs i no_node).id
 
 ids-end : (vs : List Node) (s : ℕ) (r : List ℕ) → length vs ≡ 64 → 64 ≤ s → Filled 0 (id_in vs) s r → r ≡ map id_of vs
 ids-end vs s r l h k =
@@ -22,9 +20,6 @@ ids-end vs s r l h k =
 pub loop-s-init : goal.loop-s-init
 loop-s-init c = fill-begin 0 (id_in c.args.t.nodes) 0 refl
 
-pub bounds-r-s : goal.bounds-r-s
-bounds-r-s c = omega arith
-
 pub loop-s-preserved : goal.loop-s-preserved
 loop-s-preserved c = let l = c.loop-s in 
     fill_more 0 (id_in c.args.t.nodes) l.s l.r (omega arith) l.invariant
@@ -32,4 +27,4 @@ loop-s-preserved c = let l = c.loop-s in
 pub returns : goal.returns
 returns c = let full : length c.args.t.nodes ≡ 64 = search (length-mapped, rules) in
     let l = c.loop-s in 
-    ids-end c.args.t.nodes l.s l.r (full  (omega arith) l.invariant
+    ids-end c.args.t.nodes l.s l.r (full) (omega arith) l.invariant

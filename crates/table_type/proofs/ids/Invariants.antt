@@ -12,6 +12,9 @@ use Rattle.table_type.proofs.IdLaws.{ids_at}
 use Rattle.table_type.proofs.Laws.{Filled, fill-begin, fill_more, fill_end, length-mapped}
 use Rattle.table_type.proofs.ids.Given as goal
 
+abbrev pub id_in : List Node → ℕ → ℕ
+id_in vs i = (get_or vs i no_node).id
+
 abbrev pub invariant-loop-s : goal.invariant-loop-s
 invariant-loop-s l = Filled 0 (id_in l.t.nodes) l.s l.r
 

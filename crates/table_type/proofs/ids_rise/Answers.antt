@@ -14,24 +14,15 @@ pub loop-s-init : goal.loop-s-init
 unfolding all_to
 loop-s-init c = (omega arith, refl)
 
-pub id_rises-requires : goal.id_rises-requires
-id_rises-requires c = omega arith
-
 pub returns-then-not-id_rises : goal.returns-then-not-id_rises
 returns-then-not-id_rises c = let a = c.args in 
     rw ids-rising (sym (fails a.n (id_rises a.m a.ids.now) c.loop-s.s (omega arith)
-    (sym c.id_rises.ensures ∙ not-true _ c.if-not-id_rises.true-raw)))
-
-pub overflow_add-s : goal.overflow_add-s
-overflow_add-s c = omega arith
-
-pub loop-s-smaller : goal.loop-s-smaller
-loop-s-smaller c = omega arith
+    (sym c.id_rises.ensures ∙ c.if-not-id_rises.true)))
 
 pub loop-s-preserved : goal.loop-s-preserved
 loop-s-preserved c = let a = c.args in (
       omega arith,
-      more c.loop-s.s (id_rises a.m a.ids.now) c.loop-s.invariant.1 (sym c.id_rises.ensures ∙ not-false _ c.if-not-id_rises.false-raw),
+      more c.loop-s.s (id_rises a.m a.ids.now) c.loop-s.invariant.1 (sym c.id_rises.ensures ∙ c.if-not-id_rises.false),
     )
 
 pub returns : goal.returns

@@ -6,8 +6,8 @@ use Rattle.table_type.proofs.list_fits.Goals as goal
 
 pub returns-then-not-ids_rise : goal.returns-then-not-ids_rise
 unfolding list_fits
-returns-then-not-ids_rise c = rw (← c.ids_rise.ensures, not-true c.ids_rise.result c.if-not-ids_rise.true-raw)
+returns-then-not-ids_rise c = rw (← c.ids_rise.ensures, c.if-not-ids_rise.true)
 
 pub returns : goal.returns
 unfolding list_fits
-returns c = rw (← c.ids_rise.ensures, not-false c.ids_rise.result c.if-not-ids_rise.false-raw, c.all_below.ensures)
+returns c = rw (← c.ids_rise.ensures, c.if-not-ids_rise.false, c.all_below.ensures)

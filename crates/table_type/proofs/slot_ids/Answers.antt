@@ -12,18 +12,6 @@ use Rattle.table_type.proofs.slot_ids.Goals as goal
 pub loop-s-init : goal.loop-s-init
 loop-s-init c = (omega arith, fill-begin 0 (id_at c.args.ids.now) 0 refl)
 
-pub bounds-ids-s : goal.bounds-ids-s
-bounds-ids-s c = omega arith
-
-pub bounds-out-s : goal.bounds-out-s
-bounds-out-s c = omega arith
-
-pub overflow_add-s : goal.overflow_add-s
-overflow_add-s c = omega arith
-
-pub loop-s-smaller : goal.loop-s-smaller
-loop-s-smaller c = omega arith
-
 pub loop-s-preserved : goal.loop-s-preserved
 loop-s-preserved c = let l = c.loop-s in 
     (omega arith, fill_more 0 (id_at c.args.ids.now) l.s l.out (omega arith) l.invariant.1)

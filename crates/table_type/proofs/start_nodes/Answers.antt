@@ -15,18 +15,6 @@ loop-s-init c = let a = c.args in
 pub start_node-v-requires : goal.start_node-v-requires
 start_node-v-requires c = (c.requires, c.loop-s-test.true)
 
-pub offset_bounds-nodes-s : goal.offset_bounds-nodes-s
-offset_bounds-nodes-s c = omega arith
-
-pub bounds-nodes-s : goal.bounds-nodes-s
-bounds-nodes-s c = omega arith
-
-pub overflow_add-s : goal.overflow_add-s
-overflow_add-s c = omega arith
-
-pub loop-s-smaller : goal.loop-s-smaller
-loop-s-smaller c = omega arith
-
 pub loop-s-preserved : goal.loop-s-preserved
 loop-s-preserved c = let a = c.args in (
       omega arith,

@@ -9,15 +9,15 @@ use Rattle.table_valid.proofs.is_valid.Goals as goal
 
 pub returns-then-not-numbers_fit : goal.returns-then-not-numbers_fit
 unfolding valid_of
-returns-then-not-numbers_fit c = rw (← c.ring_of-g.ensures, ← c.numbers_fit.ensures, not-true c.numbers_fit.result c.if-not-numbers_fit.true-raw)
+returns-then-not-numbers_fit c = rw (← c.ring_of-g.ensures, ← c.numbers_fit.ensures, c.if-not-numbers_fit.true)
 
 pub all_nodes-all-requires : goal.all_nodes-all-requires
-all_nodes-all-requires c = let narrow : Numbers c.ring_of-g.result = numbers-told c.ring_of-g.result (rw (← c.numbers_fit.ensures) (not-false c.numbers_fit.result c.if-not-numbers_fit.false-raw)) in
-    (narrow .n-high
+all_nodes-all-requires c = let narrow : Numbers c.ring_of-g.result = numbers-told c.ring_of-g.result (rw (← c.numbers_fit.ensures) (c.if-not-numbers_fit.false)) in
+    (narrow).n-high
 
 pub nodes_fit-requires : goal.nodes_fit-requires
-nodes_fit-requires c = let narrow : Numbers c.ring_of-g.result = numbers-told c.ring_of-g.result (rw (← c.numbers_fit.ensures) (not-false c.numbers_fit.result c.if-not-numbers_fit.false-raw)) in
-    let e = rw c.ring_of-g.ensures at (narrow  in
+nodes_fit-requires c = let narrow : Numbers c.ring_of-g.result = numbers-told c.ring_of-g.result (rw (← c.numbers_fit.ensures) (c.if-not-numbers_fit.false)) in
+    let e = rw c.ring_of-g.ensures at (narrow) in
     (e.m-high, e.n-high, rw c.ring_of-g.ensures at c.all_nodes-all.ensures)
 
 pub returns-then-not-nodes_fit : goal.returns-then-not-nodes_fit
@@ -25,15 +25,15 @@ unfolding valid_of
 returns-then-not-nodes_fit c = rw (
       ← c.ring_of-g.ensures,
       ← c.numbers_fit.ensures,
-      not-false c.numbers_fit.result c.if-not-numbers_fit.false-raw,
+      c.if-not-numbers_fit.false,
       ← c.nodes_fit.ensures,
-      not-true c.nodes_fit.result c.if-not-nodes_fit.true-raw,
+      c.if-not-nodes_fit.true,
     )
 
 pub pool_fits-requires : goal.pool_fits-requires
 pool_fits-requires c = let g = c.ring_of-g.ensures in 
-    let told = sym c.numbers_fit.ensures ∙ not-false c.numbers_fit.result c.if-not-numbers_fit.false-raw in
-    let nodes = sym c.nodes_fit.ensures ∙ not-false c.nodes_fit.result c.if-not-nodes_fit.false-raw in
+    let told = sym c.numbers_fit.ensures ∙ c.if-not-numbers_fit.false in
+    let nodes = sym c.nodes_fit.ensures ∙ c.if-not-nodes_fit.false in
     (rw (g, c.ids-ids.ensures) (nodes-listed _ (rw g at told) nodes), c.all_nodes-all.ensures)
 
 pub returns : goal.returns
@@ -41,9 +41,9 @@ unfolding valid_of
 returns c = rw (
       ← c.ring_of-g.ensures,
       ← c.numbers_fit.ensures,
-      not-false c.numbers_fit.result c.if-not-numbers_fit.false-raw,
+      c.if-not-numbers_fit.false,
       ← c.nodes_fit.ensures,
-      not-false c.nodes_fit.result c.if-not-nodes_fit.false-raw,
+      c.if-not-nodes_fit.false,
       ← c.ids-ids.ensures,
       c.pool_fits.ensures,
     )

@@ -15,6 +15,9 @@ use Rattle.table.specs.Valid.{nodes_fit}
 use Rattle.table_valid.proofs.Slots.{low_at, low-next, slot-listed, slot-blank}
 use Rattle.table_valid.proofs.nodes_fit.Given as goal
 
+abbrev pub fits_at : Table → ℕ → Bool
+fits_at t s = slot_fits (ring_of t) (ids_of t) s (node_at t s)
+
 abbrev pub invariant-loop-s : goal.invariant-loop-s
 invariant-loop-s l = (l.s ≤ l.t.n) × (l.low ≡ low_at (ids_of l.t) l.s) × (all_to l.s (fits_at l.t) ≡ true)
 

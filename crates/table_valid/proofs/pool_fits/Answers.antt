@@ -17,10 +17,8 @@ use Rattle.rules.specs.Pool.{message_at, waiting}
 use Rattle.table.specs.Valid.{messages_fit, pool_fits}
 use Rattle.pool_laws.proofs.Places.{places-length}
 use Rattle.pool_laws.proofs.Chain.{Differ, differ-none, differ-more, differ-all, differ-not, Chained, Walk, none, starts, onward, more}
+use Rattle.table_valid.proofs.pool_fits.Invariants.{fits_at}
 use Rattle.table_valid.proofs.pool_fits.Goals as goal
-
-abbrev fits_at : Ring → List ℕ → Pool → ℕ → Bool
-fits_at g ids p q = message_fits g (message_at p q) && hops_fit g ids (message_at p q)
 
 -- one that does not fit decides
 one-fails : (g : Ring) (ids : List ℕ) (p : Pool) (k : ℕ) → p.count ≤ 256 → k < p.count → fits_at g ids p k ≡ false → false ≡ pool_fits g ids p
@@ -44,11 +42,11 @@ tests-init c = (zero-le, refl)
 pub returns-then-not-place_fits : goal.returns-then-not-place_fits
 returns-then-not-place_fits c = let a = c.args in 
     one-fails a.g _ a.p c.tests.k (omega arith) (omega arith)
-    (sym c.place_fits.ensures ∙ not-true _ c.if-not-place_fits.true-raw)
+    (sym c.place_fits.ensures ∙ c.if-not-place_fits.true)
 
 pub tests-preserved : goal.tests-preserved
 tests-preserved c = let a = c.args in 
-    let fit = sym c.place_fits.ensures ∙ not-false _ c.if-not-place_fits.false-raw in
+    let fit = sym c.place_fits.ensures ∙ c.if-not-place_fits.false in
     (omega arith, All-more c.tests.k (fits_at a.g _ a.p) c.tests.invariant.1 fit)
 
 pub places-init : goal.places-init
@@ -66,12 +64,6 @@ bounds-p-at c = let w = c.chain.invariant.low in omega arith
 
 pub bounds-next-at : goal.bounds-next-at
 bounds-next-at c = let w = c.chain.invariant.low in omega arith
-
-pub overflow_cast-at-in-chain : goal.overflow_cast-at-in-chain
-overflow_cast-at-in-chain c = let k = c.places in 
-    let w = c.chain.invariant.low in 
-    let l = (k.invariant.1.link (c.chain.at - 1) (omega arith)).low in
-    omega arith
 
 pub chain-smaller : goal.chain-smaller
 chain-smaller c = let k = c.places in 
@@ -106,3 +98,14 @@ returns-then-alike c = let low = c.if-n-gt256.false in
     let long = places-length c.args.p _ c.well_formed.1.1.1.0 in
     sym (differ-not _ _ (c.chain.at - 1) c.places.j long low (omega arith) (omega arith) same)
     ∙ all_fit c.args.g _ c.args.p c.tests.k low (omega arith) c.tests.invariant.1
+
+{- LEFT
+-- LOST cast-at-2 : overflow-cast-at-2
+cast-at-2 : tie.Need-overflow-cast-at-2 invariant-tests decreases-tests invariant-chain decreases-chain invariant-places decreases-places
+cast-at-2 c =
+    let s = c.before.before.before.before in
+    let k = s.before.before.before.before.places in
+    let w = s.chain.invariant.low in
+    let l = (k.invariant.1.link (s.chain.at - 1) (omega arith)).low in
+    omega arith
+-}

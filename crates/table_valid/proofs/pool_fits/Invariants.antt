@@ -21,6 +21,9 @@ use Rattle.pool_laws.proofs.Places.{places-length}
 use Rattle.pool_laws.proofs.Chain.{Differ, differ-none, differ-more, differ-all, differ-not, Chained, Walk, none, starts, onward, more}
 use Rattle.table_valid.proofs.pool_fits.Given as goal
 
+abbrev pub fits_at : Ring → List ℕ → Pool → ℕ → Bool
+fits_at g ids p q = message_fits g (message_at p q) && hops_fit g ids (message_at p q)
+
 abbrev pub invariant-tests : goal.invariant-tests
 invariant-tests l = (l.k ≤ l.n) × (all_to l.k (fits_at l.g l.ids l.p) ≡ true)
 

@@ -10,33 +10,33 @@ use Rattle.table_type.proofs.Starts.{StartFits, start_fits_lem, list-fits, start
 use Rattle.table_type.proofs.Table.start.Goals as goal
 
 pub returns-then-not-start_fits : goal.returns-then-not-start_fits
-returns-then-not-start_fits c = let e = sym c.start_fits.ensures ∙ not-true _ c.if-not-start_fits.true-raw in
+returns-then-not-start_fits c = let e = sym c.start_fits.ensures ∙ c.if-not-start_fits.true in
     c.not_started.ensures ∙ sym (start-header _ _ _ _ e)
 
 pub slot_ids-all-requires : goal.slot_ids-all-requires
-slot_ids-all-requires c = let numbers : let a = c.args in start_fits a.m a.l (length a.ids.now) ≡ true = sym c.start_fits.ensures ∙ not-false _ c.if-not-start_fits.false-raw in
-    let numbers_fit_lem : let a = c.args in StartFits a.m a.l (length a.ids.now) = start_fits_lem _ _ _ (numbers  in
-    (numbers_fit_lem .n-high
+slot_ids-all-requires c = let numbers : let a = c.args in start_fits a.m a.l (length a.ids.now) ≡ true = sym c.start_fits.ensures ∙ c.if-not-start_fits.false in
+    let numbers_fit_lem : let a = c.args in StartFits a.m a.l (length a.ids.now) = start_fits_lem _ _ _ (numbers) in
+    (numbers_fit_lem).n-high
 
 pub list_fits-requires : goal.list_fits-requires
-list_fits-requires c = let numbers : let a = c.args in start_fits a.m a.l (length a.ids.now) ≡ true = sym c.start_fits.ensures ∙ not-false _ c.if-not-start_fits.false-raw in
-    let numbers_fit_lem : let a = c.args in StartFits a.m a.l (length a.ids.now) = start_fits_lem _ _ _ (numbers  in
-    let f = numbers_fit_lem  in (f.m-high, f.n-high)
+list_fits-requires c = let numbers : let a = c.args in start_fits a.m a.l (length a.ids.now) ≡ true = sym c.start_fits.ensures ∙ c.if-not-start_fits.false in
+    let numbers_fit_lem : let a = c.args in StartFits a.m a.l (length a.ids.now) = start_fits_lem _ _ _ (numbers) in
+    let f = numbers_fit_lem in (f.m-high, f.n-high)
 
 pub returns-then-not-list_fits : goal.returns-then-not-list_fits
-returns-then-not-list_fits c = let numbers : let a = c.args in start_fits a.m a.l (length a.ids.now) ≡ true = sym c.start_fits.ensures ∙ not-false _ c.if-not-start_fits.false-raw in
-    c.not_started-then-not-list_fits.ensures ∙ sym (start-invalid _ _ _ _ (numbers 
-    (rw (← c.slot_ids-all.ensures) (sym c.list_fits.ensures ∙ not-true _ c.if-not-list_fits.true-raw)))
+returns-then-not-list_fits c = let numbers : let a = c.args in start_fits a.m a.l (length a.ids.now) ≡ true = sym c.start_fits.ensures ∙ c.if-not-start_fits.false in
+    c.not_started-then-not-list_fits.ensures ∙ sym (start-invalid _ _ _ _ (numbers)
+    (rw (← c.slot_ids-all.ensures) (sym c.list_fits.ensures ∙ c.if-not-list_fits.true)))
 
 pub start_nodes-nodes-requires : goal.start_nodes-nodes-requires
-start_nodes-nodes-requires c = let numbers : let a = c.args in start_fits a.m a.l (length a.ids.now) ≡ true = sym c.start_fits.ensures ∙ not-false _ c.if-not-start_fits.false-raw in
-    let numbers_fit_lem : let a = c.args in StartFits a.m a.l (length a.ids.now) = start_fits_lem _ _ _ (numbers  in
+start_nodes-nodes-requires c = let numbers : let a = c.args in start_fits a.m a.l (length a.ids.now) ≡ true = sym c.start_fits.ensures ∙ c.if-not-start_fits.false in
+    let numbers_fit_lem : let a = c.args in StartFits a.m a.l (length a.ids.now) = start_fits_lem _ _ _ (numbers) in
     let list : let a = c.args in 
-    list_fits a.m (length a.ids.now) (slot_ids a.ids.now) a.a ≡ true = rw (← c.slot_ids-all.ensures) (sym c.list_fits.ensures ∙ not-false _ c.if-not-list_fits.false-raw) in
-    rw c.slot_ids-all.ensures (start-listed _ _ _ (numbers_fit_lem  (list-fits _ _ _ _ list.rise)
+    list_fits a.m (length a.ids.now) (slot_ids a.ids.now) a.a ≡ true = rw (← c.slot_ids-all.ensures) (sym c.list_fits.ensures ∙ c.if-not-list_fits.false) in
+    rw c.slot_ids-all.ensures (start-listed _ _ _ (numbers_fit_lem) (list-fits _ _ _ _ (list)).rise)
 
 pub returns : goal.returns
-returns c = let numbers : let a = c.args in start_fits a.m a.l (length a.ids.now) ≡ true = sym c.start_fits.ensures ∙ not-false _ c.if-not-start_fits.false-raw in
+returns c = let numbers : let a = c.args in start_fits a.m a.l (length a.ids.now) ≡ true = sym c.start_fits.ensures ∙ c.if-not-start_fits.false in
     let list : let a = c.args in 
-    list_fits a.m (length a.ids.now) (slot_ids a.ids.now) a.a ≡ true = rw (← c.slot_ids-all.ensures) (sym c.list_fits.ensures ∙ not-false _ c.if-not-list_fits.false-raw) in
-    rw (c.start_nodes-nodes.ensures, c.slot_ids-all.ensures) (sym (start-done _ _ _ _ (numbers  list)
+    list_fits a.m (length a.ids.now) (slot_ids a.ids.now) a.a ≡ true = rw (← c.slot_ids-all.ensures) (sym c.list_fits.ensures ∙ c.if-not-list_fits.false) in
+    rw (c.start_nodes-nodes.ensures, c.slot_ids-all.ensures) (sym (start-done _ _ _ _ (numbers) (list)))

@@ -10,8 +10,7 @@ use Rattle.face_c.specs.declared.Asked.{Asked}
 use Rattle.face_c.specs.declared.Asked.TheVariants.{Is, None}
 use Rattle.face_c.specs.Words.{pack_of, unknown, step_word, step_left}
 use Rattle.face_c.proofs.Counts.{moved-is, moved-small}
-use Rattle.face_c.proofs.tarpudhriv_step.Statement.{statement}
-use Rattle.face_c.proofs.tarpudhriv_step.Tie as tie
+use Rattle.face_c.proofs.tarpudhriv_step.Goals as goal
 
 module _ (q : Asked) (file out : List ℕ) where
   step-known : (a : Action) → q ≡ Is a → (m : Moved) (new : List ℕ) (r : ℕ) → r ≡ pack_of m.wrote
@@ -25,45 +24,11 @@ module _ (q : Asked) (file out : List ℕ) where
   unfolding step_word step_left
   step-unknown e = (rw e, rw e)
 
-action-of-requires : tie.Need-action-of-requires
-action-of-requires c κs = search rules
+pub packed-requires : goal.packed-requires
+packed-requires c = rw c.step_file.ensures.0 (moved-small _ _)
 
-enum-known-a : tie.Need-enum-known-a
-enum-known-a c = search rules
+pub returns-in-Is : goal.returns-in-Is
+returns-in-Is c = step-known _ _ _ _ (sym c.action_of.ensures ∙ c.in-Is.is) _ _ _ c.packed.ensures c.step_file.ensures
 
-step-file-requires : tie.Need-step-file-requires
-step-file-requires c κs = search rules
-
-packed-requires : tie.Need-packed-requires
-packed-requires c κs = rw c.before.before.step-file.ensures.0 (moved-small _ _)
-
-enum_told : tie.Need-enum-told
-enum_told c = search rules
-
-same_length : tie.Need-same-length
-same_length c = search rules
-
-returns : tie.Need-returns
-returns c =
-    let done = c.before.before.before in
-    let known = done.before.before.before in
-    let asked = known.before.before in
-    step-known _ _ _ _ (sym asked.action-of.ensures ∙ known.a.given.1) _ _ _ c.packed.ensures done.step-file.ensures
-
-returns-2 : tie.Need-returns-2
-returns-2 c =
-    let asked = c.before.before in
-    step-unknown _ _ _ (sym asked.action-of.ensures ∙ c.enum_told.given.1)
-
-pub tarpudhriv-step-spec : {M : Type 1} → statement M
-tarpudhriv-step-spec =
-    tie.close
-    (tie.spec
-    action-of-requires
-    enum-known-a
-    step-file-requires
-    packed-requires
-    enum_told
-    same_length
-    returns
-    returns-2)
+pub returns-in-None : goal.returns-in-None
+returns-in-None c = step-unknown _ _ _ (sym c.action_of.ensures ∙ c.in-None.is)

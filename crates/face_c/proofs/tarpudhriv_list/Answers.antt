@@ -1,0 +1,13 @@
+-- `face_c::tarpudhriv_list` meets its contract: it is the listing, packed. Assumes nothing.
+use borrow.Author.Rules.{rules}
+use mathlib.Core.Path.{◌≡◌, ap, ◌∙◌}
+use Rattle.face_c.specs.Words.{pack_of}
+use Rattle.face_c.proofs.Counts.{list-small}
+use Rattle.face_c.proofs.tarpudhriv_list.Goals as goal
+
+pub packed-requires : goal.packed-requires
+packed-requires c = rw c.list.ensures.0 (list-small _ _)
+
+pub returns : goal.returns
+returns c = let done = c.list.ensures in 
+    (c.packed.ensures ∙ ap pack_of done.0, done.1)

@@ -1,0 +1,13 @@
+-- `face_c::tarpudhriv_load` meets its contract: it is the file written back, packed. Assumes nothing.
+use borrow.Author.Rules.{rules}
+use mathlib.Core.Path.{◌≡◌, ap, ◌∙◌}
+use Rattle.face_c.specs.Words.{pack_of}
+use Rattle.face_c.proofs.Counts.{wrote-by-small}
+use Rattle.face_c.proofs.tarpudhriv_load.Goals as goal
+
+pub packed-requires : goal.packed-requires
+packed-requires c = rw c.reload.ensures.0 (wrote-by-small _ _)
+
+pub returns : goal.returns
+returns c = let done = c.reload.ensures in 
+    (c.packed.ensures ∙ ap pack_of done.0, done.1)

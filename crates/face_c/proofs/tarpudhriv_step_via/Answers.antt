@@ -1,0 +1,33 @@
+-- `face_c::tarpudhriv_step_via` meets its contract: the number that was asked decides the definition's case. Assumes nothing.
+use borrow.Author.Rules.{rules}
+use mathlib.Core.Path.{◌≡◌, refl, sym, ap, ◌∙◌}
+use mathlib.Core.List.{List}
+use Prim.Native.Nat.{ℕ}
+use Rattle.rules.specs.declared.Action.{Action}
+use Rattle.face.specs.Calls.{loaded_of, next_of, left_by, moved_by}
+use Rattle.face.specs.declared.Moved.{Moved}
+use Rattle.face_c.specs.declared.Asked.{Asked}
+use Rattle.face_c.specs.declared.Asked.TheVariants.{Is, None}
+use Rattle.face_c.specs.Words.{letter_of, unknown, via_word, step_left}
+use Rattle.face_c.proofs.Counts.{moved-small}
+use Rattle.face_c.proofs.tarpudhriv_step_via.Goals as goal
+
+module _ (q : Asked) (file out : List ℕ) where
+  step-known : (a : Action) → q ≡ Is a → (m : Moved) (new : List ℕ) (r : ℕ) → r ≡ letter_of m
+      → (m ≡ moved_by (next_of (loaded_of file) a) out) × (new ≡ left_by (next_of (loaded_of file) a) out)
+      → (r ≡ via_word q file out) × (new ≡ step_left q file out)
+  unfolding via_word step_left
+  step-known a e m new r p k = (rw e (p ∙ ap letter_of k.0), rw e k.1)
+
+  step-unknown : q ≡ None → (unknown ≡ via_word q file out) × (out ≡ step_left q file out)
+  unfolding via_word step_left
+  step-unknown e = (rw e, rw e)
+
+pub lettered-requires : goal.lettered-requires
+lettered-requires c = rw c.step_file.ensures.0 (moved-small _ _)
+
+pub returns-in-Is : goal.returns-in-Is
+returns-in-Is c = step-known _ _ _ _ (sym c.action_of.ensures ∙ c.in-Is.is) _ _ _ c.lettered.ensures c.step_file.ensures
+
+pub returns-in-None : goal.returns-in-None
+returns-in-None c = step-unknown _ _ _ (sym c.action_of.ensures ∙ c.in-None.is)
