@@ -1,6 +1,5 @@
 -- `run_service::expired` is safe and ends: seven slots. Assumes nothing.
-use borrow.Author.Rules.{rules}
-use Prim.Native.Nat.{◌-◌, ◌≤◌}
+use Rattle.std.proofs.Common.{◌-◌, ◌≤◌}
 use Rattle.run_service.proofs.expired.Given as goal
 
 abbrev pub invariant-loop-j : goal.invariant-loop-j
