@@ -32,6 +32,11 @@ pub within : (n k i : ℕ) → Either n k → i < k → (i < n) × (i < 256)
 within n k i (inl h) l = (omega (arith, h.0, h.1), omega (arith, h.0))
 within n k i (inr h) l = absurd (omega (arith, h.0))
 
+-- where no place is copied the list has not 256
+pub none-copied : {A : Type 0} (n k : ℕ) (src rest : List A) → Either n k → k ≡ 0 → rest ≡ cond (eqb n 256) src rest
+none-copied n k src rest (inl h) z = absurd (omega (arith, h.0))
+none-copied n k src rest (inr h) z = sym (ap (λ (b : Bool). cond b src rest) h.1)
+
 -- the first i of dst are those of src
 pub record Copied {A : Type 0} (d : A) (src dst : List A) (i : ℕ) : Type 0 where
   pub same : (k : ℕ) → k < i → get_or dst k d ≡ get_or src k d

@@ -2,11 +2,4 @@ pub mod Unique
 pub mod Kept
 pub mod Past
 pub mod Laws
-pub mod Loans
-pub mod Walk
-pub mod Cells
-pub mod Shape
-pub mod Calls
-pub mod Counts
-pub mod Faces
 pub mod Cases

@@ -21,7 +21,7 @@ use Rattle.rules.specs.contracts.Pool as pool
 use Rattle.table_type.specs.contracts.Table as table
 
 each-node : (xs : List Node) (us : List Val)
-    → shadow (each (node.the_field).row.Denot (node.the_field).row.own_val (map (node.the_field).into xs) us) → (i : ℕ)
+    → shadow (each (node.the_row).Denot (node.the_row).own_val xs us) → (i : ℕ)
     → HeldNode (get_or xs i no_node)
 each-node [] us s i = omega arith
 each-node (x ∷ xs) [] s i = absurd s
@@ -29,7 +29,7 @@ each-node (x ∷ xs) (u ∷ us) s zero = omega (arith, s.0)
 each-node (x ∷ xs) (u ∷ us) s (suc i) = each-node xs us s.1 i
 
 each-message : (xs : List Message) (us : List Val)
-    → shadow (each (message.the_field).row.Denot (message.the_field).row.own_val (map (message.the_field).into xs) us) → (i : ℕ)
+    → shadow (each (message.the_row).Denot (message.the_row).own_val xs us) → (i : ℕ)
     → HeldMessage (get_or xs i blank)
 each-message [] us s i = omega arith
 each-message (x ∷ xs) [] s i = absurd s
@@ -41,8 +41,8 @@ held_of t p vs ws h k =
     let ns = h.1.1.1.1.1.0.1 in
     let ms = k.1.1.1.0.1 in
     record {
-      slots = sym (length-map t.nodes _) ∙ ns.0.1;
-      places = sym (length-map p.places _) ∙ ms.0.1;
+      slots = ns.0.1;
+      places = ms.0.1;
       nodes = each-node t.nodes _ ns.1;
       messages = each-message p.places _ ms.1;
     }

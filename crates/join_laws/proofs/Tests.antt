@@ -95,6 +95,19 @@ none_of t none = all_of t.n (λ s. not (is_wait (node_at t s).status)) (λ s h. 
 barred-told : (a : Action) → Barred a → keeps_turns a ≡ false
 barred-told (NodeLeft i) leaves = refl
 barred-told (ProbeTimeOut i j) times-out = refl
+barred-told (Lookup _ _) never = elim never [ ]
+barred-told (Join _ _) never = elim never [ ]
+barred-told (RequestLease _) never = elim never [ ]
+barred-told (LeaseExpired _ _) never = elim never [ ]
+barred-told (GrantExpired _ _) never = elim never [ ]
+barred-told (Take _) never = elim never [ ]
+barred-told (Deliver _) never = elim never [ ]
+barred-told (Forward _) never = elim never [ ]
+barred-told (SuspectFaulty _ _) never = elim never [ ]
+barred-told (DeclareDead _ _) never = elim never [ ]
+barred-told (LSRepair _) never = elim never [ ]
+barred-told (ResignNode _ _) never = elim never [ ]
+barred-told (Recover _) never = elim never [ ]
 
 turns-kept : (a : Action) → (Barred a → ⊥) → keeps_turns a ≡ true
 turns-kept (Lookup i k) e = refl

@@ -227,12 +227,12 @@ going (met h q) = false
 going delivered = false
 going unroutable = false
 
-stuck : {k : ℕ} {t u : Table} {p r : Pool} {q m e : ℕ} → ending (fate_of t p q (Deliver q)) ≡ false → going (fate_of t p q (Forward q)) ≡ false
+stuck : {k : ℕ} {t : Table} {p : Pool} {q m e : ℕ} {u : Table} {r : Pool} → ending (fate_of t p q (Deliver q)) ≡ false → going (fate_of t p q (Forward q)) ≡ false
     → Delivers k t p q m e u r → ⊥
 stuck f g (here l a e) = opposed (ap ending e) f
 stuck f g (on l a e rest) = opposed (ap going e) g
 
-stuck-next : {k : ℕ} {t u : Table} {p r : Pool} {q m e : ℕ} (h i : ℕ) → ending (fate_of t p q (Deliver q)) ≡ false
+stuck-next : {k : ℕ} {t : Table} {p : Pool} {q m e : ℕ} {u : Table} {r : Pool} (h i : ℕ) → ending (fate_of t p q (Deliver q)) ≡ false
     → fate_of t p q (Forward q) ≡ routed h i
     → ending (fate_of (stepped t p (Forward q)).table (stepped t p (Forward q)).pool i (Deliver i)) ≡ false
     → going (fate_of (stepped t p (Forward q)).table (stepped t p (Forward q)).pool i (Forward i)) ≡ false → Delivers k t p q m e u r → ⊥

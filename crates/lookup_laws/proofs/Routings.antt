@@ -52,6 +52,9 @@ goes-nearer t p q k d a h e l = go (fate_of t p q a) (tracked t p q k d a e l)
     go : (f : Fate) → Tracked t p q k d a f → RoutesTo f h → (h < t.n) × Nearer t k h d
     go (routed i r) w waits_there = hop-nearer v k d i (dest-in t p q k d v l) w.hop
     go (met i r) w ends_there = hop-nearer v k d i (dest-in t p q k d v l) w.hop
+    go (stays _) w routes = elim routes [ ]
+    go delivered w routes = elim routes [ ]
+    go unroutable w routes = elim routes [ ]
 
 -- ---- the measure
 

@@ -100,6 +100,18 @@ names-named : (a : Action) → NamesPlace a → named a ≡ true
 names-named (Take place) take-names = refl
 names-named (Deliver place) deliver-names = refl
 names-named (Forward place) forward-names = refl
+names-named (Lookup _ _) named-place = elim named-place [ ]
+names-named (Join _ _) named-place = elim named-place [ ]
+names-named (RequestLease _) named-place = elim named-place [ ]
+names-named (LeaseExpired _ _) named-place = elim named-place [ ]
+names-named (GrantExpired _ _) named-place = elim named-place [ ]
+names-named (NodeLeft _) named-place = elim named-place [ ]
+names-named (SuspectFaulty _ _) named-place = elim named-place [ ]
+names-named (ProbeTimeOut _ _) named-place = elim named-place [ ]
+names-named (DeclareDead _ _) named-place = elim named-place [ ]
+names-named (LSRepair _) named-place = elim named-place [ ]
+names-named (ResignNode _ _) named-place = elim named-place [ ]
+names-named (Recover _) named-place = elim named-place [ ]
 
 placeless : (a : Action) → named a ≡ false → NamesPlace a → ⊥
 placeless a e n = opposed (names-named a n) e

@@ -28,7 +28,7 @@ pub record Full (s : Store) : Type 0 where
   pub places : length s.places ≡ 512
 
 pub full : (s : Store) (vs : List Val) → Is store.the_row s vs → Full s
-full s vs is = record { places = sym (length-map s.places _) ∙ is.1.1.1.0.1.0.1 }
+full s vs is = record { places = is.1.1.1.0.1.0.1 }
 
 module _ (s : Store) (f : Full s) where
   pub held-length : length (held_of s) ≡ count_of s.count

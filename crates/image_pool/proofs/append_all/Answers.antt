@@ -40,7 +40,7 @@ pub slots-preserved : goal.slots-preserved
 slots-preserved c = let lowest : lowest_of c.slots.rest ≡ At c.in-At.s = sym c.lowest-next.ensures ∙ c.in-At.is in
     let l = c.slots in 
     rw c.removed-rest.ensures
-    (sending-more _ (lowest) l.invariant _ c.append.auto.0
+    (sending-more _ (lowest) l.invariant _ c.append.auto.part
     (c.append.ensures ∙ ap (λ (z : Message). messages_in l.end l.part ++ (z ∷ [])) c.to_slot.ensures))
 
 pub returns : goal.returns

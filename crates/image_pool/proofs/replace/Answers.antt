@@ -19,7 +19,7 @@ pub returns-in-Nothing : goal.returns-in-Nothing
 returns-in-Nothing c = let a = c.args in 
     let e = sym c.first_equal-at.ensures ∙ c.in-Nothing.is in
     let q : a.count ≡ a.count - 1 + 1 = omega arith in
-    ap (λ (k : ℕ). messages_in k c.append.new.0) q
+    ap (λ (k : ℕ). messages_in k c.append.new.part) q
     ∙ c.append.ensures
     ∙ ap (λ (ys : List Message). ys ++ (a.m ∷ [])) (removed _ _ _ _ _ c.take_out.ensures)
     ∙ sym (added-nothing _ a.m e)

@@ -13,7 +13,7 @@ use Rattle.over_water.proofs.Signed.{stored}
 use Rattle.over_water.proofs.sum.Given as goal
 
 abbrev pub invariant-loop-i : goal.invariant-loop-i
-invariant-loop-i l = (l.i ≤ l.n) × Summed (held_of l.s) l.i (to_z w64 l.out)
+invariant-loop-i l = (l.i ≤ l.n) × Summed (held_of l.s) l.i l.out
 
 abbrev pub decreases-loop-i : goal.decreases-loop-i
 decreases-loop-i l = l.n - l.i

@@ -13,7 +13,7 @@ unfolding plan_deliver
 returns-then-not-is_ready c = rw (c.if-not-kind.false-raw, ← c.is_ready.ensures, c.if-not-is_ready.true-raw)
 
 pub covers-requires : goal.covers-requires
-covers-requires c = (c.requires.0, c.requires.1, c.requires.2 (eqb-true _ 1 (c.if-not-kind.false)))
+covers-requires c = (c.requires.0, c.requires.1, c.requires.2 (c.if-not-kind.false))
 
 pub returns-then-not-covers : goal.returns-then-not-covers
 unfolding plan_deliver

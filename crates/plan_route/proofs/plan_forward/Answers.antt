@@ -14,14 +14,14 @@ unfolding plan_forward
 returns-then-not-is_ready c = rw (c.if-not-kind.false-raw, ← c.is_ready.ensures, c.if-not-is_ready.true-raw)
 
 pub covers-requires : goal.covers-requires
-covers-requires c = (c.requires.0, c.requires.1, c.requires.2 (eqb-true _ 1 (c.if-not-kind.false)))
+covers-requires c = (c.requires.0, c.requires.1, c.requires.2 (c.if-not-kind.false))
 
 pub returns-then-covers : goal.returns-then-covers
 unfolding plan_forward
 returns-then-covers c = rw (c.if-not-kind.false-raw, ← c.is_ready.ensures, c.if-not-is_ready.false-raw, ← c.sides_of.ensures, ← c.covers.ensures, c.if-covers.true)
 
 pub next_hop-next-requires : goal.next_hop-next-requires
-next_hop-next-requires c = (c.requires.0, c.requires.1, c.requires.2 (eqb-true _ 1 (c.if-not-kind.false)))
+next_hop-next-requires c = (c.requires.0, c.requires.1, c.requires.2 (c.if-not-kind.false))
 
 pub overflow_add-hops : goal.overflow_add-hops
 overflow_add-hops c = omega (arith, c.requires.3)

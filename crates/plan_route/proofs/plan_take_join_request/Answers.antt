@@ -22,7 +22,7 @@ returns-then-covers c = rw (← c.is_ready.ensures, c.if-not-is_ready.false-raw,
     (rw (c.send_plan.ensures, c.join_reply.ensures, c.sides_of-own.ensures)))
 
 pub next_hop-next-requires : goal.next_hop-next-requires
-next_hop-next-requires c = covers-requires ⟦After-k⟧ κs
+next_hop-next-requires c = let h = c.requires in (h.0, h.1, h.0.ids-in _ h.2)
 
 pub returns : goal.returns
 unfolding plan_take_join_request

@@ -11,6 +11,7 @@ use native.Mathlib.Omega.{arith}
 use lib.Dec.{eqb, leb}
 use borrow.Author.Tests.{leb-true, eqb-false, not-true}
 use types.Run.{OneOf}
+use borrow.Enum.Refused.{opened}
 use Rattle.marks.proofs.Bools.{and_left, and_right}
 use Rattle.rules.specs.contracts.Action as Act
 use Rattle.rules.specs.declared.Action.{Action}
@@ -110,4 +111,4 @@ pub returns-in_default : goal.returns-in_default
 returns-in_default c = λ t.
     let s = c.args in 
     let ks : List ℕ = 3 ∷ 4 ∷ 5 ∷ 6 ∷ 7 ∷ 8 ∷ 9 ∷ 10 ∷ 11 ∷ 12 ∷ 14 ∷ [] in
-    unasked t s.p s.a (high 2 2 ks _ refl c.in_default.in_default-own.keys4) (other 13 2 ks _ refl c.in_default.in_default-own.keys4)
+    unasked t s.p s.a (high 2 2 ks _ refl (opened c.in_default.in_default-own.keys4)) (other 13 2 ks _ refl (opened c.in_default.in_default-own.keys4))

@@ -17,7 +17,7 @@ use Rattle.table_type.specs.Table.{node_at, ids_of, ring_of}
 use Rattle.table.specs.Settled.{ready_set, settled_at}
 use Rattle.table_settled.proofs.Laws.{calm_in, calm-ready, calm-other, settled-none, settled-not, settled-all}
 use Rattle.table_settled.proofs.is_settled_table.Goals as goal
-use Rattle.table_settled.proofs.is_settled_table.Goals.{then-is_ready, else-is_ready}
+use Rattle.table_settled.proofs.is_settled_table.Goals.{then-is_ready+else-not-settled_at, else-is_ready+else-not-is_dead}
 
 -- what was asked once, before the loop, is of the table
 asked : (g : Ring) (ids : List ℕ) (ready i : ℕ) (v : Node) (t : Table) → g ≡ ring_of t → ids ≡ ids_of t → ready ≡ ready_set t
@@ -82,8 +82,8 @@ loop-i-preserved c = let table_at : Table = c.args.t in
     (
       omega arith,
       more c.loop-i.i (calm_in (table_at)) c.loop-i.invariant.1 (elim c.if-is_ready.branch [
-        then-is_ready w ↦ turn-ready w.settled_at.result (sym c.is_ready.ensures ∙ w.if-is_ready.true) w.settled_at.ensures ∙ w.if-not-settled_at.false
-      | else-is_ready w ↦ turn-other w.is_dead.result (sym c.is_ready.ensures ∙ w.if-is_ready.false) w.is_dead.ensures ∙ w.if-not-is_dead.false
+        then-is_ready+else-not-settled_at w ↦ turn-ready w.settled_at.result (sym c.is_ready.ensures ∙ w.if-is_ready.true) w.settled_at.ensures ∙ w.if-not-settled_at.false
+      | else-is_ready+else-not-is_dead w ↦ turn-other w.is_dead.result (sym c.is_ready.ensures ∙ w.if-is_ready.false) w.is_dead.ensures ∙ w.if-not-is_dead.false
       ]),
     )
 

@@ -1,0 +1,34 @@
+-- `face_lent::take_in` meets its contract: a list of 256 places is copied in, one place a turn; for any other there are blank ones. Assumes nothing.
+use Rattle.std.proofs.Common.{◌≡◌, sym, ap, ◌∙◌, length, arith}
+use Rattle.rules.specs.Pool.{blank}
+use Rattle.face_lent.specs.Lent.{pool_of, blanks, taken_of}
+use Rattle.face_lent.proofs.Laws.{either, within, copied_none, copied_more, copied-done, none-copied}
+use Rattle.face_lent.proofs.take_in.Goals as goal
+
+pub returns-then-n-eq0 : goal.returns-then-n-eq0
+unfolding taken_of
+returns-then-n-eq0 c =
+    c.blank_pool.ensures
+    ∙ ap (pool_of c.args.count) (none-copied (length c.args.pool.now) _ c.args.pool.now blanks (either _ _ c.places-n.ensures) c.if-n-eq0.true)
+
+pub loop-i-init : goal.loop-i-init
+loop-i-init c = ?
+
+pub offset_bounds-pool-i : goal.offset_bounds-pool-i
+offset_bounds-pool-i c = ?
+
+pub bounds-pool-i : goal.bounds-pool-i
+bounds-pool-i c = (within _ _ _ (either _ _ c.places-n.ensures) c.loop-i-test.true).0
+
+pub offset_bounds-x-i : goal.offset_bounds-x-i
+offset_bounds-x-i c = ?
+
+pub bounds-x-i : goal.bounds-x-i
+bounds-x-i c = (within _ _ _ (either _ _ c.places-n.ensures) c.loop-i-test.true).1
+
+pub loop-i-preserved : goal.loop-i-preserved
+loop-i-preserved c = ?
+
+pub returns : goal.returns
+unfolding taken_of
+returns c = ?
