@@ -37,7 +37,8 @@ first_said_lem out e s = rw e s
 pub verdict-said : (out : List ℕ) {x y : Verdict} {new : List ℕ} {r : Reply} → y ≡ x → Says (verdict_said x out) r new → Says (verdict_said y out) r new
 verdict-said out e s = rw e s
 
-pub word-said : (f : ℕ) (out : List ℕ) {x y : ℕ} {new : List ℕ} {r : Reply} → x ≡ y → Says (result_of (f ∷ bytes_of 4 x) out) r new → Says (result_of (f ∷ bytes_of 4 y) out) r new
+pub word-said : (f : ℕ) (out : List ℕ) {x y : ℕ} {new : List ℕ} {r : Reply} → x ≡ y → Says (result_of (f ∷ bytes_of 4 x) out) r new
+    → Says (result_of (f ∷ bytes_of 4 y) out) r new
 word-said f out e s = rw e at s
 
 -- from a place to the end is all that is left behind it
