@@ -281,8 +281,8 @@ travels-trip w zero letters h = absurd (omega arith)
 travels-trip (stopped e) (suc n) letters h = rw (e.kept, e.stuck, append-nil letters)
 travels-trip (arrived e) (suc n) letters h = rw (e, append-nil letters)
 travels-trip (stranded e) (suc n) letters h = rw (e.kept, e.goes, append-nil letters)
-travels-trip (routed {via = via} {letters = more} e w) (suc n) letters h =
-    rw (e.kept, e.goes) (travels-trip w n (letters ++ (via_number via ∷ [])) (omega arith) ∙ rw append_assoc)
+travels-trip {m = m} (routed {h = slot} {via = via} {letters = more} e w) (suc n) letters h =
+    rw (e.kept, e.goes) (travels-trip {m = farther m slot} w n (letters ++ (via_number via ∷ [])) (omega arith) ∙ rw append_assoc)
 
 -- a journey, routed at most as often as listed nodes are nearer to the key
 record Journey (t : Table) (m : Message) : Type 0 where

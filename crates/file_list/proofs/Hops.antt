@@ -1,7 +1,7 @@
 -- A lookup on its way, by the rules alone: where it is and how often it was routed, with what is left of its trip (Underway). One hop keeps
 -- that, and when the way ends the trip is that of the steps. Assumes nothing.
 use mathlib.Core.Path.{◌≡◌, refl, sym, ◌∙◌, ap}
-use mathlib.Core.List.{List, [], ◌++◌, ◌∷◌}
+use mathlib.Core.List.{List}
 use Prim.Native.Nat.{ℕ, ◌+◌, ◌-◌, ◌^◌, ◌<◌, ◌≤◌}
 use native.Mathlib.Omega.{arith}
 use native.Mathlib.Numerals.{add-one}

@@ -1,5 +1,4 @@
 -- `file_list::print` meets its contract: the header line, then the lines of the lookups. Assumes nothing.
-use borrow.Author.Rules.{rules}
 use Rattle.text.proofs.Runs.{then}
 use Rattle.file_list.proofs.print.Goals as goal
 

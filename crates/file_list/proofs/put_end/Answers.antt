@@ -1,5 +1,4 @@
 -- `file_list::put_end` meets its contract: the id of the slot, or `-`. Assumes nothing.
-use borrow.Author.Rules.{rules}
 use Prim.Native.Nat.{◌<◌}
 use native.Mathlib.Omega.{arith}
 use Rattle.file_list.proofs.Runs.{end-slot, end-id, end_none}

@@ -1,5 +1,4 @@
 -- `file_list::put_loaded` meets its contract, by the answer of the load. Assumes nothing.
-use borrow.Author.Rules.{rules}
 use Rattle.file_list.proofs.Ends.{loaded-done, loaded-refused}
 use Rattle.file_list.proofs.put_loaded.Goals as goal
 

@@ -1,5 +1,4 @@
 -- `file_list::put_refused` meets its contract: the word, then the number. Assumes nothing.
-use borrow.Author.Rules.{rules}
 use native.Mathlib.Omega.{arith}
 use Rattle.text.proofs.Digits.{decimal-word}
 use Rattle.text.proofs.Runs.{text-end}

@@ -1,5 +1,4 @@
 -- `file_list::put_via` meets its contract: the letters, or `-` where there are none. Assumes nothing.
-use borrow.Author.Rules.{rules}
 use Rattle.file_list.proofs.Runs.{via-none, via-some, dash-fits, text-fits}
 use Rattle.file_list.proofs.put_via.Goals as goal
 
