@@ -15,7 +15,7 @@ use Rattle.rules.specs.declared.Message.{Message}
 use Rattle.rules.specs.declared.Pool.{Pool}
 use Rattle.table_type.specs.declared.Stepped.{Stepped}
 use Rattle.face_lent.specs.declared.Reply.{Reply}
-use Rattle.face_lent.specs.Lent.{lent, places_of, given_of, reply_of, Handed}
+use Rattle.face_lent.specs.Lent.{pool_of, lent, places_of, given_of, reply_of, Handed}
 
 -- how many places are copied, of a list of n
 abbrev pub Either : ℕ → ℕ → Type 0
@@ -60,6 +60,10 @@ module _ {A : Type 0} (d : A) where
         ext_get_or d dst src (t h.1 ∙ sym (s h.1)) (λ j w. c.same j (omega (arith, h.0, t h.1)))
         ∙ sym (ap (λ (b : Bool). cond b src rest) (eq-eqb n 256 h.1))
     copied-done (inr h) l m s t c z = z (omega (arith, h.0)) ∙ sym (ap (λ (b : Bool). cond b src rest) h.1)
+
+-- a pool with this count and these places
+pub same_pool : (x : Pool) {n : ℕ} {zs : List Message} → x.count ≡ n → x.places ≡ zs → x ≡ pool_of n zs
+same_pool x e f = rw (e, f)
 
 -- what the caller has, where the core f was given the pool that its list holds
 pub handed : (f : Pool → Stepped) (ys zs : List Message) (n : ℕ) (p : Pool) (g : Stepped) (r : Reply)
