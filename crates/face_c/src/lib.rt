@@ -1,5 +1,5 @@
 // The calls for other languages: numbers and bytes alone cross. 01's number stands in the low 32 bits of the result, the count of bytes
-// written to the start of `out` in the high 32 bits; where the number is not 0, `out` is left as it was. include/tarpudhriv.h declares them.
+// written to the start of `out` in the high 32 bits; where the number is not 0, `out` is left as it was. The crate `face_c_c` exports them.
 #![tactic(auto)]
 
 ghost use Rattle.std.specs.Prelude.{◌≡◌, ◌≤◌};
@@ -73,8 +73,7 @@ fn rest_word(said: Rest) -> u64
 }
 
 // Reads a table file and writes it back.
-#[unsafe(no_mangle)]
-pub extern "C" fn tarpudhriv_load(file: &[u8], out: &mut [u8]) -> u64
+pub fn tarpudhriv_load(file: &[u8], out: &mut [u8]) -> u64
     ensures r { result ≡ pack_of (wrote_by (loaded_of file.now) out.old) }
     ensures left { out.new ≡ left_by (loaded_of file.now) out.old }
 {
@@ -82,8 +81,7 @@ pub extern "C" fn tarpudhriv_load(file: &[u8], out: &mut [u8]) -> u64
 }
 
 // Reads a table file, makes a step, and writes the table file after it. 4294967295 for a number that is no action's.
-#[unsafe(no_mangle)]
-pub extern "C" fn tarpudhriv_step(file: &[u8], action: u64, x: u64, y: u64, out: &mut [u8]) -> u64
+pub fn tarpudhriv_step(file: &[u8], action: u64, x: u64, y: u64, out: &mut [u8]) -> u64
     ensures r { result ≡ step_word (asked_of action x y) file.now out.old }
     ensures left { out.new ≡ step_left (asked_of action x y) file.now out.old }
 {
@@ -94,8 +92,7 @@ pub extern "C" fn tarpudhriv_step(file: &[u8], action: u64, x: u64, y: u64, out:
 }
 
 // The same step, and the letter of where the next hop came from in the highest byte of the result: `l`, `r`, or 0 where it routed nothing.
-#[unsafe(no_mangle)]
-pub extern "C" fn tarpudhriv_step_via(
+pub fn tarpudhriv_step_via(
     file: &[u8],
     action: u64,
     x: u64,
@@ -112,8 +109,7 @@ pub extern "C" fn tarpudhriv_step_via(
 }
 
 // Makes a table of M, L, the set A as marks and the ids, and writes its file.
-#[unsafe(no_mangle)]
-pub extern "C" fn tarpudhriv_start(m: u64, l: u64, a: u64, ids: &[u32], out: &mut [u8]) -> u64
+pub fn tarpudhriv_start(m: u64, l: u64, a: u64, ids: &[u32], out: &mut [u8]) -> u64
     ensures r { result ≡ pack_of (wrote_by (begun_of m l a ids.now) out.old) }
     ensures left { out.new ≡ left_by (begun_of m l a ids.now) out.old }
 {
@@ -121,16 +117,14 @@ pub extern "C" fn tarpudhriv_start(m: u64, l: u64, a: u64, ids: &[u32], out: &mu
 }
 
 // Reads a table file, and tells whether its table is settled: 1 or 0 in the high 32 bits, where the number is 0.
-#[unsafe(no_mangle)]
-pub extern "C" fn tarpudhriv_settled(file: &[u8]) -> u64
+pub fn tarpudhriv_settled(file: &[u8]) -> u64
     ensures { result ≡ rest_word (rest_by (loaded_of file.now)) }
 {
     rest_word(face_file::settled_file(file))
 }
 
 // Writes the listing of a file, `refused N` and all. 11 for a buffer of fewer than 65,536 bytes, and no other number.
-#[unsafe(no_mangle)]
-pub extern "C" fn tarpudhriv_list(file: &[u8], out: &mut [u8]) -> u64
+pub fn tarpudhriv_list(file: &[u8], out: &mut [u8]) -> u64
     ensures r { result ≡ pack_of (list_of file.now out.old) }
     ensures left { out.new ≡ listed_of file.now out.old }
 {

@@ -9,5 +9,4 @@ pub packed-requires : goal.packed-requires
 packed-requires c = rw c.list.ensures.0 (list-small _ _)
 
 pub returns : goal.returns
-returns c = let done = c.list.ensures in 
-    (c.packed.ensures ∙ ap pack_of done.0, done.1)
+returns c = record { r = c.packed.ensures ∙ ap pack_of c.list.ensures.0; left = c.list.ensures.1 }

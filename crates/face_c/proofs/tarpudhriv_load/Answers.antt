@@ -6,8 +6,7 @@ use Rattle.face_c.proofs.Counts.{wrote-by-small}
 use Rattle.face_c.proofs.tarpudhriv_load.Goals as goal
 
 pub packed-requires : goal.packed-requires
-packed-requires c = rw c.reload.ensures.0 (wrote-by-small _ _)
+packed-requires c = rw c.reload.ensures.r (wrote-by-small _ _)
 
 pub returns : goal.returns
-returns c = let done = c.reload.ensures in 
-    (c.packed.ensures ∙ ap pack_of done.0, done.1)
+returns c = record { r = c.packed.ensures ∙ ap pack_of c.reload.ensures.r; left = c.reload.ensures.left }

@@ -6,8 +6,7 @@ use Rattle.face_c.proofs.Counts.{wrote-by-small}
 use Rattle.face_c.proofs.tarpudhriv_start.Goals as goal
 
 pub packed-requires : goal.packed-requires
-packed-requires c = rw c.start_file.ensures.0 (wrote-by-small _ _)
+packed-requires c = rw c.start_file.ensures.r (wrote-by-small _ _)
 
 pub returns : goal.returns
-returns c = let done = c.start_file.ensures in 
-    (c.packed.ensures ∙ ap pack_of done.0, done.1)
+returns c = record { r = c.packed.ensures ∙ ap pack_of c.start_file.ensures.r; left = c.start_file.ensures.left }

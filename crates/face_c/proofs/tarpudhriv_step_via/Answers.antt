@@ -24,10 +24,17 @@ module _ (q : Asked) (file out : List ℕ) where
   step-unknown e = (rw e, rw e)
 
 pub lettered-requires : goal.lettered-requires
-lettered-requires c = rw c.step_file.ensures.0 (moved-small _ _)
+lettered-requires c = rw c.step_file.ensures.r (moved-small _ _)
 
 pub returns-in-Is : goal.returns-in-Is
-returns-in-Is c = step-known _ _ _ _ (sym c.action_of.ensures ∙ c.in-Is.is) _ _ _ c.lettered.ensures c.step_file.ensures
+returns-in-Is c =
+    let e = sym c.action_of.ensures ∙ c.in-Is.is in
+    record {
+      r = (step-known _ c.args.file.now c.args.out.now _ e _ _ _ c.lettered.ensures (c.step_file.ensures.r, c.step_file.ensures.left)).0;
+      left = (step-known _ c.args.file.now c.args.out.now _ e _ _ _ c.lettered.ensures (c.step_file.ensures.r, c.step_file.ensures.left)).1;
+    }
 
 pub returns-in-None : goal.returns-in-None
-returns-in-None c = step-unknown _ _ _ (sym c.action_of.ensures ∙ c.in-None.is)
+returns-in-None c =
+    let e = sym c.action_of.ensures ∙ c.in-None.is in
+    record { r = (step-unknown _ _ _ e).0; left = (step-unknown _ _ _ e).1 }

@@ -3,4 +3,8 @@ use borrow.Author.Rules.{rules}
 use Rattle.face_file.proofs.reload.Goals as goal
 
 pub returns : goal.returns
-returns c = rw (← c.loaded.ensures) c.written.ensures
+returns c =
+    record {
+      r = rw (← c.loaded.ensures) c.written.ensures.0;
+      left = rw (← c.loaded.ensures) c.written.ensures.1;
+    }

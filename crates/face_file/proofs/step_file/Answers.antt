@@ -15,4 +15,8 @@ unfolding moved_by
 moved-says s out w new r k e = (rw (e, k.0), k.1)
 
 pub returns : goal.returns
-returns c = rw (← c.loaded.ensures, ← c.next-s.ensures) (moved-says _ _ _ _ _ c.written.ensures c.with_via.ensures)
+returns c =
+    record {
+      r = rw (← c.loaded.ensures, ← c.next-s.ensures) (moved-says _ _ _ _ _ c.written.ensures c.with_via.ensures).0;
+      left = rw (← c.loaded.ensures, ← c.next-s.ensures) (moved-says _ _ _ _ _ c.written.ensures c.with_via.ensures).1;
+    }

@@ -42,5 +42,5 @@ first_said-requires c = let good : is_sound_counted c.args.x c.args.len ≡ true
 
 pub returns : goal.returns
 returns c = let good : is_sound_counted c.args.x c.args.len ≡ true = sym c.is_sound.ensures ∙ c.if-not-is_sound.false in
-    c.first_said_lem.ensures⟪?⟫
+    c.first_said.ensures
     ∙ first-walked _ _ (good) _ (omega arith) c.if-counts-i-eq0.false

@@ -24,8 +24,8 @@ loop-i-preserved c = let f = some_for c.args.counts.now in (
       omega arith,
       gather-next f c.loop-i.i c.loop-i.set c.if-counts-i-gt0.set (omega arith) c.loop-i.invariant.1
           (elim c.if-counts-i-gt0.branch [
-            then-counts-i-gt0 w ↦ inl (lt-ltb 0 _ w.if-counts-i-gt0.true, w.out-is ∙ w.added-out.ensures)
-          | else-counts-i-gt0 w ↦ inr (le-ltb 0 _ w.if-counts-i-gt0.false, w.out-is)
+            then-counts-i-gt0 w ↦ inl (lt-ltb 0 _ w.if-counts-i-gt0.true, w.set-is ∙ w.added-set.ensures)
+          | else-counts-i-gt0 w ↦ inr (le-ltb 0 _ w.if-counts-i-gt0.false, w.set-is)
           ]),
     )
 
