@@ -1,0 +1,4 @@
+pub mod Signed
+pub mod Results
+pub mod Reading
+pub mod Saying

@@ -1,0 +1,7 @@
+-- `run_driver::action_in` meets its contract: three words. Assumes nothing.
+use mathlib.Core.Path.{◌∙◌}
+use Rattle.run_driver.proofs.Saying.{action-is}
+use Rattle.run_driver.proofs.asked.action_in.Goals as goal
+
+pub returns : goal.returns
+returns c = c.action_of.ensures ∙ action-is _ c.read64-action.ensures c.read64-x.ensures c.read64-y.ensures

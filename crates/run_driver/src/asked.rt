@@ -1,0 +1,82 @@
+// Requests: a byte, its kind, then words of 64 bits, its arguments, then what its kind asks for.
+ghost use Rattle.std.specs.Prelude.{◌≡◌, ◌+◌, ◌*◌, ◌≤◌, length, take};
+ghost use Rattle.run_driver.specs.Requests.{kind_of, action_in, field_of, record_in, id_count, ids_in};
+
+use face_c::Asked;
+use water::Record;
+
+fn wide(x: u8) -> u64
+    ensures { result ≡ x }
+{
+    x as u64
+}
+
+// The kind of a request; 255, which is none, where it has no byte.
+pub fn kind_of(request: &[u8]) -> u64
+    ensures { result ≡ kind_of request.now }
+{
+    if request.len() == 0 {
+        return 255;
+    }
+    wide(request[0])
+}
+
+// The action of a request, with its two words.
+pub fn action_in(rest: &[u8]) -> Asked
+    requires { 24 ≤ length rest.now }
+    ensures { result ≡ action_in rest.now }
+{
+    let action = words::read64(rest, 0);
+    let x = words::read64(rest, 8);
+    let y = words::read64(rest, 16);
+    face_c::action_of(action, x, y)
+}
+
+// A word as a field of a record, which has 32 bits. A larger one is out of range, and so is the largest field.
+fn field(x: u64) -> u32
+    ensures { result ≡ field_of x }
+{
+    if x < 4294967296 { x as u32 } else { 4294967295 }
+}
+
+// The record of a request.
+pub fn record_in(rest: &[u8]) -> Record
+    requires { 40 ≤ length rest.now }
+    ensures { result ≡ record_in rest.now }
+{
+    let key = words::read64(rest, 0);
+    let month = field(words::read64(rest, 8));
+    let rain = field(words::read64(rest, 16));
+    let evapotranspiration = field(words::read64(rest, 24));
+    let runoff = field(words::read64(rest, 32));
+    Record {
+        key,
+        month,
+        rain,
+        evapotranspiration,
+        runoff,
+    }
+}
+
+// How many ids of a start are looked at, the first 65: more than 64 are out of range anyhow.
+pub fn id_count(rest: &[u8]) -> usize
+    requires { 24 ≤ length rest.now }
+    ensures { result ≡ id_count rest.now }
+{
+    let n = (rest.len() - 24) / 4;
+    if n < 65 { n } else { 65 }
+}
+
+// The first n ids of a start.
+pub fn ids_in(rest: &[u8], n: usize) -> [u32; 65]
+    requires { (n ≤ 65) × (24 + 4 * n ≤ length rest.now) }
+    ensures { (65 ≡ length result) × (take n result ≡ ids_in n rest.now) }
+{
+    let mut ids = [0u32; 65];
+    let mut i: usize = 0;
+    while i < n {
+        ids[i] = words::read32(rest, 24 + 4 * i);
+        i += 1;
+    }
+    ids
+}

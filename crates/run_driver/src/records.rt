@@ -1,0 +1,71 @@
+// Requests of water records, which are held between them.
+use super::told::Reply;
+use super::{asked, told};
+use rules::Answer;
+use table_type::Stepped;
+use water::{Looked, Placed, Record, Store};
+
+// A reply, and the records after it.
+#[derive(Clone, Copy)]
+pub struct Kept {
+    pub reply: Reply,
+    pub store: Store,
+}
+
+// A reply, and the records as they are then.
+pub fn beside(s: Store, reply: Reply) -> Kept {
+    Kept { reply, store: s }
+}
+
+// What is said of a record that was handed over. One that was accepted is found.
+fn tell_placed(p: Placed, r: Record, out: &mut [u8]) -> Kept {
+    let reply = p.reply;
+    let store = p.store;
+    let number = over_water::number(reply);
+    if number != 0 {
+        return beside(store, told::refused(number));
+    }
+    match over_water::look_up(store, r.key, r.month) {
+        Looked::At(h) => beside(store, told::tell_held(h, out)),
+        Looked::Nothing => beside(store, told::malformed()),
+    }
+}
+
+// Places a record on the table of a file, where it loads.
+fn place_on(s: Store, r: Record, file: Stepped, out: &mut [u8]) -> Kept {
+    let answer = file.answer;
+    let t = file.table;
+    let p = file.pool;
+    match answer {
+        Answer::Done => tell_placed(over_water::place(t, p, 256, s, r), r, out),
+        Answer::Refused(why) => beside(s, told::refused_by(why)),
+    }
+}
+
+// A record, and a table file.
+pub fn place(s: Store, rest: &[u8], out: &mut [u8]) -> Kept {
+    if rest.len() < 40 {
+        return beside(s, told::malformed());
+    }
+    let r = asked::record_in(rest);
+    place_on(s, r, face_file::loaded(&rest[40..]), out)
+}
+
+// The reply to a request of records.
+pub fn keep(s: Store, request: &[u8], out: &mut [u8]) -> Kept {
+    if request.len() == 0 {
+        return beside(s, told::malformed());
+    }
+    let kind = asked::kind_of(request);
+    if kind == 8 {
+        return place(s, &request[1..], out);
+    }
+    if request.len() > 1 {
+        return beside(s, told::malformed());
+    }
+    match kind {
+        7 => beside(over_water::empty(), told::refused(0)),
+        9 => beside(s, told::tell_sum(s, out)),
+        _ => beside(s, told::malformed()),
+    }
+}

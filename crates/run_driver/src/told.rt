@@ -1,0 +1,209 @@
+// Replies: a number, and the bytes of a result at the start of a buffer.
+ghost use Rattle.std.specs.Prelude.{◌≡◌, [], ◌∷◌, ◌++◌, ◌%◌};
+ghost use Rattle.std.specs.Int.{w64};
+ghost use Rattle.std.proofs.Common.{of_z};
+ghost use Rattle.rules.specs.Numbers.{refusal_number};
+ghost use Rattle.words.specs.Bytes.{bytes_of};
+ghost use Rattle.run_driver.specs.Replies.{Says, numbered, no_request, reply_by, reply_in, led_in, result_of};
+ghost use Rattle.run_driver.specs.Replies.{rest_said, first_said, verdict_said};
+
+use counts::First;
+use face::Rest;
+use file::Wrote;
+use rehearsal::Verdict;
+use rules::{Answer, Refusal};
+use water::{Held, Store};
+
+// A number, and how many bytes of the buffer are the result.
+#[derive(Clone, Copy)]
+pub struct Reply {
+    pub number: u32,
+    pub count: usize,
+}
+
+// A reply whose result has the byte `lead` before the bytes of the buffer.
+#[derive(Clone, Copy)]
+pub struct Led {
+    pub reply: Reply,
+    pub lead: u64,
+}
+
+// A number alone.
+pub fn refused(number: u32) -> Reply
+    ensures { result ≡ numbered number }
+{
+    Reply { number, count: 0 }
+}
+
+// What a request that is none is answered.
+pub fn malformed() -> Reply
+    ensures { result ≡ numbered no_request }
+{
+    refused(4294967295)
+}
+
+// 01's number of a refusal alone.
+pub fn refused_by(why: Refusal) -> Reply
+    ensures { result ≡ numbered (refusal_number why) }
+{
+    refused(parts::answer_number(Answer::Refused(why)))
+}
+
+// A word of the exported calls as a reply.
+pub fn unpacked(x: u64) -> Reply
+    ensures { result ≡ reply_in x }
+{
+    Reply {
+        number: (x % 4294967296) as u32,
+        count: (x / 4294967296) as usize,
+    }
+}
+
+// The word of a step with its letter as a reply.
+pub fn unlettered(x: u64) -> Led
+    ensures { result ≡ led_in x }
+{
+    let reply = Reply {
+        number: (x % 4294967296) as u32,
+        count: (x / 4294967296 % 16777216) as usize,
+    };
+    Led {
+        reply,
+        lead: x / 72057594037927936,
+    }
+}
+
+pub fn reply_of(w: Wrote) -> Reply
+    ensures { result ≡ reply_by w }
+{
+    let answer = w.answer;
+    Reply {
+        number: parts::answer_number(answer),
+        count: w.count,
+    }
+}
+
+// A number as a word of 32 bits.
+fn low(x: usize) -> u32
+    ensures { result ≡ x % 4294967296 }
+{
+    (x % 4294967296) as u32
+}
+
+// A result of one byte.
+fn flag(x: u8, out: &mut [u8]) -> Reply
+    ensures { Says (result_of (x ∷ []) out.old) result out.new }
+{
+    if out.len() < 1 {
+        return refused(11);
+    }
+    let count = text::put_byte(out, 0, x);
+    Reply { number: 0, count }
+}
+
+// A result of a byte and a word.
+fn flag_word(x: u8, y: u32, out: &mut [u8]) -> Reply
+    ensures { Says (result_of (x ∷ bytes_of 4 y) out.old) result out.new }
+{
+    if out.len() < 5 {
+        return refused(11);
+    }
+    let at = text::put_byte(out, 0, x);
+    let count = words::write32(out, at, y);
+    Reply { number: 0, count }
+}
+
+// A result of a word and a long word.
+fn two_words(x: u32, y: u64, out: &mut [u8]) -> Reply
+    ensures { Says (result_of (bytes_of 4 x ++ bytes_of 8 y) out.old) result out.new }
+{
+    if out.len() < 12 {
+        return refused(11);
+    }
+    let at = words::write32(out, 0, x);
+    let count = words::write64(out, at, y);
+    Reply { number: 0, count }
+}
+
+// A result of a word and two long words.
+fn three_words(x: u32, y: u64, z: u64, out: &mut [u8]) -> Reply
+    ensures { Says (result_of (bytes_of 4 x ++ (bytes_of 8 y ++ bytes_of 8 z)) out.old) result out.new }
+{
+    if out.len() < 20 {
+        return refused(11);
+    }
+    let a1 = words::write32(out, 0, x);
+    let a2 = words::write64(out, a1, y);
+    let count = words::write64(out, a2, z);
+    Reply { number: 0, count }
+}
+
+// Whether a table is settled.
+pub fn tell_rest(said: Rest, out: &mut [u8]) -> Reply
+    ensures { Says (rest_said said out.old) result out.new }
+{
+    match said {
+        Rest::Settled => flag(1, out),
+        Rest::Unsettled => flag(0, out),
+        Rest::NotAsked(why) => refused_by(why),
+    }
+}
+
+// What waits for a node: 1 and the place of its first message, or 0 where it has none.
+pub fn tell_first(f: First, out: &mut [u8]) -> Reply
+    ensures { Says (first_said f out.old) result out.new }
+{
+    match f {
+        First::At(place) => flag_word(1, low(place), out),
+        First::None => flag(0, out),
+        First::NotAsked(why) => refused_by(why),
+    }
+}
+
+// The verdict so far: 1, or 0 and then the number of the first bad step.
+pub fn tell_verdict(v: Verdict, out: &mut [u8]) -> Reply
+    ensures { Says (verdict_said v out.old) result out.new }
+{
+    match v {
+        Verdict::Accepted => flag(1, out),
+        Verdict::Bad(k) => flag_word(0, low(k), out),
+    }
+}
+
+// The bits of a signed number: two's complement.
+fn bits_of(x: i64) -> u64
+    ensures { result ≡ of_z w64 x }
+{
+    if x < 0 {
+        18446744073709551615 - (-1 - x) as u64
+    } else {
+        x as u64
+    }
+}
+
+// A held record: the slot of its holder, its copies as marks, and its change.
+pub fn tell_held(h: Held, out: &mut [u8]) -> Reply {
+    let r = h.original;
+    three_words(low(h.holder), h.copies, bits_of(over_water::change(r)), out)
+}
+
+// The number of records and the sum of their changes.
+pub fn tell_sum(s: Store, out: &mut [u8]) -> Reply {
+    two_words(low(s.count), bits_of(over_water::sum(s)), out)
+}
+
+// The length of a reply and its number, as bytes.
+pub fn head_of(n: u32, number: u32) -> [u8; 8]
+    ensures { result ≡ bytes_of 4 n ++ bytes_of 4 number }
+{
+    [
+        (n % 256) as u8,
+        (n / 256 % 256) as u8,
+        (n / 65536 % 256) as u8,
+        (n / 16777216 % 256) as u8,
+        (number % 256) as u8,
+        (number / 256 % 256) as u8,
+        (number / 65536 % 256) as u8,
+        (number / 16777216 % 256) as u8,
+    ]
+}

@@ -1,0 +1,9 @@
+// The listing of a file, printed: for the programs that list.
+#![tactic(auto)]
+
+pub fn show(rt: &impl Print, file: &[u8]) {
+    let mut out = [0u8; 65536];
+    let wrote = file_list::list(file, &mut out);
+    let count = wrote.count;
+    let _ = rt.write_all(&out[..count]);
+}
