@@ -92,13 +92,7 @@ pub fn tarpudhriv_step(file: &[u8], action: u64, x: u64, y: u64, out: &mut [u8])
 }
 
 // The same step, and the letter of where the next hop came from in the highest byte of the result: `l`, `r`, or 0 where it routed nothing.
-pub fn tarpudhriv_step_via(
-    file: &[u8],
-    action: u64,
-    x: u64,
-    y: u64,
-    out: &mut [u8],
-) -> u64
+pub fn tarpudhriv_step_via(file: &[u8], action: u64, x: u64, y: u64, out: &mut [u8]) -> u64
     ensures r { result ≡ via_word (asked_of action x y) file.now out.old }
     ensures left { out.new ≡ step_left (asked_of action x y) file.now out.old }
 {

@@ -65,8 +65,8 @@ returns-in-15 c = rw c.in-15.is
 
 pub returns-in_default : goal.returns-in_default
 unfolding asked_of
-returns-in_default c = let k = c.args.k in 
-    let r = c.in_default.in_default-own.rest in 
+returns-in_default c = let k = c.args.k in
+    let r = c.in_default.in_default-own.rest in
     let q = r.0.0.0.0.0 in
     let o = q.0.0.0.0 in
     rw (

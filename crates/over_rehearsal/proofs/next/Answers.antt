@@ -13,9 +13,9 @@ returns-then-not-is_open c = rw (sym c.is_open.ensures ∙ c.if-not-is_open.true
 
 pub checked-requires : goal.checked-requires
 checked-requires c = let x = c.args in (
-      λ d. rw c.step-s.ensures (keeps-valid x.c.table x.c.pool 256 x.a (rw c.step-s.ensures at d)),
-      open-low x.c.verdict x.c.steps (sym c.is_open.ensures ∙ c.if-not-is_open.false),
-    )
+  λ d. rw c.step-s.ensures (keeps-valid x.c.table x.c.pool 256 x.a (rw c.step-s.ensures at d)),
+  open-low x.c.verdict x.c.steps (sym c.is_open.ensures ∙ c.if-not-is_open.false),
+)
 
 pub returns : goal.returns
 unfolding handed_of

@@ -14,17 +14,17 @@ pub loop-i-init : goal.loop-i-init
 loop-i-init c = (omega arith, refl)
 
 pub returns-then-a-i : goal.returns-then-a-i
-returns-then-a-i c = let a = c.args.a.now in 
-    let b = c.args.b.now in 
+returns-then-a-i c = let a = c.args.a.now in
+    let b = c.args.b.now in
     sym (sym c.loop-i.invariant.1 ∙ same_not a b c.loop-i.i (omega arith) (omega arith) c.if-a-i.true)
 
 pub loop-i-preserved : goal.loop-i-preserved
-loop-i-preserved c = let a = c.args.a.now in 
-    let b = c.args.b.now in 
+loop-i-preserved c = let a = c.args.a.now in
+    let b = c.args.b.now in
     (omega arith, sym (same_turn a b c.loop-i.i (omega arith) (omega arith) c.if-a-i.false) ∙ c.loop-i.invariant.1)
 
 pub returns : goal.returns
-returns c = let a = c.args.a.now in 
-    let b = c.args.b.now in 
+returns c = let a = c.args.a.now in
+    let b = c.args.b.now in
     let e : c.loop-i.i ≡ length a = omega arith in
     sym (same_end a b c.if-b-n.false) ∙ rw e at c.loop-i.invariant.1
