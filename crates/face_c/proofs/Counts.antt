@@ -22,7 +22,6 @@ use Rattle.file.specs.declared.Wrote.{Wrote}
 use Rattle.file.specs.Format.{total_of}
 use Rattle.file.specs.Write.{not_written, wrote_of}
 use Rattle.face.specs.Calls.{wrote_by, moved_of, moved_by}
-use Rattle.face.specs.declared.Moved.{Moved}
 use Rattle.listing.specs.Print.{listing_of}
 use Rattle.listing.specs.List.{room, list_of}
 use Rattle.file_list.proofs.Length.{listing-short}

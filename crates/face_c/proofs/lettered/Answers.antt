@@ -1,7 +1,6 @@
 -- `face_c::lettered` meets its contract: the letter and the packed word fit 64 bits. Assumes nothing.
-use borrow.Author.Rules.{rules}
 use mathlib.Core.Path.{◌≡◌}
-use Prim.Native.Nat.{ℕ, ◌+◌, ◌*◌, ◌≤◌}
+use Prim.Native.Nat.{ℕ, ◌≤◌}
 use native.Mathlib.Omega.{arith}
 use Rattle.rules.specs.declared.Via.{Via}
 use Rattle.rules.specs.Numbers.{via_number}

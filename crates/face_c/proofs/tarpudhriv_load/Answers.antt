@@ -1,6 +1,5 @@
 -- `face_c::tarpudhriv_load` meets its contract: it is the file written back, packed. Assumes nothing.
-use borrow.Author.Rules.{rules}
-use mathlib.Core.Path.{◌≡◌, ap, ◌∙◌}
+use mathlib.Core.Path.{ap, ◌∙◌}
 use Rattle.face_c.specs.Words.{pack_of}
 use Rattle.face_c.proofs.Counts.{wrote-by-small}
 use Rattle.face_c.proofs.tarpudhriv_load.Goals as goal

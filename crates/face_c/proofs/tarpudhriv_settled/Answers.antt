@@ -1,6 +1,5 @@
 -- `face_c::tarpudhriv_settled` meets its contract: it is what was said of the file, as a word. Assumes nothing.
-use borrow.Author.Rules.{rules}
-use mathlib.Core.Path.{◌≡◌, ap, ◌∙◌}
+use mathlib.Core.Path.{ap, ◌∙◌}
 use Rattle.face_c.specs.Words.{rest_word}
 use Rattle.face_c.proofs.tarpudhriv_settled.Goals as goal
 

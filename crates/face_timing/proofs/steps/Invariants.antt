@@ -1,5 +1,4 @@
 -- `face_timing::steps` is safe and ends: the measure is the rounds left. Assumes nothing.
-use borrow.Author.Rules.{rules}
 use Prim.Native.Nat.{◌-◌, ◌<◌, ◌≤◌}
 use Rattle.face_timing.proofs.steps.Given as goal
 

@@ -1,5 +1,4 @@
 -- `face_timing::writes` is safe and ends: the measure is the rounds left. Assumes nothing.
-use borrow.Author.Rules.{rules}
 use Prim.Native.Nat.{◌-◌, ◌<◌, ◌≤◌}
 use lib.ListN.{length}
 use mathlib.Core.Path.{◌≡◌}

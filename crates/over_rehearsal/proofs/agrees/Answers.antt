@@ -1,5 +1,4 @@
 -- `over_rehearsal::agrees` meets its contract. Assumes nothing.
-use borrow.Author.Rules.{rules}
 use mathlib.Core.Path.{◌∙◌}
 use Rattle.rehearsal.specs.Rehearsal.{agrees_with}
 use Rattle.over_rehearsal.proofs.agrees.Goals as goal

@@ -1,5 +1,4 @@
 -- `over_rehearsal::begin` meets its contract: the file as it loads, with the verdict of its start. Assumes nothing.
-use borrow.Author.Rules.{rules}
 use Rattle.rehearsal.specs.Rehearsal.{begin_of}
 use Rattle.over_rehearsal.proofs.begin.Goals as goal
 

@@ -1,5 +1,4 @@
 -- `over_rehearsal::checked` meets its contract. Assumes nothing.
-use borrow.Author.Rules.{rules}
 use mathlib.Core.Path.{sym, ◌∙◌, ap}
 use Prim.Native.Nat.{ℕ}
 use Rattle.rehearsal.specs.declared.Verdict.TheVariants.{Accepted, Bad}

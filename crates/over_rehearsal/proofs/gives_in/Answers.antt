@@ -1,12 +1,10 @@
 -- `over_rehearsal::gives_in` meets its contract: a valid table is written whole, so the bytes that are counted are its file. Assumes nothing.
-use borrow.Author.Rules.{rules}
 use mathlib.Core.Path.{◌≡◌, sym, ◌∙◌}
 use Prim.Native.Nat.{◌≤◌}
 use lib.ListN.{length, take}
 use lib.Seq.{length-take-le}
 use Rattle.file.specs.Format.{file_of}
 use Rattle.file_write.proofs.Values.{held_of}
-use Rattle.rehearsal.specs.Rehearsal.{same}
 use Rattle.over_rehearsal.proofs.Laws.{whole_long, whole-file}
 use Rattle.over_rehearsal.proofs.gives_in.Goals as goal
 

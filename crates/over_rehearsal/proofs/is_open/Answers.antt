@@ -1,5 +1,4 @@
 -- `over_rehearsal::is_open` meets its contract. Assumes nothing.
-use borrow.Author.Rules.{rules}
 use Rattle.over_rehearsal.proofs.is_open.Goals as goal
 
 pub returns-in-Accepted : goal.returns-in-Accepted

@@ -1,6 +1,4 @@
 -- `over_rehearsal::next` meets its contract: a done step leaves a valid table. Assumes nothing.
-use borrow.Author.Rules.{rules}
-use borrow.Author.Tests.{not-true, not-false}
 use mathlib.Core.Path.{sym, ◌∙◌}
 use Rattle.table_laws.proofs.Proved.{keeps-valid}
 use Rattle.rehearsal.specs.Rehearsal.{handed_of}

@@ -1,9 +1,7 @@
 -- The answers. Assumes nothing.
 use mathlib.Core.Path.{◌≡◌, refl, sym, ◌∙◌}
-use Prim.Native.Nat.{◌-◌, ◌≤◌}
 use native.Mathlib.Omega.{arith}
-use lib.ListN.{length, drop}
-use Rattle.rehearsal.specs.Rehearsal.{same}
+use lib.ListN.{length}
 use Rattle.over_rehearsal.proofs.Laws.{same-long, same_turn, same_not, same_end}
 use Rattle.over_rehearsal.proofs.same.Goals as goal
 

@@ -1,10 +1,8 @@
 -- `over_rehearsal::same` meets its contract. The invariant: what is behind the bytes passed decides. The measure: the bytes left. Assumes nothing.
-use mathlib.Core.Path.{◌≡◌, refl, sym, ◌∙◌}
+use mathlib.Core.Path.{◌≡◌}
 use Prim.Native.Nat.{◌-◌, ◌≤◌}
-use native.Mathlib.Omega.{arith}
 use lib.ListN.{length, drop}
 use Rattle.rehearsal.specs.Rehearsal.{same}
-use Rattle.over_rehearsal.proofs.Laws.{same-long, same_turn, same_not, same_end}
 use Rattle.over_rehearsal.proofs.same.Given as goal
 
 abbrev pub invariant-loop-i : goal.invariant-loop-i
