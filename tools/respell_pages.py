@@ -18,8 +18,8 @@ TYPE = re.compile(r"\s*(?:pub )?(?:record|data) (\S+)")
 TOKEN = re.compile(r"(?<![A-Za-z0-9_'′-])[A-Za-z_][A-Za-z0-9_'′-]*")
 SPAN = re.compile(r"(?<!`)`([^`\n]+)`(?!`)")
 BLOCK = re.compile(r"(^```.*?^```$)", re.M | re.S)
-# No definitions: commands, and what a plan of examples/plans is called.
-OTHER = re.compile(r"(?:examples|bin|tools)/|rt |two-at-once")
+# No definitions: commands, and a plan of examples/plans by its name in docs/PLANS.md.
+OTHER = re.compile(r"(?:examples|bin|tools)/|rt |two-at-once\.plan")
 
 
 def declared(path):
@@ -41,7 +41,7 @@ def main(old, new, root="."):
                 sys.exit(f"{path}: {one} is {turned[one]} elsewhere, and here {other}")
     pages = [pathlib.Path(root, "README.md"), pathlib.Path(root, "model/README.md"), *sorted(pathlib.Path(root, "docs").rglob("*.md"))]
     name = lambda m: turned.get(m.group(0), m.group(0))
-    span = lambda m: m.group(0) if OTHER.match(m.group(1)) else f"`{TOKEN.sub(name, m.group(1))}`"
+    span = lambda m: m.group(0) if OTHER.match(m.string, m.start() + 1) else f"`{TOKEN.sub(name, m.group(1))}`"
     for page in pages:
         parts = [part if part.startswith("```") else SPAN.sub(span, part) for part in BLOCK.split(page.read_text())]
         page.write_text("".join(parts))
