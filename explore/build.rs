@@ -1,4 +1,4 @@
-//! Links the archive of crate `abi` from the folder that `TARPUDHRIV_LIB` names. Without it every step is asked of the driver.
+//! Links the archive that `tools/staticlib` makes from the folder that `TARPUDHRIV_LIB` names. Without it every step is asked of the driver.
 
 fn main() {
     println!("cargo:rerun-if-env-changed=TARPUDHRIV_LIB");

@@ -1,4 +1,4 @@
-/* The bench for C: six calls on table files (docs/FORMAT.md). Link target/staticlib/libface_c.a, which `rt staticlib face_c` makes (x86-64).
+/* The bench for C: six calls on table files (docs/FORMAT.md). Link target/staticlib/libface_c.a, which `tools/staticlib` makes (x86-64).
  *
  * Every call answers one 64-bit word. Its low 32 bits are the number: 0 done, 1 to 11 refused (docs/REFUSALS.md). The 24 bits above
  * are the count of bytes written to the start of `out`, and the highest byte is 0 but for step_via. Where the number is not 0 the count and

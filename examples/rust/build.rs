@@ -1,4 +1,4 @@
-//! Links the archive that `rt staticlib face_c` makes, or one in the folder that TARPUDHRIV_LIBRARY names.
+//! Links the archive that `tools/staticlib` makes, or one in the folder that TARPUDHRIV_LIBRARY names.
 
 fn main() {
     let made = concat!(env!("CARGO_MANIFEST_DIR"), "/../../target/staticlib");
