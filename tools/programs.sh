@@ -15,7 +15,7 @@ fail() {
 sources() {
     (
         cd "$here"
-        rt version
+        rt version </dev/null
         cat crates.txt
         find crates -regex 'crates/[^/]*/out' -prune -o -type f -regex 'crates/[^/]*/\(src\|specs\|proofs\)/.*' -print0 | LC_ALL=C sort -z | xargs -0 sha256sum
     ) | sha256sum
