@@ -13,7 +13,7 @@ use std::collections::BTreeSet;
 type Case = (&'static str, u32, u32);
 
 /// The numbers of 01, "Actions" and "Take, by kind", of T-03 and of T-05. That there are no others is proved in
-/// `crates/table/proofs/Numbers.antt` (`step-numbers`, which has 0, 1 and 10 for all, and `take-kind-6`, that 0 is
+/// `crates/table_laws/proofs/Numbers.antt` (`step-numbers`, which has 0, 1 and 10 for all, and `take-kind-6`, that 0 is
 /// not answered there). 1 is left out where the place is in range, and 10, for a file that loads has a valid table.
 const NUMBERS: [(&str, u32, &[u32]); 25] = [
     ("Lookup", 0, &[0, 1, 3, 6]),
