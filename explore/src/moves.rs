@@ -1,7 +1,7 @@
 //! What comes of a move in a state. Every answer is the proved code's.
 //!
 //! Asked every time, the step is made on the whole state. Remembered, it is asked once for each different thing that the definition of the
-//! step is handed (crates/table/specs/Step: `asked`, `act_of`): the dead nodes, the acting node, the message, for a Join the seed, and whether
+//! step is handed (crates/step/specs/Step: `asked`, `act_of`): the dead nodes, the acting node, the message, for a Join the seed, and whether
 //! the same request waits. It is then made on the table with the message alone, so that everything that it adds is seen, and what it adds is
 //! added to the set.
 
