@@ -136,7 +136,7 @@ end-told t e =
       other-covers = f.1;
     }
 
-told : (r q : Ran) → shows r q ≡ true → Shows r q
+pub told : (r q : Ran) → shows r q ≡ true → Shows r q
 told r q e =
     let a = both ((r.done && not r.turns) && (q.done && q.turns)) _ e in
     let b = both (r.done && not r.turns) (q.done && q.turns) a.0 in
@@ -164,12 +164,12 @@ one_by_one =
     ∷ Take 0 ∷ Take 0 ∷ Take 0 ∷ Take 0 ∷ RequestLease 3 ∷ Take 0 ∷ Take 0 ∷ Take 0 ∷ Take 0 ∷ []
 
 -- each is done, in turn, and at the end all four are ready
-abbrev all_ready : Ran → Bool
+abbrev pub all_ready : Ran → Bool
 all_ready r = (r.done && r.turns) && eqb (ready_set r.left.table) 15
 
 -- ---- computed
 
-computed : ((let r = ran at_once begun in shows r (ran in_turn r.left)) ≡ true) × (all_ready (ran one_by_one alone) ≡ true)
+pub computed : ((let r = ran at_once begun in shows r (ran in_turn r.left)) ≡ true) × (all_ready (ran one_by_one alone) ≡ true)
 unfolding fall_of signed_of abs_dist_of rises_to nearer left_cover_of right_cover_of covers_key has gather tally first_to all_to single union meet
     without add_of remove_of size_of lowest_of listed best closest content_of seen_from leaf_with leaf_with_one overlaps is_full is_complete is_empty
     covers_of leaf_candidates route_candidates by_leaf leaf_hop route_hop next_hop alike all_different first_from first_equal added removed_at sent_to
@@ -180,41 +180,6 @@ unfolding fall_of signed_of abs_dist_of rises_to nearer left_cover_of right_cove
     nodes_fit messages_fit pool_fits valid_of carried_out settle ready_set dead_set is_sound step_of nobody_waits guards introduces is_fair
 computed = (refl, refl)
 
-pub two_at_once : Shows (ran at_once begun) (ran in_turn middle)
-two_at_once = told (ran at_once begun) (ran in_turn middle) computed.0
-
-pub one_by_one_lem : all_ready (ran one_by_one alone) ≡ true
-one_by_one_lem = computed.1
-
 pub started : (start_of 4 1 (0 ∷ 1 ∷ 2 ∷ 9 ∷ 14 ∷ []) 17).answer ≡ Done
 unfolding start_of start_fits list_fits ids_rise listed all_to has slot_ids
 started = refl
-
--- ---- what follows
-
--- a Join is done while another is wait
-pub not-in-turn : Patient begun.table begun.pool at_once → ⊥
-not-in-turn h = opposed (turns-of at_once begun h) two_at_once.first-turns
-
--- the promise is not kept to the end
-at-end : Throughout Held middle.table middle.pool in_turn → ⊥
-at-end h =
-    let c = two_at_once.end in
-    let same : ◌≡◌ {A = ℕ} 1 3 =
-    (at_last Held in_turn middle h).one 6 1 3 c.key c.one-ready c.other-ready c.one_covers c.other-covers in
-    omega arith
-
--- without the hypothesis on Join the promise is not kept
-abbrev pub AnyJoins : Type 0
-AnyJoins =
-    (m l : ℕ) (ids : List ℕ) (a : ℕ) (acts : List Action) → (start_of m l ids a).answer ≡ Done
-    → Throughout Held (start_of m l ids a).table (laid []) acts
-
-pub joins-at-once : AnyJoins → ⊥
-joins-at-once any = at-end (after_first Held at_once in_turn begun (any 4 1 (0 ∷ 1 ∷ 2 ∷ 9 ∷ 14 ∷ []) 17 (at_once ++ in_turn) started))
-
--- and half-way, with nobody wait, the clauses are broken already: the rest joins in turn
-pub middle-broken : Clauses middle.table middle.pool → ⊥
-middle-broken c =
-    at-end (clauses-held middle.table middle.pool in_turn two_at_once.half-way.valid c
-    (turns-told in_turn middle two_at_once.rest-turns))

@@ -59,7 +59,7 @@ abbrev pub begun : Stepped
 begun = done_of (start_of 5 2 (5 ∷ 17 ∷ 18 ∷ []) 3).table (laid [])
 
 -- 18 is answered by 17 and probes both; its probe of 17 times out, 5 replies (18 is ok) and grants a lease (18 is ready)
-abbrev rest : List Action
+abbrev pub rest : List Action
 rest = Take 0 ∷ Take 0 ∷ ProbeTimeOut 2 1 ∷ Take 0 ∷ Take 0 ∷ RequestLease 2 ∷ Take 0 ∷ Take 0 ∷ []
 
 abbrev pub one_joins : List Action
@@ -77,7 +77,7 @@ pub record TwoCover (t : Table) : Type 0 where
   pub one_covers : covers_at t 1 17 ≡ true
   pub other-covers : covers_at t 2 17 ≡ true
 
-end-told : (t : Table) → shows_end t ≡ true → TwoCover t
+pub end-told : (t : Table) → shows_end t ≡ true → TwoCover t
 end-told t e =
     let a = both (ltb 17 (2 ^ t.m) && ltb 2 t.n) _ e in
     let b = both (ltb 17 (2 ^ t.m)) (ltb 2 t.n) a.0 in
@@ -123,15 +123,15 @@ stuck r acts = (r.done, r.left.pool.count, (node_at r.left.table 1).status, numb
 -- ---- a node that is known leaves
 
 -- 31 leaves
-abbrev left : Ran
+abbrev pub left : Ran
 left = ran (NodeLeft 2 ∷ []) (three 2)
 
 -- 17 is not dead and has 31 in its left side, and 31 is dead
-abbrev knows_dead : Table → Bool
+abbrev pub knows_dead : Table → Bool
 knows_dead t = (ltb 2 t.n && not (is_dead (node_at t 1).status)) && (has (node_at t 1).left 2 && is_dead (node_at t 2).status)
 
 -- so clause 3 does not hold
-dead-told : (t : Table) (p : Pool) → knows_dead t ≡ true → Clauses t p → ⊥
+pub dead-told : (t : Table) (p : Pool) → knows_dead t ≡ true → Clauses t p → ⊥
 dead-told t p e c =
     let a = both (ltb 2 t.n && not (is_dead (node_at t 1).status)) _ e in
     let b = both (ltb 2 t.n) (not (is_dead (node_at t 1).status)) a.0 in
@@ -203,32 +203,10 @@ abbrev nobody_joins : List Action → Bool
 nobody_joins [] = true
 nobody_joins (a ∷ acts) = not (is_join a) && nobody_joins acts
 
-nobody-patient : (acts : List Action) (t : Table) (p : Pool) → nobody_joins acts ≡ true → JoinsPatient t p acts
+pub nobody-patient : (acts : List Action) (t : Table) (p : Pool) → nobody_joins acts ≡ true → JoinsPatient t p acts
 nobody-patient [] t p e = tt
 nobody-patient (a ∷ acts) t p e =
     let b = both (not (is_join a)) (nobody_joins acts) e in (
       λ i seed join done. absurd (opposed (ap is_join join) (not-true _ b.0)),
       nobody-patient acts (step_of t p 256 a).table (step_of t p 256 a).pool b.1,
     )
-
--- where a node leaves the clauses are not kept
-pub left-broken : Clauses left.left.table left.left.pool → ⊥
-left-broken = dead-told left.left.table left.left.pool (both left.done (knows_dead left.left.table) leaving.known_dead).1
-
--- without the hypothesis that bars them the promise is not kept
-abbrev pub AnyLeaves : Type 0
-AnyLeaves =
-    (m l : ℕ) (ids : List ℕ) (a : ℕ) (acts : List Action) → (start_of m l ids a).answer ≡ Done
-    → JoinsPatient (start_of m l ids a).table (laid []) acts → Throughout Held (start_of m l ids a).table (laid []) acts
-
-pub joins-and-leaves : AnyLeaves → ⊥
-joins-and-leaves any =
-    let shown = both (nobody_waits begun.table && (ran one_joins begun).done) _ leaving.two-cover in
-    let before = (both (nobody_waits begun.table) (ran one_joins begun).done shown.0).0 in
-    let c = end-told (ran one_joins begun).left.table shown.1 in
-    let patient : JoinsPatient begun.table begun.pool one_joins =
-    (λ i seed join done. none_told begun.table before, nobody-patient rest _ _ refl) in
-    let h = any 5 2 (5 ∷ 17 ∷ 18 ∷ []) 3 one_joins started patient in
-    let same : ◌≡◌ {A = ℕ} 1 2 =
-    (at_last Held one_joins begun h).one 17 1 2 c.key c.one-ready c.other-ready c.one_covers c.other-covers in
-    omega arith

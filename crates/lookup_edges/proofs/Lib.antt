@@ -1,3 +1,4 @@
 pub mod Limits
 pub mod Unheld
+pub mod GapUnheld
 pub mod Only

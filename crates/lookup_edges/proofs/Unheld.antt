@@ -62,27 +62,12 @@ own-told t e i r =
 unfoldable pub gap : Table
 gap = table 2 1 (node 0 status.Ready 2 4 0 ∷ node 1 status.Wait 1 0 0 ∷ node 2 status.Ready 1 2 0 ∷ [])
 
-gap-computes :
+pub gap-computes :
     (valid_of gap (laid []) ≡ true) × (all_close gap ≡ true) × (none_its_own gap ≡ true)
     × (size_of (ready_set gap) ≡ 2) × (is_settled gap ≡ false) × (all_to gap.n (λ i. not (covers_at gap i 1)) ≡ true)
     × (1 < 2 ^ gap.m)
 unfolding gap all_close none_its_own opened
 gap-computes = (refl, refl, refl, refl, refl, refl, omega arith)
-
-pub gap-unheld : NobodyCovers gap (laid []) 1
-gap-unheld =
-    let c = gap-computes in
-    record {
-      valid = c.0;
-      flanked = record { close = close-told gap c.1; own = λ two. own-told gap c.2 };
-      two = omega (arith, c.3);
-      unsettled = c.4;
-      key = c.6;
-      nobody = λ i h. not-true _ (each gap.n (λ s. not (covers_at gap s 1)) i c.5 h);
-    }
-
-pub some-unheld : SomeUnheld
-some-unheld = (gap, laid [], 1, gap-unheld)
 
 -- ---- none its own neighbour: two ready nodes that know of nobody both cover key 1
 

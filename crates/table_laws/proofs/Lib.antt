@@ -11,6 +11,7 @@ pub mod Routed
 pub mod Hops
 pub mod Proved
 pub mod Numbers
+pub mod NumbersTold
 pub mod Ten
 pub mod Started
 pub mod Legal

@@ -11,7 +11,7 @@ use Rattle.rules.specs.Numbers.{refusal_number, answer_number}
 use Rattle.table_type.specs.declared.Table.{Table}
 use Rattle.step.specs.Step.{is_sound, step_of}
 use Rattle.table_laws.proofs.By.{by-step}
-use Rattle.table_laws.proofs.Numbers.{Refuses, ten, one, named, refuses, named-low}
+use Rattle.table_laws.proofs.NumbersTold.{Refuses, ten, one, named, refuses, named-low}
 
 module _ (t : Table) (p : Pool) (len : ℕ) (a : Action) where
   pub step-ten : answer_number (step_of t p len a).answer ≡ 10 → is_sound t p len ≡ false
