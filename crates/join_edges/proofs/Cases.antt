@@ -4,13 +4,12 @@
 -- clauses does not mend. And in turn three nodes join by a fourth, and all are ready. Assumes nothing.
 use mathlib.Core.Path.{◌≡◌, refl}
 use mathlib.Core.Bool.{Bool, true, false, ◌&&◌, not}
-use mathlib.Core.List.{List, [], ◌∷◌, ◌++◌}
-use Prim.Native.Nat.{ℕ, ◌^◌, ◌<◌}
+use mathlib.Core.List.{List, [], ◌∷◌}
+use Prim.Native.Nat.{◌^◌, ◌<◌}
 use native.Mathlib.Omega.{arith}
 use lib.Dec.{eqb, ltb}
 use borrow.Author.Tests.{ltb-true, not-true}
 use Rattle.ring.specs.Distance.{fall_of, signed_of, abs_dist_of, rises_to, nearer, left_cover_of, right_cover_of, covers_key}
-use Rattle.marks.proofs.Bools.{opposed}
 use Rattle.marks.specs.Marks.{has, gather, tally, first_to, all_to, single, union, meet, without, add_of, remove_of, size_of, lowest_of, listed}
 use Rattle.rules.specs.declared.Action.{Action}
 use Rattle.rules.specs.declared.Action.TheVariants.{Join, RequestLease, Take}
@@ -40,11 +39,9 @@ use Rattle.table.specs.Valid.{nodes_fit, messages_fit, pool_fits, valid_of}
 use Rattle.table_laws.proofs.Nodes.{both}
 use Rattle.lookup_laws.specs.Claims.{Ready}
 use Rattle.lookup_laws.specs.Fates.{covers_at}
-use Rattle.join_laws.specs.Clauses.{view_of, Clauses}
-use Rattle.join_laws.specs.Claims.{Patient, Throughout, Held}
-use Rattle.join_laws.proofs.Proved.{clauses-held}
+use Rattle.join_laws.specs.Clauses.{view_of}
 use Rattle.join_laws.specs.Safe.{guards, one_of, members_of, known_of, joiner_of, introduces, is_fair, nobody_waits}
-use Rattle.join_laws.proofs.Tests.{Ran, ran, turns-told, turns-of, after_first, at_last}
+use Rattle.join_laws.proofs.Tests.{Ran, ran}
 
 -- 0 and 14 are ready, 1, 2 and 9 dead
 abbrev pub begun : Stepped

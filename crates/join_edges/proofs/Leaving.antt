@@ -47,10 +47,10 @@ use Rattle.table.specs.Valid.{nodes_fit, messages_fit, pool_fits, valid_of}
 use Rattle.table_laws.proofs.Nodes.{both}
 use Rattle.lookup_laws.specs.Claims.{Ready}
 use Rattle.lookup_laws.specs.Fates.{covers_at}
-use Rattle.join_laws.specs.Claims.{NoneWaits, Throughout, Held}
+use Rattle.join_laws.specs.Claims.{NoneWaits}
 use Rattle.join_laws.specs.Clauses.{Clauses}
 use Rattle.join_laws.specs.Safe.{nobody_waits}
-use Rattle.join_laws.proofs.Tests.{is_join, Ran, ran, none_told, at_last}
+use Rattle.join_laws.proofs.Tests.{is_join, Ran, ran}
 
 -- ---- two cover one key, though only one joins
 

@@ -20,7 +20,7 @@ use Rattle.table.specs.Valid.{valid_of}
 use Rattle.table_laws.proofs.Nodes.{both}
 use Rattle.lookup_laws.specs.Claims.{Ready}
 use Rattle.lookup_laws.specs.Fates.{covers_at}
-use Rattle.lookup_laws.specs.Joining.{left_at, right_at, AsClose, NotItsOwn, NobodyCovers, SomeUnheld}
+use Rattle.lookup_laws.specs.Joining.{left_at, right_at, AsClose, NotItsOwn}
 use Rattle.lookup_edges.proofs.Limits.{opened, node, table, each_ready}
 use Rattle.lookup_laws.proofs.Tracks.{ready-is}
 

@@ -1,16 +1,16 @@
 -- The numbers with which each action can be refused: one table (numbers_of), and one theorem that every step's answer is in it
 -- (`step-numbers`). 6 is missing where none is added, or one was removed and at most one is added; 3 is missing from Take and from Deliver and Forward; 7, 8, 9 and 11
 -- are missing everywhere. Assumes nothing.
-use mathlib.Core.Path.{◌≡◌, refl, sym, ◌∙◌, ap}
-use mathlib.Core.Logic.{◌⊎◌, inl, inr, ⊎_elim}
-use mathlib.Core.Bool.{Bool, true, false, ◌&&◌, ◌||◌, not}
+use mathlib.Core.Path.{◌≡◌, refl, ap}
+use mathlib.Core.Logic.{◌⊎◌, inl, inr}
+use mathlib.Core.Bool.{Bool, true, false, ◌&&◌, ◌||◌}
 use mathlib.Core.List.{List, [], ◌∷◌}
-use Prim.Native.Nat.{ℕ, zero, suc, ◌+◌, ◌<◌, ◌≤◌}
+use Prim.Native.Nat.{ℕ, ◌+◌, ◌<◌, ◌≤◌}
 use native.Mathlib.Omega.{arith}
 use lib.Dec.{eqb, leb}
 use lib.ListN.{get_or, length, length-take, get_or-eq_default}
-use borrow.Author.Tests.{eqb-true, eqb-false, leb-true, ltb-true, not-true}
-use Rattle.marks.proofs.Bools.{clash, and_left, and_right, or_right, or_cases, lt-or-le}
+use borrow.Author.Tests.{ltb-true}
+use Rattle.marks.proofs.Bools.{lt-or-le}
 use Rattle.rules.specs.declared.Node.{Node}
 use Rattle.rules.specs.declared.Message.{Message}
 use Rattle.rules.specs.declared.Pool.{Pool}
@@ -20,25 +20,22 @@ use Rattle.rules.specs.declared.Action.TheVariants.{NodeLeft, SuspectFaulty, Pro
 use Rattle.rules.specs.declared.Refusal.{Refusal}
 use Rattle.rules.specs.declared.Refusal.TheVariants as no
 use Rattle.rules.specs.declared.Plan.{Plan}
-use Rattle.rules.specs.declared.Planned.TheVariants.{No}
 use Rattle.rules.specs.Mail.{without_probes, removed_at}
 use Rattle.rules.specs.Nodes.{placed}
-use Rattle.rules.specs.Numbers.{refusal_number, answer_number}
+use Rattle.rules.specs.Numbers.{refusal_number}
 use Rattle.rules.specs.declared.Via.{Via}
 use Rattle.rules.specs.Plans.{quiet_plan, send_by, mailed}
 use Rattle.rules.specs.Pool.{blank, message_at, waiting}
-use Rattle.take.specs.Take.{broadcast_plan, plan_take}
+use Rattle.take.specs.Take.{broadcast_plan}
 use Rattle.table_type.specs.declared.Table.{Table}
 use Rattle.table.specs.Settled.{dead_set, some_up}
-use Rattle.table.specs.Settle.{refused_of, settle}
-use Rattle.step.specs.Step.{taken_of, delivered_of, forwarded_of, asked, remaining, planned_of, is_sound, step_of}
+use Rattle.step.specs.Step.{taken_of, delivered_of, forwarded_of, asked, remaining, planned_of}
 use Rattle.table_type.specs.Table.{node_at, ids_of, ring_of}
 use Rattle.pool_laws.proofs.Laws.{waiting-short, removed-length, mailed-quiet, mailed-send, added-length}
 use Rattle.pool_laws.proofs.Probes.{left-short}
 use Rattle.table_laws.proofs.Obeys.{obeys}
 use Rattle.table_laws.proofs.Sound.{Sound}
-use Rattle.table_laws.proofs.By.{RefusedFor, invalid, out_of_range, forbidden, full, by-step}
-use Rattle.table_laws.proofs.Comes.{Comes, no-comes, go-comes, by-lookup, by-join, by-request-lease, by-lease-expired, by-grant-expired}
+use Rattle.table_laws.proofs.Comes.{Comes, by-lookup, by-join, by-request-lease, by-lease-expired, by-grant-expired}
 use Rattle.table_laws.proofs.Comes.{by-node-left, by-suspect-faulty, by-probe-time-out, by-declare-dead, by-ls-repair, by-resign-node, by-recover}
 use Rattle.table_laws.proofs.Comes.{by-deliver, by-forward, by-take-join-request, by-take-join-reply, by-take-probe, by-take-probe-reply}
 use Rattle.table_laws.proofs.Comes.{by-take-lease-request, by-take-broadcast, by-take}
