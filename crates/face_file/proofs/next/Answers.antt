@@ -19,7 +19,7 @@ module _ (s : Stepped) (a : Action) where
   next-refused why e = rw e
 
 pub returns-in-Done : goal.returns-in-Done
-returns-in-Done c = c.step.ensures ∙ next-done _ _ c.in-Done.is
+returns-in-Done c = let e = next-done c.args.s c.args.a c.in-Done.is in cc
 
 pub returns-in-Refused : goal.returns-in-Refused
 returns-in-Refused c = c.refused.ensures ∙ next-refused _ _ _ c.in-Refused.is
