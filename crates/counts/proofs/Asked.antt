@@ -8,10 +8,8 @@ use Prim.Native.Nat.{ℕ, zero, suc, ◌<◌, ◌≤◌}
 use native.Mathlib.Omega.{arith}
 use borrow.Author.Tests.{eqb-true, eq-eqb, ne_eqb, lt-ltb, ltb-true, ltb-false}
 use lib.Dec.{eqb, ltb}
-use Rattle.marks.specs.declared.Found.{Found}
-use Rattle.marks.specs.declared.Found.TheVariants.{At, Nothing}
 use Rattle.marks.proofs.Bools.{bool_false, bool_same, opposed, lt-or-le}
-use Rattle.marks.specs.Marks.{has, gather, tally, first_to}
+use Rattle.marks.specs.Marks.{has, gather, tally, first_to, Found}
 use Rattle.marks.proofs.Laws.{first_found, first-none, first-at, first-nothing, has-gather, gather-high, tally-some, some-tally}
 use Rattle.rules.specs.declared.Refusal.TheVariants as no
 use Rattle.rules.specs.Mail.{is_found}
@@ -19,13 +17,10 @@ use Rattle.rules.specs.Numbers.{refusal_number}
 use Rattle.rules.specs.Pool.{message_at, waiting}
 use Rattle.table_laws.proofs.Sound.{sound, is-valid}
 use Rattle.counts.specs.declared.Counted.{Counted}
-use Rattle.counts.specs.declared.Has.{Has}
-use Rattle.counts.specs.declared.Has.TheVariants as has-message
-use Rattle.counts.specs.declared.First.{First}
-use Rattle.counts.specs.declared.First.TheVariants as first
-use Rattle.counts.specs.declared.Polled.TheVariants as polled
-use Rattle.counts.specs.Counts.{count_at, count_for, is_sound_counted, first_for, first_said, has_of, first_of, polled_of}
-use Rattle.counts.specs.Counts.{has_number, first_number, polled_number}
+use Rattle.counts.specs.Counts.{count_at, count_for, is_sound_counted, first_for, has_of, first_of, polled_of}
+use Rattle.counts.specs.Counts.{Has, First}
+use Rattle.file.specs.Write.{said_number}
+use Rattle.std.specs.Prelude.{Ok, Err, Some, None}
 use Rattle.counts.proofs.ByCase.{first-invalid, first_out, polled-invalid}
 use Rattle.counts.proofs.CountLaws.{agree_at, count_none, count-some, some-count, waiting-first}
 use Rattle.counts.specs.Claims.{Good, WaitsAt, NoneBefore, AskedInvalidExactly, AskedOutOfRangeExactly, HasExactly, HasNotExactly}
@@ -72,34 +67,34 @@ module _ (x : Counted) (i : ℕ) where
     walk : found ≡ first_to x.pool.count here
     walk = waiting-first x.pool i (sound-counted x len g.sound)
 
-    found_at : (q : ℕ) → found ≡ At q → WaitsAt x i q × NoneBefore x i q
+    found_at : (q : ℕ) → found ≡ Some q → WaitsAt x i q × NoneBefore x i q
     found_at q e =
         let f = first_found x.pool.count here q (sym walk ∙ e) in
         (here-waits q f.below f.holds, here-none q f.least)
 
-    found_none : found ≡ Nothing → NoneBefore x i x.pool.count
+    found_none : found ≡ None → NoneBefore x i x.pool.count
     found_none e = here-none x.pool.count (first-none x.pool.count here (sym walk ∙ e))
 
-    at-found : (q : ℕ) → WaitsAt x i q → NoneBefore x i q → found ≡ At q
+    at-found : (q : ℕ) → WaitsAt x i q → NoneBefore x i q → found ≡ Some q
     at-found q w none =
         walk ∙ first-at x.pool.count here q w.below (waits-here q w) (λ r l. none_here q r (omega (arith, w.below)) none l)
 
-    none_found : NoneBefore x i x.pool.count → found ≡ Nothing
+    none_found : NoneBefore x i x.pool.count → found ≡ None
     none_found none = walk ∙ first-nothing x.pool.count here (λ r l. none_here x.pool.count r (omega arith) none l)
 
     found-waits : is_found found ≡ true → (q : ℕ) × WaitsAt x i q
     found-waits = go found refl
       where
         go : (r : Found) → found ≡ r → is_found r ≡ true → (q : ℕ) × WaitsAt x i q
-        go (At q) e h = (q, (found_at q e).0)
-        go Nothing e h = absurd (opposed h refl)
+        go (Some q) e h = (q, (found_at q e).0)
+        go None e h = absurd (opposed h refl)
 
     waits-found : (q : ℕ) → WaitsAt x i q → is_found found ≡ true
     waits-found q w = go found refl
       where
         go : (r : Found) → found ≡ r → is_found r ≡ true
-        go (At r) e = refl
-        go Nothing e = absurd (found_none e q w.below w)
+        go (Some r) e = refl
+        go None e = absurd (found_none e q w.below w)
 
     -- ---- its count and the walk tell the same
 
@@ -115,35 +110,35 @@ module _ (x : Counted) (i : ℕ) where
           (λ e. count-some (waiting x.pool) i (omega (arith, counted_is, ltb-true 0 (count_at x.counts i) e)))
           (λ e. lt-ltb 0 (count_at x.counts i) (omega (arith, counted_is, some-count (waiting x.pool) i e)))
 
-      count-said : cond (eqb (count_at x.counts i) 0) first.None (first_said found) ≡ first_said found
+      count-said : cond {A = First} (eqb (count_at x.counts i) 0) (Ok None) (Ok found) ≡ Ok found
       count-said = go (count_at x.counts i) refl
         where
-          go : (n : ℕ) → count_at x.counts i ≡ n → cond (eqb n 0) first.None (first_said found) ≡ first_said found
-          go zero e = ap first_said (sym (count_none (waiting x.pool) i (sym counted_is ∙ e)))
+          go : (n : ℕ) → count_at x.counts i ≡ n → cond {A = First} (eqb n 0) (Ok None) (Ok found) ≡ Ok found
+          go zero e = ap (λ (r : Found). Ok r) (sym (count_none (waiting x.pool) i (sym counted_is ∙ e)))
           go (suc n) e = rw (ne_eqb (suc n) 0 (λ z. omega arith))
 
 -- ---- what a reply says
 
 abbrev Says : Counted → ℕ → ℕ → First → Type 0
-Says x len i (first.At q) = Good x len × (i < x.table.n) × WaitsAt x i q × NoneBefore x i q
-Says x len i first.None = Good x len × (i < x.table.n) × NoneBefore x i x.pool.count
-Says x len i (first.NotAsked why) = ((why ≡ no.Invalid) × (Good x len → ⊥)) ⊎ ((why ≡ no.OutOfRange) × Good x len × (x.table.n ≤ i))
+Says x len i (Ok (Some q)) = Good x len × (i < x.table.n) × WaitsAt x i q × NoneBefore x i q
+Says x len i (Ok None) = Good x len × (i < x.table.n) × NoneBefore x i x.pool.count
+Says x len i (Err why) = ((why ≡ no.Invalid) × (Good x len → ⊥)) ⊎ ((why ≡ no.OutOfRange) × Good x len × (x.table.n ≤ i))
 
 module _ (x : Counted) (len i : ℕ) where
-  first-bad : (Good x len → ⊥) → first_of x len i ≡ first.NotAsked no.Invalid
+  first-bad : (Good x len → ⊥) → first_of x len i ≡ Err no.Invalid
   first-bad bad = sym (first-invalid x len (not-counted x len bad) i)
 
-  first_past : Good x len → x.table.n ≤ i → first_of x len i ≡ first.NotAsked no.OutOfRange
+  first_past : Good x len → x.table.n ≤ i → first_of x len i ≡ Err no.OutOfRange
   first_past g h = sym (first_out x len (good-counted x len g) i h)
 
-  first-asked : Good x len → i < x.table.n → first_of x len i ≡ first_said (found x i)
+  first-asked : Good x len → i < x.table.n → first_of x len i ≡ Ok (found x i)
   unfolding first_of
   first-asked g h = rw (good-counted x len g, lt-ltb i x.table.n h) (count-said x i len g h)
 
   -- what a walk says, by the same tests
   abbrev walked : First
   walked =
-      cond (is_sound_counted x len) (cond (ltb i x.table.n) (first_said (found x i)) (first.NotAsked no.OutOfRange)) (first.NotAsked no.Invalid)
+      cond (is_sound_counted x len) (cond (ltb i x.table.n) (Ok (found x i)) (Err no.OutOfRange)) (Err no.Invalid)
 
   first-walked : first_of x len i ≡ walked
   unfolding first_of
@@ -151,9 +146,9 @@ module _ (x : Counted) (len i : ℕ) where
     where
       go : (a : Bool) → is_sound_counted x len ≡ a → (b : Bool) → ltb i x.table.n ≡ b
           → cond a
-          (cond b (cond (eqb (count_at x.counts i) 0) first.None (first_said (found x i))) (first.NotAsked no.OutOfRange))
-          (first.NotAsked no.Invalid)
-          ≡ cond a (cond b (first_said (found x i)) (first.NotAsked no.OutOfRange)) (first.NotAsked no.Invalid)
+          (cond b (cond (eqb (count_at x.counts i) 0) (Ok None) (Ok (found x i))) (Err no.OutOfRange))
+          (Err no.Invalid)
+          ≡ cond a (cond b (Ok (found x i)) (Err no.OutOfRange)) (Err no.Invalid)
       go false e b f = refl
       go true e false f = refl
       go true e true f = count-said x i len (counted-good x len e) (ltb-true i x.table.n f)
@@ -162,14 +157,14 @@ module _ (x : Counted) (len i : ℕ) where
   says = rw first-walked (go (is_sound_counted x len) refl (ltb i x.table.n) refl (found x i) refl)
     where
       go : (a : Bool) → is_sound_counted x len ≡ a → (b : Bool) → ltb i x.table.n ≡ b → (r : Found) → found x i ≡ r
-          → Says x len i (cond a (cond b (first_said r) (first.NotAsked no.OutOfRange)) (first.NotAsked no.Invalid))
+          → Says x len i (cond a (cond b (Ok r) (Err no.OutOfRange)) (Err no.Invalid))
       go false e b f r d = inl (refl, not_good x len e)
       go true e false f r d = inr (refl, counted-good x len e, ltb-false i x.table.n f)
-      go true e true f (At q) d =
+      go true e true f (Some q) d =
           let g = counted-good x len e in
           let (w, none) = found_at x i len g q d in
           (g, ltb-true i x.table.n f, w, none)
-      go true e true f Nothing d = let g = counted-good x len e in (g, ltb-true i x.table.n f, found_none x i len g d)
+      go true e true f None d = let g = counted-good x len e in (g, ltb-true i x.table.n f, found_none x i len g d)
 
   said : (r : First) → first_of x len i ≡ r → Says x len i r
   said r e = subst (Says x len i) e says
@@ -177,94 +172,85 @@ module _ (x : Counted) (len i : ℕ) where
 -- ---- where is the first
 
 pub first-exactly : FirstExactly
-first-exactly x len i q = (said x len i (first.At q), λ (g, h, w, none). first-asked x len i g h ∙ ap first_said (at-found x i len g q w none))
+first-exactly x len i q = (said x len i (Ok (Some q)), λ (g, h, w, none). first-asked x len i g h ∙ ap (λ (r : Found). Ok r) (at-found x i len g q w none))
 
 pub first-none-exactly : FirstNoneExactly
-first-none-exactly x len i = (said x len i first.None, λ (g, h, none). first-asked x len i g h ∙ ap first_said (none_found x i len g none))
+first-none-exactly x len i = (said x len i (Ok None), λ (g, h, none). first-asked x len i g h ∙ ap (λ (r : Found). Ok r) (none_found x i len g none))
 
 -- ---- is there one
 
 abbrev has_by : First → Has
-has_by (first.At q) = has-message.Yes
-has_by first.None = has-message.No
-has_by (first.NotAsked why) = has-message.NotAsked why
+has_by (Ok r) = Ok (is_found r)
+has_by (Err why) = Err why
 
 has-is : (x : Counted) (len i : ℕ) → has_of x len i ≡ has_by (first_of x len i)
 unfolding has_of
 has-is x len i = rw (first-walked x len i) (go (is_sound_counted x len) refl (ltb i x.table.n) refl)
   where
-    said-by : (r : Found) → cond (is_found r) has-message.Yes has-message.No ≡ has_by (first_said r)
-    said-by (At q) = refl
-    said-by Nothing = refl
-
     go : (a : Bool) → is_sound_counted x len ≡ a → (b : Bool) → ltb i x.table.n ≡ b
         → cond a
-        (cond b (cond (ltb 0 (count_at x.counts i)) has-message.Yes has-message.No) (has-message.NotAsked no.OutOfRange))
-        (has-message.NotAsked no.Invalid)
-        ≡ has_by (cond a (cond b (first_said (found x i)) (first.NotAsked no.OutOfRange)) (first.NotAsked no.Invalid))
+        (cond b (Ok (ltb 0 (count_at x.counts i))) (Err no.OutOfRange))
+        (Err no.Invalid)
+        ≡ has_by (cond a (cond b (Ok (found x i)) (Err no.OutOfRange)) (Err no.Invalid))
     go false e b f = refl
     go true e false f = refl
-    go true e true f = rw (count-found x i len (counted-good x len e) (ltb-true i x.table.n f)) (said-by (found x i))
+    go true e true f = rw (count-found x i len (counted-good x len e) (ltb-true i x.table.n f))
 
 pub has-exactly : HasExactly
 has-exactly x len i = (λ e. tells (first_of x len i) (says x len i) (sym (has-is x len i) ∙ e), λ (g, h, (q, w)). told g h q w)
   where
-    tells : (r : First) → Says x len i r → has_by r ≡ has-message.Yes → Good x len × (i < x.table.n) × ((q : ℕ) × WaitsAt x i q)
-    tells (first.At q) s e = (s.0, s.1, (q, s.2))
-    tells first.None s e = absurd (let z : ◌≡◌ {A = ℕ} 0 1 = cc in omega arith)
-    tells (first.NotAsked why) s e = absurd (let z : ◌≡◌ {A = ℕ} 0 1 = cc in omega arith)
+    tells : (r : First) → Says x len i r → has_by r ≡ Ok true → Good x len × (i < x.table.n) × ((q : ℕ) × WaitsAt x i q)
+    tells (Ok (Some q)) s e = (s.0, s.1, (q, s.2))
+    tells (Ok None) s e = absurd (let z : ◌≡◌ {A = ℕ} 0 1 = cc in omega arith)
+    tells (Err why) s e = absurd (let z : ◌≡◌ {A = ℕ} 0 1 = cc in omega arith)
 
-    yes : (r : Found) → is_found r ≡ true → has_by (first_said r) ≡ has-message.Yes
-    yes (At q) e = refl
-    yes Nothing e = absurd (opposed e refl)
+    yes : (r : Found) → is_found r ≡ true → has_by (Ok r) ≡ Ok true
+    yes r e = rw e
 
-    told : Good x len → i < x.table.n → (q : ℕ) → WaitsAt x i q → has_of x len i ≡ has-message.Yes
+    told : Good x len → i < x.table.n → (q : ℕ) → WaitsAt x i q → has_of x len i ≡ Ok true
     told g h q w = has-is x len i ∙ ap has_by (first-asked x len i g h) ∙ yes (found x i) (waits-found x i len g q w)
 
 pub has-not-exactly : HasNotExactly
 has-not-exactly x len i =
     (λ e. tells (first_of x len i) (says x len i) (sym (has-is x len i) ∙ e), λ s. has-is x len i ∙ ap has_by ((first-none-exactly x len i).1 s))
   where
-    tells : (r : First) → Says x len i r → has_by r ≡ has-message.No → Good x len × (i < x.table.n) × NoneBefore x i x.pool.count
-    tells (first.At q) s e = absurd (let z : ◌≡◌ {A = ℕ} 0 1 = cc in omega arith)
-    tells first.None s e = s
-    tells (first.NotAsked why) s e = absurd (let z : ◌≡◌ {A = ℕ} 0 1 = cc in omega arith)
+    tells : (r : First) → Says x len i r → has_by r ≡ Ok false → Good x len × (i < x.table.n) × NoneBefore x i x.pool.count
+    tells (Ok (Some q)) s e = absurd (let z : ◌≡◌ {A = ℕ} 0 1 = cc in omega arith)
+    tells (Ok None) s e = s
+    tells (Err why) s e = absurd (let z : ◌≡◌ {A = ℕ} 0 1 = cc in omega arith)
 
 -- ---- the numbers
 
 module _ (x : Counted) (len i : ℕ) where
-  has-number : has_number (has_of x len i) ≡ first_number (first_of x len i)
-  has-number = ap has_number (has-is x len i) ∙ go (first_of x len i)
+  has-number : said_number (has_of x len i) ≡ said_number (first_of x len i)
+  has-number = ap said_number (has-is x len i) ∙ go (first_of x len i)
     where
-      go : (r : First) → has_number (has_by r) ≡ first_number r
-      go (first.At q) = refl
-      go first.None = refl
-      go (first.NotAsked why) = refl
+      go : (r : First) → said_number (has_by r) ≡ said_number r
+      go (Ok r) = refl
+      go (Err why) = refl
 
-  first-ten : (first_number (first_of x len i) ≡ 10) ↔ (Good x len → ⊥)
-  first-ten = (go (first_of x len i) (says x len i), λ bad. ap first_number (first-bad x len i bad))
+  first-ten : (said_number (first_of x len i) ≡ 10) ↔ (Good x len → ⊥)
+  first-ten = (go (first_of x len i) (says x len i), λ bad. ap said_number (first-bad x len i bad))
     where
-      go : (r : First) → Says x len i r → first_number r ≡ 10 → Good x len → ⊥
-      go (first.At q) s e = absurd (omega arith)
-      go first.None s e = absurd (omega arith)
-      go (first.NotAsked why) (inl s) e = s.1
-      go (first.NotAsked why) (inr s) e = absurd (omega (arith, ap refusal_number s.0))
+      go : (r : First) → Says x len i r → said_number r ≡ 10 → Good x len → ⊥
+      go (Ok r) s e = absurd (omega arith)
+      go (Err why) (inl s) e = s.1
+      go (Err why) (inr s) e = absurd (omega (arith, ap refusal_number s.0))
 
-  first_one : (first_number (first_of x len i) ≡ 1) ↔ (Good x len × (x.table.n ≤ i))
-  first_one = (go (first_of x len i) (says x len i), λ (g, h). ap first_number (first_past x len i g h))
+  first_one : (said_number (first_of x len i) ≡ 1) ↔ (Good x len × (x.table.n ≤ i))
+  first_one = (go (first_of x len i) (says x len i), λ (g, h). ap said_number (first_past x len i g h))
     where
-      go : (r : First) → Says x len i r → first_number r ≡ 1 → Good x len × (x.table.n ≤ i)
-      go (first.At q) s e = absurd (omega arith)
-      go first.None s e = absurd (omega arith)
-      go (first.NotAsked why) (inl s) e = absurd (omega (arith, ap refusal_number s.0))
-      go (first.NotAsked why) (inr s) e = (s.1, s.2)
+      go : (r : First) → Says x len i r → said_number r ≡ 1 → Good x len × (x.table.n ≤ i)
+      go (Ok r) s e = absurd (omega arith)
+      go (Err why) (inl s) e = absurd (omega (arith, ap refusal_number s.0))
+      go (Err why) (inr s) e = (s.1, s.2)
 
-  polled-ten : (polled_number (polled_of x len) ≡ 10) ↔ (Good x len → ⊥)
+  polled-ten : (said_number (polled_of x len) ≡ 10) ↔ (Good x len → ⊥)
   unfolding polled_of
-  polled-ten = (go (is_sound_counted x len) refl, λ bad. ap polled_number (sym (polled-invalid x len (not-counted x len bad))))
+  polled-ten = (go (is_sound_counted x len) refl, λ bad. ap said_number (sym (polled-invalid x len (not-counted x len bad))))
     where
       go : (b : Bool) → is_sound_counted x len ≡ b
-          → polled_number (cond b (polled.Nodes (gather x.table.n (λ j. ltb 0 (count_at x.counts j)))) (polled.NotAsked no.Invalid)) ≡ 10
+          → said_number (cond b (Ok (gather x.table.n (λ j. ltb 0 (count_at x.counts j)))) (Err no.Invalid)) ≡ 10
           → Good x len → ⊥
       go true e h = absurd (omega arith)
       go false e h = not_good x len e

@@ -6,10 +6,8 @@ use mathlib.Core.List.{List, [], ◌∷◌, ◌++◌}
 use Prim.Native.Nat.{ℕ}
 use lib.ListN.{replicate}
 use Rattle.ring.specs.Distance.{fall_of, signed_of, abs_dist_of, rises_to, nearer, left_cover_of, right_cover_of, covers_key}
-use Rattle.marks.specs.declared.Found.TheVariants.{At, Nothing}
-use Rattle.marks.specs.Marks.{has, gather, tally, first_to, all_to, single, union, meet, without, add_of, remove_of, size_of, lowest_of, listed}
+use Rattle.marks.specs.Marks.{has, gather, tally, first_to, all_to, single, union, meet, without, add_of, remove_of, size_of, lowest_of, listed, Found}
 use Rattle.rules.specs.declared.Action.TheVariants.{Lookup, Deliver, Forward}
-use Rattle.rules.specs.declared.Answer.TheVariants.{Refused}
 use Rattle.rules.specs.declared.Pool.{Pool}
 use Rattle.rules.specs.declared.Refusal.TheVariants as no
 use Rattle.rules.specs.declared.Via.TheVariants.{Leaf, Unrouted}
@@ -35,14 +33,12 @@ use Rattle.step.specs.Step.{is_sound, step_of}
 use Rattle.table.specs.Valid.{nodes_fit, messages_fit, pool_fits, valid_of}
 use Rattle.words.specs.Bytes.{bytes_of, number_of, encode, decode, encode_all, decode_all}
 use Rattle.file.specs.Load.{header_fits, offsets_fit, statuses_fit, file_table, part_pool, file_pool, load_of}
-use Rattle.face.specs.declared.Rest.TheVariants as rest
 use Rattle.face.specs.Asked.{start_step}
 use Rattle.counts.specs.declared.Counted.{Counted}
-use Rattle.counts.specs.declared.Has.TheVariants as has-message
-use Rattle.counts.specs.declared.First.TheVariants as first
-use Rattle.counts.specs.declared.Polled.TheVariants as polled
 use Rattle.counts.specs.Counts.{count_for, numbers_to, counts_of, agree_of, is_sound_counted, after_by, step_with, load_with, start_with}
-use Rattle.counts.specs.Counts.{wrote_with, written_with, rest_with, has_of, first_for, first_of, polled_of, has_number, first_number, polled_number}
+use Rattle.counts.specs.Counts.{wrote_with, written_with, rest_with, has_of, first_for, first_of, polled_of}
+use Rattle.file.specs.Write.{said_number}
+use Rattle.std.specs.Prelude.{Bool, true, false, Ok, Err, Some, None}
 
 abbrev three : Pool
 three = laid (placed (lookup 80) 2 ∷ placed (lookup 200) 0 ∷ placed (lookup 9) 2 ∷ [])
@@ -67,15 +63,15 @@ pub last-disagrees : agree_of ((1 ∷ 0 ∷ 2 ∷ []) ++ (replicate 60 0 ++ (1 �
 unfolding agree_of all_to count_for tally
 last-disagrees = refl
 
-pub first-of-two : first_for (waiting three) 2 ≡ At 0
+pub first-of-two : first_for (waiting three) 2 ≡ Some 0
 unfolding first_for first_to
 first-of-two = refl
 
-pub first-behind : first_for (waiting three) 0 ≡ At 1
+pub first-behind : first_for (waiting three) 0 ≡ Some 1
 unfolding first_for first_to
 first-behind = refl
 
-pub none-for-one : first_for (waiting three) 1 ≡ Nothing
+pub none-for-one : first_for (waiting three) 1 ≡ None
 unfolding first_for first_to
 none-for-one = refl
 
@@ -108,39 +104,39 @@ quiet =
     ++ word 17 ++ word 3 ++ wide 0 ++ wide 0 ++ wide 0 ++ wide 0 ++ wide 1 ++ wide 1 ++ wide 1
 
 pub record Answers : Type 0 where
-  pub has_one : has_of here 256 0 ≡ has-message.Yes
-  pub has-none : has_of here 256 1 ≡ has-message.No
+  pub has_one : has_of here 256 0 ≡ Ok true
+  pub has-none : has_of here 256 1 ≡ Ok false
   -- 1 for a slot out of range; 10 comes before it
-  pub has-no-slot : has_of here 256 3 ≡ has-message.NotAsked no.OutOfRange
-  pub has-wrong : has_of wrong 256 3 ≡ has-message.NotAsked no.Invalid
-  pub has-no-list : has_of here 255 3 ≡ has-message.NotAsked no.Invalid
-  pub first_one : first_of here 256 0 ≡ first.At 1
-  pub first-none : first_of here 256 1 ≡ first.None
-  pub first-no-slot : first_of here 256 3 ≡ first.NotAsked no.OutOfRange
-  pub first-wrong : first_of wrong 256 3 ≡ first.NotAsked no.Invalid
-  pub polled-two : polled_of here 256 ≡ polled.Nodes 5
-  pub polled-one : polled_of one 256 ≡ polled.Nodes 4
-  pub polled-wrong : polled_of wrong 256 ≡ polled.NotAsked no.Invalid
+  pub has-no-slot : has_of here 256 3 ≡ Err no.OutOfRange
+  pub has-wrong : has_of wrong 256 3 ≡ Err no.Invalid
+  pub has-no-list : has_of here 255 3 ≡ Err no.Invalid
+  pub first_one : first_of here 256 0 ≡ Ok (Some 1)
+  pub first-none : first_of here 256 1 ≡ Ok None
+  pub first-no-slot : first_of here 256 3 ≡ Err no.OutOfRange
+  pub first-wrong : first_of wrong 256 3 ≡ Err no.Invalid
+  pub polled-two : polled_of here 256 ≡ Ok 5
+  pub polled-one : polled_of one 256 ≡ Ok 4
+  pub polled-wrong : polled_of wrong 256 ≡ Err no.Invalid
   -- counts that disagree: no step, no file, no word of settled
-  pub step-wrong : (step_with wrong 256 (Lookup 0 80)).answer ≡ Refused no.Invalid
-  pub wrote-wrong : (wrote_with wrong 256 []).answer ≡ Refused no.Invalid
+  pub step-wrong : (step_with wrong 256 (Lookup 0 80)).answer ≡ Err no.Invalid
+  pub wrote-wrong : wrote_with wrong 256 [] ≡ Err no.Invalid
   pub written-wrong : written_with wrong 256 (7 ∷ []) ≡ 7 ∷ []
-  pub rest-wrong : rest_with wrong 256 ≡ rest.NotAsked no.Invalid
+  pub rest-wrong : rest_with wrong 256 ≡ Err no.Invalid
   -- a load and a start work them out; a refusal leaves them
   pub loaded : (load_with quiet wrong 256).counted.counts ≡ replicate 64 0
   pub started : (start_with wrong 256 8 1 (17 ∷ []) 1).counted.counts ≡ replicate 64 0
   pub not-loaded : (load_with [] wrong 256).counted.counts ≡ wrong.counts
   -- the numbers
-  pub has-yes-is-0 : has_number has-message.Yes ≡ 0
-  pub has-no-is-0 : has_number has-message.No ≡ 0
-  pub has-out-is-1 : has_number (has-message.NotAsked no.OutOfRange) ≡ 1
-  pub has-invalid-is-10 : has_number (has-message.NotAsked no.Invalid) ≡ 10
-  pub first-at-is-0 : first_number (first.At 3) ≡ 0
-  pub first-none-is-0 : first_number first.None ≡ 0
-  pub first-out-is-1 : first_number (first.NotAsked no.OutOfRange) ≡ 1
-  pub first-invalid-is-10 : first_number (first.NotAsked no.Invalid) ≡ 10
-  pub polled-nodes-is-0 : polled_number (polled.Nodes 5) ≡ 0
-  pub polled-invalid-is-10 : polled_number (polled.NotAsked no.Invalid) ≡ 10
+  pub has-yes-is-0 : said_number (Ok true) ≡ 0
+  pub has-no-is-0 : said_number (Ok false) ≡ 0
+  pub has-out-is-1 : said_number {A = Bool} (Err no.OutOfRange) ≡ 1
+  pub has-invalid-is-10 : said_number {A = Bool} (Err no.Invalid) ≡ 10
+  pub first-at-is-0 : said_number {A = Found} (Ok (Some 3)) ≡ 0
+  pub first-none-is-0 : said_number {A = Found} (Ok None) ≡ 0
+  pub first-out-is-1 : said_number {A = Found} (Err no.OutOfRange) ≡ 1
+  pub first-invalid-is-10 : said_number {A = Found} (Err no.Invalid) ≡ 10
+  pub polled-nodes-is-0 : said_number {A = ℕ} (Ok 5) ≡ 0
+  pub polled-invalid-is-10 : said_number {A = ℕ} (Err no.Invalid) ≡ 10
 
 pub answers : Answers
 unfolding fall_of has gather tally first_to all_to single meet add_of remove_of size_of listed closest numbers_fit id_fits side_fits leaf_fits

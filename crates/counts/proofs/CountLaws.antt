@@ -11,10 +11,8 @@ use borrow.Author.Tests.{eqb-true, eq-eqb}
 use lib.Dec.{eqb}
 use lib.ListN.{get_or, length, length-append, get_or-append}
 use lib.Seq.{get_or_at}
-use Rattle.marks.specs.declared.Found.{Found}
-use Rattle.marks.specs.declared.Found.TheVariants.{At, Nothing}
 use Rattle.marks.proofs.Bools.{clash}
-use Rattle.marks.specs.Marks.{tally, first_to}
+use Rattle.marks.specs.Marks.{tally, first_to, Found}
 use Rattle.marks.proofs.Laws.{tally-same, tally-none, tally-zero, first-none, first-nothing, first-same, each, all_of}
 use Rattle.rules.specs.declared.Message.{Message}
 use Rattle.rules.specs.declared.Pool.{Pool}
@@ -24,8 +22,8 @@ use Rattle.pool_laws.proofs.Laws.{waiting-at}
 use Rattle.rules.specs.declared.Action.{Action}
 use Rattle.rules.specs.declared.Refusal.TheVariants as no
 use Rattle.step.specs.Step.{step_of}
-use Rattle.file.specs.Write.{not_written, wrote_of, written_of}
-use Rattle.face.specs.declared.Rest.TheVariants.{NotAsked}
+use Rattle.std.specs.Prelude.{Err, Some, None}
+use Rattle.file.specs.Write.{wrote_of, written_of}
 use Rattle.face.specs.Asked.{rest_of}
 use Rattle.counts.specs.declared.Counted.{Counted}
 use Rattle.counts.specs.Counts.{after_by, refused_with, step_with, wrote_with, written_with, rest_with}
@@ -54,12 +52,12 @@ counts-at p i h = numbers-at 64 (count_for (waiting p)) i h
 -- ---- a count, and a walk for the first
 
 module _ (xs : List Message) (i : ℕ) where
-  pub count_none : count_for xs i ≡ 0 → first_for xs i ≡ Nothing
+  pub count_none : count_for xs i ≡ 0 → first_for xs i ≡ None
   unfolding count_for first_for
   count_none e = first-nothing (length xs) (is_for xs i) (λ q h. tally-zero (length xs) (is_for xs i) q e h)
 
   -- the way back
-  pub none-count : first_for xs i ≡ Nothing → count_for xs i ≡ 0
+  pub none-count : first_for xs i ≡ None → count_for xs i ≡ 0
   unfolding count_for first_for
   none-count e = tally-none (length xs) (is_for xs i) (first-none (length xs) (is_for xs i) e)
 
@@ -67,14 +65,14 @@ module _ (xs : List Message) (i : ℕ) where
   count-some h = go (first_for xs i) refl
     where
       go : (r : Found) → first_for xs i ≡ r → is_found r ≡ true
-      go (At q) e = refl
-      go Nothing e = absurd (omega (arith, none-count e))
+      go (Some q) e = refl
+      go None e = absurd (omega (arith, none-count e))
 
   pub some-count : is_found (first_for xs i) ≡ true → 0 < count_for xs i
   some-count e = go (count_for xs i) refl
     where
       go : (n : ℕ) → count_for xs i ≡ n → 0 < n
-      go zero q = let z : is_found Nothing ≡ true = rw (count_none q) at e in absurd (clash (sym z))
+      go zero q = let z : is_found None ≡ true = rw (count_none q) at e in absurd (clash (sym z))
       go (suc n) q = omega arith
 
 -- ---- counts that agree
@@ -129,7 +127,7 @@ module _ (x : Counted) (len : ℕ) (e : agree_of x.counts x.pool ≡ false) wher
   unfolding step_with
   step-disagreed a = rw e
 
-  pub wrote-disagreed : (buf : List ℕ) → not_written no.Invalid ≡ wrote_with x len buf
+  pub wrote-disagreed : (buf : List ℕ) → Err no.Invalid ≡ wrote_with x len buf
   unfolding wrote_with
   wrote-disagreed buf = rw e
 
@@ -137,6 +135,6 @@ module _ (x : Counted) (len : ℕ) (e : agree_of x.counts x.pool ≡ false) wher
   unfolding written_with
   written-disagreed buf = rw e
 
-  pub rest-disagreed : NotAsked no.Invalid ≡ rest_with x len
+  pub rest-disagreed : Err no.Invalid ≡ rest_with x len
   unfolding rest_with
   rest-disagreed = rw e

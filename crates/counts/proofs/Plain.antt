@@ -8,21 +8,18 @@ use Prim.Native.Nat.{ℕ}
 use native.Mathlib.Omega.{arith}
 use Rattle.marks.proofs.Bools.{opposed, true-not, false-not}
 use Rattle.rules.specs.declared.Action.{Action}
-use Rattle.rules.specs.declared.Answer.TheVariants.{Refused}
 use Rattle.rules.specs.declared.Pool.{Pool}
 use Rattle.rules.specs.declared.Refusal.TheVariants as no
 use Rattle.rules.specs.Numbers.{answer_number}
 use Rattle.rules.specs.Pool.{waiting, laid}
-use Rattle.table.specs.Settled.{is_settled}
 use Rattle.step.specs.Step.{is_sound, step_of}
 use Rattle.pool_laws.proofs.Laws.{waiting-laid}
 use Rattle.table_laws.proofs.Sound.{is-valid}
-use Rattle.file.specs.declared.Wrote.{Wrote}
+use Rattle.std.specs.Prelude.{Err}
 use Rattle.file.proofs.Exactly.{write-exactly, write-leaves}
 use Rattle.file.proofs.Theorems.{load-of-file}
-use Rattle.file.specs.Write.{not_written, wrote_of, written_of}
-use Rattle.face.specs.declared.Rest.TheVariants.{Settled, Unsettled, NotAsked}
-use Rattle.face.specs.Asked.{rest_of, rest_number}
+use Rattle.file.specs.Write.{said_number, wrote_of, written_of}
+use Rattle.face.specs.Asked.{rest_of}
 use Rattle.counts.specs.declared.After.{After}
 use Rattle.counts.specs.declared.Counted.{Counted}
 use Rattle.counts.specs.Counts.{count_for, agree_of, after_by, step_with, load_with, start_with, wrote_with, written_with, rest_with}
@@ -104,7 +101,7 @@ module _ (x : Counted) (len : ℕ) (buf : List ℕ) where
   write-agrees : agree_of x.counts x.pool ≡ true → WritePlain
   write-agrees e = (sym (wrote-agreed x len e buf), sym (written-agreed x len e buf))
 
-  write-disagrees : agree_of x.counts x.pool ≡ false → (wrote_with x len buf ≡ not_written no.Invalid) × (written_with x len buf ≡ buf)
+  write-disagrees : agree_of x.counts x.pool ≡ false → (wrote_with x len buf ≡ Err no.Invalid) × (written_with x len buf ≡ buf)
   write-disagrees e = (sym (wrote-disagreed x len e buf), sym (written-disagreed x len e buf))
 
   write-unsound : is_sound x.table x.pool len ≡ false → WritePlain
@@ -118,27 +115,24 @@ module _ (x : Counted) (len : ℕ) (buf : List ℕ) where
 pub write-as-plain : WriteAsPlain
 write-as-plain x len buf = by-true x len (WritePlain x len buf) (write-agrees x len buf) (write-unsound x len buf)
 
-abbrev wrote_number : Wrote → ℕ
-wrote_number w = answer_number w.answer
-
 pub write-invalid-exactly : WriteInvalidExactly
-write-invalid-exactly x len buf = (tells, by-bad x len _ unsound (λ e. ap wrote_number (write-disagrees x len buf e).0))
+write-invalid-exactly x len buf = (tells, by-bad x len _ unsound (λ e. ap said_number (write-disagrees x len buf e).0))
   where
-    tells : answer_number (wrote_with x len buf).answer ≡ 10 → Good x len → ⊥
+    tells : said_number (wrote_with x len buf) ≡ 10 → Good x len → ⊥
     tells e good =
         let same = (write-as-plain x len buf good.agrees).0 in
-        opposed ((write-exactly x.table x.pool len buf).ten.0 (sym (ap wrote_number same) ∙ e)) (true-not good.sound)
+        opposed ((write-exactly x.table x.pool len buf).ten.0 (sym (ap said_number same) ∙ e)) (true-not good.sound)
 
-    unsound : is_sound x.table x.pool len ≡ false → answer_number (wrote_with x len buf).answer ≡ 10
-    unsound e = ap wrote_number (write-unsound x len buf e).0 ∙ (write-exactly x.table x.pool len buf).ten.1 (false-not e)
+    unsound : is_sound x.table x.pool len ≡ false → said_number (wrote_with x len buf) ≡ 10
+    unsound e = ap said_number (write-unsound x len buf e).0 ∙ (write-exactly x.table x.pool len buf).ten.1 (false-not e)
 
 pub write-refused-keeps : WriteRefusedKeeps
 unfolding wrote_with written_with
 write-refused-keeps x len buf why = go (agree_of x.counts x.pool)
   where
-    go : (b : Bool) → (cond b (wrote_of x.table x.pool len buf) (not_written no.Invalid)).answer ≡ Refused why
+    go : (b : Bool) → cond b (wrote_of x.table x.pool len buf) (Err no.Invalid) ≡ Err why
         → cond b (written_of x.table x.pool len buf) buf ≡ buf
-    go true e = (write-leaves x.table x.pool len buf why e).1
+    go true e = write-leaves x.table x.pool len buf why e
     go false e = refl
 
 -- ---- asking whether the table is settled
@@ -147,37 +141,33 @@ module _ (x : Counted) (len : ℕ) where
   rest-agrees : agree_of x.counts x.pool ≡ true → rest_with x len ≡ rest_of x.table x.pool len
   rest-agrees e = sym (rest-agreed x len e)
 
-  rest-disagrees : agree_of x.counts x.pool ≡ false → rest_with x len ≡ NotAsked no.Invalid
+  rest-disagrees : agree_of x.counts x.pool ≡ false → rest_with x len ≡ Err no.Invalid
   rest-disagrees e = sym (rest-disagreed x len e)
 
-  rest-of-unsound : is_sound x.table x.pool len ≡ false → rest_of x.table x.pool len ≡ NotAsked no.Invalid
+  rest-of-unsound : is_sound x.table x.pool len ≡ false → rest_of x.table x.pool len ≡ Err no.Invalid
   unfolding rest_of
   rest-of-unsound e = rw e
 
-  rest-unsound : is_sound x.table x.pool len ≡ false → rest_with x len ≡ NotAsked no.Invalid
+  rest-unsound : is_sound x.table x.pool len ≡ false → rest_with x len ≡ Err no.Invalid
   rest-unsound e = go (agree_of x.counts x.pool) refl
     where
-      go : (b : Bool) → agree_of x.counts x.pool ≡ b → rest_with x len ≡ NotAsked no.Invalid
+      go : (b : Bool) → agree_of x.counts x.pool ≡ b → rest_with x len ≡ Err no.Invalid
       go true q = rest-agrees q ∙ rest-of-unsound e
       go false q = rest-disagrees q
 
-  rest-sound : is_sound x.table x.pool len ≡ true → rest_number (rest_of x.table x.pool len) ≡ 0
+  rest-sound : is_sound x.table x.pool len ≡ true → said_number (rest_of x.table x.pool len) ≡ 0
   unfolding rest_of
-  rest-sound e = rw e (go (is_settled x.table))
-    where
-      go : (b : Bool) → rest_number (cond b Settled Unsettled) ≡ 0
-      go true = refl
-      go false = refl
+  rest-sound e = rw e
 
 pub rest-as-plain : RestAsPlain
 rest-as-plain x len = by-true x len _ (rest-agrees x len) (λ e. rest-unsound x len e ∙ sym (rest-of-unsound x len e))
 
 pub rest-invalid-exactly : RestInvalidExactly
 rest-invalid-exactly x len =
-    (tells, by-bad x len _ (λ e. ap rest_number (rest-unsound x len e)) (λ e. ap rest_number (rest-disagrees x len e)))
+    (tells, by-bad x len _ (λ e. ap said_number (rest-unsound x len e)) (λ e. ap said_number (rest-disagrees x len e)))
   where
-    tells : rest_number (rest_with x len) ≡ 10 → Good x len → ⊥
-    tells e good = omega (arith, ap rest_number (rest-as-plain x len good.agrees), rest-sound x len good.sound)
+    tells : said_number (rest_with x len) ≡ 10 → Good x len → ⊥
+    tells e good = omega (arith, ap said_number (rest-as-plain x len good.agrees), rest-sound x len good.sound)
 
 -- ---- the file has no counts, and loads back with the same
 

@@ -1,5 +1,7 @@
 -- The counts are true after each call, and the table is valid. The idea: in what a done call leaves, and in a valid table, each place that is counted
 -- is there, so that the counts that agree with what waits are those of the places. A refusal leaves all as it was. Assumes nothing.
+use Rattle.rules.specs.Shapes.{Answer}
+use Rattle.std.specs.Prelude.{Ok, Err}
 use mathlib.Core.Path.{◌≡◌, refl, sym, ◌∙◌, ap}
 use mathlib.Core.Bool.{Bool, true, false, cond}
 use mathlib.Core.List.{List, [], ◌∷◌}
@@ -8,8 +10,6 @@ use native.Mathlib.Omega.{arith}
 use lib.Dec.{eqb}
 use lib.ListN.{length}
 use Rattle.marks.proofs.Bools.{and_left, and_right, and_both}
-use Rattle.rules.specs.declared.Answer.{Answer}
-use Rattle.rules.specs.declared.Answer.TheVariants.{Done, Refused}
 use Rattle.rules.specs.declared.Pool.{Pool}
 use Rattle.rules.specs.declared.Refusal.{Refusal}
 use Rattle.rules.specs.declared.Refusal.TheVariants as no
@@ -35,7 +35,7 @@ use Rattle.counts.proofs.CountLaws.{counts-at, agree_at, agree_of_lem, waiting-c
 use Rattle.counts.specs.Claims.{TrueCounts, Good, Call, made, after_calls}
 use Rattle.counts.specs.Claims.{TrueAfter, GoodAfter, SoundExactly, RefusedKeeps, StayTrue}
 
-never : {why : Refusal} → Refused why ≡ Done → ⊥
+never : {why : Refusal} → ◌≡◌ {A = Answer} (Err why) (Ok tt) → ⊥
 never e = let z : ◌≡◌ {A = ℕ} 0 1 = cc in omega arith
 
 -- ---- counts that agree are true
@@ -81,13 +81,13 @@ start-step-valid t p len m l ids a = go (eqb len 256) (start_of m l ids a).answe
   where
     go : (b : Bool) (w : Answer) → (start_of m l ids a).answer ≡ w
         → ValidDone (cond b (began w (start_of m l ids a).table t p) (refused_of t p no.Invalid))
-    go true Done q e = start-valid m l ids a q
-    go true (Refused why) q e = absurd (never e)
+    go true (Ok tt) q e = start-valid m l ids a q
+    go true (Err why) q e = absurd (never e)
     go false w q e = absurd (never e)
 
 -- ---- and has true counts
 
-after-good : (c : List ℕ) (r : Stepped) → Neat r → ValidDone r → (after_by c r).answer ≡ Done → Good (after_by c r).counted 256
+after-good : (c : List ℕ) (r : Stepped) → Neat r → ValidDone r → (after_by c r).answer ≡ Ok tt → Good (after_by c r).counted 256
 unfolding after_by
 after-good c r neat valid e =
     record {
@@ -99,7 +99,7 @@ pub good-after : GoodAfter
 unfolding step_with load_with start_with
 good-after x (Call.step len a) = go (agree_of x.counts x.pool)
   where
-    go : (b : Bool) → let r = cond b (after_by x.counts (step_of x.table x.pool len a)) (refused_with x no.Invalid) in r.answer ≡ Done
+    go : (b : Bool) → let r = cond b (after_by x.counts (step_of x.table x.pool len a)) (refused_with x no.Invalid) in r.answer ≡ Ok tt
         → Good r.counted 256
     go true e =
         after-good x.counts (step_of x.table x.pool len a) (step-neat x.table x.pool len a)
@@ -117,8 +117,8 @@ true-after x c e = (good-after x c e).agrees
 
 -- ---- what a refused call leaves
 
-after-keeps : (x : Counted) (r : Stepped) (why : Refusal) → (r.answer ≡ Refused why → r ≡ refused_of x.table x.pool why)
-    → (after_by x.counts r).answer ≡ Refused why → (after_by x.counts r).counted ≡ x
+after-keeps : (x : Counted) (r : Stepped) (why : Refusal) → (r.answer ≡ Err why → r ≡ refused_of x.table x.pool why)
+    → (after_by x.counts r).answer ≡ Err why → (after_by x.counts r).counted ≡ x
 unfolding after_by
 after-keeps x r why keeps e = rw (keeps e)
 
@@ -126,7 +126,7 @@ pub refused-keeps : RefusedKeeps
 unfolding step_with load_with start_with
 refused-keeps x (Call.step len a) why = go (agree_of x.counts x.pool)
   where
-    go : (b : Bool) → let r = cond b (after_by x.counts (step_of x.table x.pool len a)) (refused_with x no.Invalid) in r.answer ≡ Refused why
+    go : (b : Bool) → let r = cond b (after_by x.counts (step_of x.table x.pool len a)) (refused_with x no.Invalid) in r.answer ≡ Err why
         → r.counted ≡ x
     go true e = after-keeps x (step_of x.table x.pool len a) why (refusal-keeps x.table x.pool len a why) e
     go false e = refl
@@ -141,8 +141,8 @@ stays : (x : Counted) (c : Call) → TrueCounts x → TrueCounts (made x c).coun
 stays x c f = go (made x c).answer refl
   where
     go : (w : Answer) → (made x c).answer ≡ w → TrueCounts (made x c).counted
-    go Done e = true-after x c e
-    go (Refused why) e = rw (refused-keeps x c why e) f
+    go (Ok tt) e = true-after x c e
+    go (Err why) e = rw (refused-keeps x c why e) f
 
 pub stay-true : StayTrue
 unfolding after_calls

@@ -1,9 +1,8 @@
 -- T-06: sentence by sentence, in plain equations. Only statements: the proofs are named in Proved. Assumes nothing.
-use Rattle.std.specs.Prelude.{◌≡◌, true, List, [], ◌∷◌, ◌↔◌, ℕ, ◌<◌, ◌≤◌, eqb, get_or}
+use Rattle.std.specs.Prelude.{◌≡◌, true, false, List, [], ◌∷◌, ◌↔◌, ℕ, ◌<◌, ◌≤◌, eqb, get_or, Ok, Err, Some, None}
 use Rattle.marks.specs.Marks.{has, tally}
 use Rattle.rules.specs.Names.{Slot, Marks, Ids, Place}
 use Rattle.rules.specs.declared.Action.{Action}
-use Rattle.rules.specs.declared.Answer.TheVariants.{Done, Refused}
 use Rattle.rules.specs.declared.Refusal.{Refusal}
 use Rattle.rules.specs.Numbers.{answer_number}
 use Rattle.rules.specs.Pool.{message_at}
@@ -12,15 +11,12 @@ use Rattle.step.specs.Step.{is_sound, step_of}
 use Rattle.file.specs.Format.{file_of}
 use Rattle.file.specs.Held.{Held}
 use Rattle.file.specs.Load.{load_of}
-use Rattle.file.specs.Write.{wrote_of, written_of}
-use Rattle.face.specs.Asked.{start_step, rest_of, rest_number}
+use Rattle.file.specs.Write.{said_number, wrote_of, written_of}
+use Rattle.face.specs.Asked.{start_step, rest_of}
 use Rattle.counts.specs.declared.Counted.{Counted}
 use Rattle.counts.specs.declared.After.{After}
-use Rattle.counts.specs.declared.Has.TheVariants as has-message
-use Rattle.counts.specs.declared.First.TheVariants as first
-use Rattle.counts.specs.declared.Polled.TheVariants as polled
 use Rattle.counts.specs.Counts.{is_sound_counted, step_with, load_with, start_with, wrote_with, written_with, rest_with}
-use Rattle.counts.specs.Counts.{has_of, first_of, polled_of, has_number, first_number, polled_number}
+use Rattle.counts.specs.Counts.{has_of, first_of, polled_of}
 
 -- ---- the counts
 
@@ -58,11 +54,11 @@ after_calls x (c ∷ cs) = after_calls (made x c).counted cs
 
 -- "true after every step, load and start"
 abbrev pub TrueAfter : Type 0
-TrueAfter = (x : Counted) (c : Call) → (made x c).answer ≡ Done → TrueCounts (made x c).counted
+TrueAfter = (x : Counted) (c : Call) → (made x c).answer ≡ Ok tt → TrueCounts (made x c).counted
 
 -- and the table is valid, with these counts and a list of 256 places
 abbrev pub GoodAfter : Type 0
-GoodAfter = (x : Counted) (c : Call) → (made x c).answer ≡ Done → Good (made x c).counted 256
+GoodAfter = (x : Counted) (c : Call) → (made x c).answer ≡ Ok tt → Good (made x c).counted 256
 
 -- "Validity gains: the counts agree with the pool."
 abbrev pub SoundExactly : Type 0
@@ -70,7 +66,7 @@ SoundExactly = (x : Counted) (len : ℕ) → (is_sound_counted x len ≡ true) �
 
 -- a refusal changes nothing
 abbrev pub RefusedKeeps : Type 0
-RefusedKeeps = (x : Counted) (c : Call) (why : Refusal) → (made x c).answer ≡ Refused why → (made x c).counted ≡ x
+RefusedKeeps = (x : Counted) (c : Call) (why : Refusal) → (made x c).answer ≡ Err why → (made x c).counted ≡ x
 
 -- true counts stay true, whatever is called and answered
 abbrev pub StayTrue : Type 0
@@ -101,22 +97,22 @@ StartAsPlain = (x : Counted) (len m l : ℕ) (ids : Ids) (a : Marks) → Same x 
 -- the file of a valid table with true counts loads back, and with the same counts
 abbrev pub LoadsBack : Type 0
 LoadsBack = (x y : Counted) → Held x.table x.pool → Good x 256
-    → ((load_with (file_of x.table x.pool) y 256).answer ≡ Done)
+    → ((load_with (file_of x.table x.pool) y 256).answer ≡ Ok tt)
     × ((i : Slot) → i < 64 → get_or (load_with (file_of x.table x.pool) y 256).counted.counts i 0 ≡ get_or x.counts i 0)
 
 -- writing, and asking whether the table is settled: 10 exactly as for a step, and else as without counts
 abbrev pub WriteInvalidExactly : Type 0
-WriteInvalidExactly = (x : Counted) (len : ℕ) (buf : List ℕ) → (answer_number (wrote_with x len buf).answer ≡ 10) ↔ (Good x len → ⊥)
+WriteInvalidExactly = (x : Counted) (len : ℕ) (buf : List ℕ) → (said_number (wrote_with x len buf) ≡ 10) ↔ (Good x len → ⊥)
 
 abbrev pub WriteAsPlain : Type 0
 WriteAsPlain = (x : Counted) (len : ℕ) (buf : List ℕ) → TrueCounts x
     → (wrote_with x len buf ≡ wrote_of x.table x.pool len buf) × (written_with x len buf ≡ written_of x.table x.pool len buf)
 
 abbrev pub WriteRefusedKeeps : Type 0
-WriteRefusedKeeps = (x : Counted) (len : ℕ) (buf : List ℕ) (why : Refusal) → (wrote_with x len buf).answer ≡ Refused why → written_with x len buf ≡ buf
+WriteRefusedKeeps = (x : Counted) (len : ℕ) (buf : List ℕ) (why : Refusal) → wrote_with x len buf ≡ Err why → written_with x len buf ≡ buf
 
 abbrev pub RestInvalidExactly : Type 0
-RestInvalidExactly = (x : Counted) (len : ℕ) → (rest_number (rest_with x len) ≡ 10) ↔ (Good x len → ⊥)
+RestInvalidExactly = (x : Counted) (len : ℕ) → (said_number (rest_with x len) ≡ 10) ↔ (Good x len → ⊥)
 
 abbrev pub RestAsPlain : Type 0
 RestAsPlain = (x : Counted) (len : ℕ) → TrueCounts x → rest_with x len ≡ rest_of x.table x.pool len
@@ -135,31 +131,31 @@ NoneBefore x i q = (r : Place) → r < q → WaitsAt x i r → ⊥
 -- "10, before anything else"
 abbrev pub AskedInvalidExactly : Type 0
 AskedInvalidExactly = (x : Counted) (len : ℕ) (i : Slot)
-    → ((has_number (has_of x len i) ≡ 10) ↔ (Good x len → ⊥)) × ((first_number (first_of x len i) ≡ 10) ↔ (Good x len → ⊥))
-    × ((polled_number (polled_of x len) ≡ 10) ↔ (Good x len → ⊥))
+    → ((said_number (has_of x len i) ≡ 10) ↔ (Good x len → ⊥)) × ((said_number (first_of x len i) ≡ 10) ↔ (Good x len → ⊥))
+    × ((said_number (polled_of x len) ≡ 10) ↔ (Good x len → ⊥))
 
 -- "1 for a slot out of range"
 abbrev pub AskedOutOfRangeExactly : Type 0
 AskedOutOfRangeExactly = (x : Counted) (len : ℕ) (i : Slot)
-    → ((has_number (has_of x len i) ≡ 1) ↔ (Good x len × (x.table.n ≤ i))) × ((first_number (first_of x len i) ≡ 1) ↔ (Good x len × (x.table.n ≤ i)))
+    → ((said_number (has_of x len i) ≡ 1) ↔ (Good x len × (x.table.n ≤ i))) × ((said_number (first_of x len i) ≡ 1) ↔ (Good x len × (x.table.n ≤ i)))
 
 -- "Both equal what a full walk says, and the second says "none" where there is none."
 abbrev pub HasExactly : Type 0
-HasExactly = (x : Counted) (len : ℕ) (i : Slot) → (has_of x len i ≡ has-message.Yes) ↔ (Good x len × (i < x.table.n) × ((q : Place) × WaitsAt x i q))
+HasExactly = (x : Counted) (len : ℕ) (i : Slot) → (has_of x len i ≡ Ok true) ↔ (Good x len × (i < x.table.n) × ((q : Place) × WaitsAt x i q))
 
 abbrev pub HasNotExactly : Type 0
-HasNotExactly = (x : Counted) (len : ℕ) (i : Slot) → (has_of x len i ≡ has-message.No) ↔ (Good x len × (i < x.table.n) × NoneBefore x i x.pool.count)
+HasNotExactly = (x : Counted) (len : ℕ) (i : Slot) → (has_of x len i ≡ Ok false) ↔ (Good x len × (i < x.table.n) × NoneBefore x i x.pool.count)
 
 abbrev pub FirstExactly : Type 0
-FirstExactly = (x : Counted) (len : ℕ) (i : Slot) (q : Place) → (first_of x len i ≡ first.At q) ↔ (Good x len × (i < x.table.n) × WaitsAt x i q × NoneBefore x i q)
+FirstExactly = (x : Counted) (len : ℕ) (i : Slot) (q : Place) → (first_of x len i ≡ Ok (Some q)) ↔ (Good x len × (i < x.table.n) × WaitsAt x i q × NoneBefore x i q)
 
 abbrev pub FirstNoneExactly : Type 0
-FirstNoneExactly = (x : Counted) (len : ℕ) (i : Slot) → (first_of x len i ≡ first.None) ↔ (Good x len × (i < x.table.n) × NoneBefore x i x.pool.count)
+FirstNoneExactly = (x : Counted) (len : ℕ) (i : Slot) → (first_of x len i ≡ Ok None) ↔ (Good x len × (i < x.table.n) × NoneBefore x i x.pool.count)
 
 -- asked at once for all nodes: exactly those that have a message
 abbrev pub PolledExactly : Type 0
 PolledExactly = (x : Counted) (len : ℕ) → Good x len
-    → (set : Marks) × (polled_of x len ≡ polled.Nodes set) × ((i : Slot) → (has set i ≡ true) ↔ ((i < x.table.n) × ((q : Place) × WaitsAt x i q)))
+    → (set : Marks) × (polled_of x len ≡ Ok set) × ((i : Slot) → (has set i ≡ true) ↔ ((i < x.table.n) × ((q : Place) × WaitsAt x i q)))
 
 -- "answered from the count": where the counts are true, node i has a message exactly if its count is not 0
 abbrev pub CountTells : Type 0

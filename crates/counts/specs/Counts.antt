@@ -1,36 +1,23 @@
 -- T-06: how many messages wait for each node, kept beside the pool, and what a display asks of them. Definitions only, each under the
 -- request's words. Assumes nothing.
-use Rattle.std.specs.Prelude.{Bool, cond, ◌&&◌, List, [], ◌∷◌, ◌++◌, ℕ, zero, suc, eqb, ltb, get_or, length}
-use Rattle.marks.specs.declared.Found.{Found}
-use Rattle.marks.specs.declared.Found.TheVariants.{At, Nothing}
-use Rattle.marks.specs.Marks.{gather, tally, all_to, first_to}
+use Rattle.rules.specs.Shapes.{Answer}
+use Rattle.std.specs.Prelude.{Bool, cond, ◌&&◌, List, [], ◌∷◌, ◌++◌, ℕ, zero, suc, eqb, ltb, get_or, length, Result, Ok, Err, None}
+use Rattle.marks.specs.Marks.{gather, tally, all_to, first_to, Found}
 use Rattle.rules.specs.Names.{Slot, Marks, Ids, Place}
 use Rattle.rules.specs.declared.Action.{Action}
-use Rattle.rules.specs.declared.Answer.{Answer}
-use Rattle.rules.specs.declared.Answer.TheVariants.{Done, Refused}
 use Rattle.rules.specs.declared.Message.{Message}
 use Rattle.rules.specs.declared.Pool.{Pool}
 use Rattle.rules.specs.declared.Refusal.{Refusal}
 use Rattle.rules.specs.declared.Refusal.TheVariants as no
 use Rattle.rules.specs.declared.Via.TheVariants.{Unrouted}
-use Rattle.rules.specs.Numbers.{refusal_number}
 use Rattle.rules.specs.Pool.{blank, waiting}
 use Rattle.table_type.specs.declared.Stepped.{Stepped}
 use Rattle.step.specs.Step.{is_sound, step_of}
-use Rattle.file.specs.declared.Wrote.{Wrote}
 use Rattle.file.specs.Load.{load_of}
-use Rattle.file.specs.Write.{not_written, wrote_of, written_of}
-use Rattle.face.specs.declared.Rest.{Rest}
-use Rattle.face.specs.declared.Rest.TheVariants.{NotAsked}
-use Rattle.face.specs.Asked.{start_step, rest_of}
+use Rattle.file.specs.Write.{Wrote, wrote_of, written_of}
+use Rattle.face.specs.Asked.{Rest, start_step, rest_of}
 use Rattle.counts.specs.declared.Counted.{Counted}
 use Rattle.counts.specs.declared.After.{After}
-use Rattle.counts.specs.declared.Has.{Has}
-use Rattle.counts.specs.declared.Has.TheVariants as has
-use Rattle.counts.specs.declared.First.{First}
-use Rattle.counts.specs.declared.First.TheVariants as first
-use Rattle.counts.specs.declared.Polled.{Polled}
-use Rattle.counts.specs.declared.Polled.TheVariants as polled
 
 -- ---- the counts
 
@@ -66,15 +53,15 @@ is_sound_counted x len = is_sound x.table x.pool len && agree_of x.counts x.pool
 
 -- the counts are "true after every step, load and start"; a refusal changes nothing
 abbrev pub counts_after : List ℕ → Answer → Pool → List ℕ
-counts_after c Done p = counts_of p
-counts_after c (Refused why) p = c
+counts_after c (Ok tt) p = counts_of p
+counts_after c (Err why) p = c
 
 -- and where the next hop came from is passed on (T-01)
 unfoldable pub after_by : List ℕ → Stepped → After
 after_by c r = record { answer = r.answer; counted = record { table = r.table; pool = r.pool; counts = counts_after c r.answer r.pool }; via = r.via }
 
 abbrev pub refused_with : Counted → Refusal → After
-refused_with x why = record { answer = Refused why; counted = x; via = Unrouted }
+refused_with x why = record { answer = Err why; counted = x; via = Unrouted }
 
 -- "10, before anything else as for any invalid table, for one handed in with counts that disagree with its pool"
 unfoldable pub step_with : Counted → ℕ → Action → After
@@ -89,53 +76,45 @@ start_with x len m l ids a = after_by x.counts (start_step x.table x.pool len m 
 
 -- writing is refused for them too; the file has no counts
 unfoldable pub wrote_with : Counted → ℕ → List ℕ → Wrote
-wrote_with x len buf = cond (agree_of x.counts x.pool) (wrote_of x.table x.pool len buf) (not_written no.Invalid)
+wrote_with x len buf = cond (agree_of x.counts x.pool) (wrote_of x.table x.pool len buf) (Err no.Invalid)
 
 unfoldable pub written_with : Counted → ℕ → List ℕ → List ℕ
 written_with x len buf = cond (agree_of x.counts x.pool) (written_of x.table x.pool len buf) buf
 
 -- and so is the question whether the table is settled
 unfoldable pub rest_with : Counted → ℕ → Rest
-rest_with x len = cond (agree_of x.counts x.pool) (rest_of x.table x.pool len) (NotAsked no.Invalid)
+rest_with x len = cond (agree_of x.counts x.pool) (rest_of x.table x.pool len) (Err no.Invalid)
 
 -- ---- what a display asks
+
+-- whether a node has a message, or why that was not looked at
+abbrev pub Has : Type 0
+Has = Result Bool Refusal
+
+-- the place of its first message, if it has one, or why that was not looked at
+abbrev pub First : Type 0
+First = Result Found Refusal
+
+-- the nodes that have a message, or why that was not looked at
+abbrev pub Polled : Type 0
+Polled = Result Marks Refusal
 
 -- ""Does node i have a message" is then answered from the count": 10 before anything else, then 1 for a slot out of range
 unfoldable pub has_of : Counted → ℕ → Slot → Has
 has_of x len i = cond (is_sound_counted x len)
-    (cond (ltb i x.table.n) (cond (ltb 0 (count_at x.counts i)) has.Yes has.No) (has.NotAsked no.OutOfRange))
-    (has.NotAsked no.Invalid)
+    (cond (ltb i x.table.n) (Ok (ltb 0 (count_at x.counts i))) (Err no.OutOfRange))
+    (Err no.Invalid)
 
 -- "where is its first": the first message for node i, as a walk finds it
 unfoldable pub first_for : List Message → Slot → Found
 first_for xs i = first_to (length xs) (is_for xs i)
 
-abbrev pub first_said : Found → First
-first_said (At q) = first.At q
-first_said Nothing = first.None
-
 -- it "does not look when the count is 0"; the numbers as above
 unfoldable pub first_of : Counted → ℕ → Slot → First
 first_of x len i = cond (is_sound_counted x len)
-    (cond (ltb i x.table.n) (cond (eqb (count_at x.counts i) 0) first.None (first_said (first_for (waiting x.pool) i))) (first.NotAsked no.OutOfRange))
-    (first.NotAsked no.Invalid)
+    (cond (ltb i x.table.n) (cond (eqb (count_at x.counts i) 0) (Ok None) (Ok (first_for (waiting x.pool) i))) (Err no.OutOfRange))
+    (Err no.Invalid)
 
 -- all nodes that have a message, asked at once
 unfoldable pub polled_of : Counted → ℕ → Polled
-polled_of x len = cond (is_sound_counted x len) (polled.Nodes (gather x.table.n (λ i. ltb 0 (count_at x.counts i)))) (polled.NotAsked no.Invalid)
-
--- ---- 01's numbers: 0 where it was looked at
-
-abbrev pub has_number : Has → ℕ
-has_number has.Yes = 0
-has_number has.No = 0
-has_number (has.NotAsked why) = refusal_number why
-
-abbrev pub first_number : First → ℕ
-first_number (first.At q) = 0
-first_number first.None = 0
-first_number (first.NotAsked why) = refusal_number why
-
-abbrev pub polled_number : Polled → ℕ
-polled_number (polled.Nodes set) = 0
-polled_number (polled.NotAsked why) = refusal_number why
+polled_of x len = cond (is_sound_counted x len) (Ok (gather x.table.n (λ i. ltb 0 (count_at x.counts i)))) (Err no.Invalid)

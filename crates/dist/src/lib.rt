@@ -20,7 +20,7 @@ pub fn fall(m: u32, x: u32, y: u32) -> u64
     requires { Inside m x y }
     ensures { result ≡ fall_of (2 ^ m) x y }
 {
-    let d = std::num::wrapping_sub_u32(x, y);
+    let d = x.wrapping_sub(y);
     (d as u64) % size(m)
 }
 
@@ -45,9 +45,7 @@ pub fn abs_dist(m: u32, x: u32, y: u32) -> u64
     requires { Inside m x y }
     ensures { result ≡ abs_dist_of (2 ^ m) x y }
 {
-    let f = fall(m, x, y);
-    let g = fall(m, y, x);
-    if f <= g { f } else { g }
+    fall(m, x, y).min(fall(m, y, x))
 }
 
 // Twice the distance of a from k, and one more where k is reached by falling: the smaller, the nearer.

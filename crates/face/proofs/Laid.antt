@@ -1,5 +1,7 @@
 -- A step, a load or a start that is done leaves a pool that is laid out: its places past the count are blank; and a start that is refused leaves table
 -- and pool. Assumes nothing.
+use Rattle.rules.specs.Shapes.{Answer}
+use Rattle.std.specs.Prelude.{Ok, Err}
 use mathlib.Core.Path.{◌≡◌, refl, sym, ap}
 use mathlib.Core.Bool.{Bool, true, false, cond}
 use mathlib.Core.List.{List, map}
@@ -9,8 +11,6 @@ use lib.Dec.{eqb}
 use lib.ListN.{drop}
 use lib.Seq.{take-append_seam}
 use Rattle.rules.specs.declared.Action.{Action}
-use Rattle.rules.specs.declared.Answer.{Answer}
-use Rattle.rules.specs.declared.Answer.TheVariants.{Done, Refused}
 use Rattle.rules.specs.declared.Message.{Message}
 use Rattle.rules.specs.declared.Pool.{Pool}
 use Rattle.rules.specs.declared.Refusal.{Refusal}
@@ -33,7 +33,7 @@ use Rattle.face.specs.Asked.{began, start_step}
 
 -- what is done leaves the messages that wait, and blank places
 abbrev pub Neat : Stepped → Type 0
-Neat s = s.answer ≡ Done → s.pool ≡ laid (waiting s.pool)
+Neat s = s.answer ≡ Ok tt → s.pool ≡ laid (waiting s.pool)
 
 pub refused-neat : (t : Table) (p : Pool) (why : Refusal) → Neat (refused_of t p why)
 refused-neat t p why e = absurd (let z : ◌≡◌ {A = ℕ} 0 1 = cc in omega arith)
@@ -57,22 +57,22 @@ module _ (t : Table) (p : Pool) (len : ℕ) where
   start-neat m l ids a = go (eqb len 256) (start_of m l ids a).answer
     where
       go : (b : Bool) (w : Answer) → Neat (cond b (began w (start_of m l ids a).table t p) (refused_of t p no.Invalid))
-      go true Done e = refl
-      go true (Refused why) e = refused-neat t p why e
+      go true (Ok tt) e = refl
+      go true (Err why) e = refused-neat t p why e
       go false w e = refused-neat t p no.Invalid e
 
 -- ---- a start that is refused
 
 pub start-leaves : (t : Table) (p : Pool) (len m l : ℕ) (ids : List ℕ) (a : ℕ) (why : Refusal)
-    → (start_step t p len m l ids a).answer ≡ Refused why → start_step t p len m l ids a ≡ refused_of t p why
+    → (start_step t p len m l ids a).answer ≡ Err why → start_step t p len m l ids a ≡ refused_of t p why
 unfolding start_step
 start-leaves t p len m l ids a why h = go (eqb len 256) (start_of m l ids a).answer h
   where
-    go : (b : Bool) (w : Answer) → (cond b (began w (start_of m l ids a).table t p) (refused_of t p no.Invalid)).answer ≡ Refused why
+    go : (b : Bool) (w : Answer) → (cond b (began w (start_of m l ids a).table t p) (refused_of t p no.Invalid)).answer ≡ Err why
         → cond b (began w (start_of m l ids a).table t p) (refused_of t p no.Invalid) ≡ refused_of t p why
-    go true Done e = absurd (let z : ◌≡◌ {A = ℕ} 0 1 = cc in omega arith)
-    go true (Refused w) e = ap (λ (x : Answer). record { answer = x; table = t; pool = p; via = Unrouted }) e
+    go true (Ok tt) e = absurd (let z : ◌≡◌ {A = ℕ} 0 1 = cc in omega arith)
+    go true (Err w) e = ap (λ (x : Answer). record { answer = x; table = t; pool = p; via = Unrouted }) e
     go false w e = ap (λ (x : Answer). record { answer = x; table = t; pool = p; via = Unrouted }) e
 
-pub not_done : {w : Answer} {why : Refusal} → w ≡ Refused why → w ≡ Done → ⊥
+pub not_done : {w : Answer} {why : Refusal} → w ≡ Err why → w ≡ Ok tt → ⊥
 not_done e d = let z : ◌≡◌ {A = ℕ} 0 1 = cc in omega arith

@@ -2,20 +2,14 @@
 // (specs/), with their types; what a done call leaves (proofs/). No code.
 #![tactic(auto)]
 
-use file::Wrote;
 use rules::{Refusal, Via};
 
 // Whether a table is settled, or why that was not looked at.
-#[derive(Clone, Copy)]
-pub enum Rest {
-    Settled,
-    Unsettled,
-    NotAsked(Refusal),
-}
+pub type Rest = Result<bool, Refusal>;
 
-// What a step wrote, and where the next hop came from, if it routed a message to one and was written.
+// How many bytes a step wrote, and where the next hop came from, if it routed a message to one.
 #[derive(Clone, Copy)]
 pub struct Moved {
-    pub wrote: Wrote,
+    pub count: usize,
     pub via: Via,
 }

@@ -2,10 +2,10 @@
 // set after it, and an empty one where n or the owner's slot is out of range.
 #![tactic(auto)]
 
-ghost use Rattle.std.specs.Prelude.{◌≡◌, ℕ, ◌<◌};
+ghost use Rattle.std.specs.Prelude.{◌≡◌, ℕ, ◌<◌, ◌≤◌};
 ghost use Rattle.rules.specs.Pick.{id_at};
 
-use rules::{Ring, Sides};
+use rules::{Ring, Roster, Sides};
 
 // A leaf set as it crosses to another language.
 #[repr(C)]
@@ -20,12 +20,21 @@ fn slot_ids() -> [u32; 64]
     ensures { (s : ℕ) → s < 64 → id_at result s ≡ s }
 {
     let mut ids = [0u32; 64];
-    let mut s: usize = 0;
-    while s < 64 {
+    for s in 0..64 {
         ids[s] = s as u32;
-        s += 1;
     }
     ids
+}
+
+// A ring of n nodes with these ids.
+fn roster(l: u32, n: usize) -> Roster
+    requires { n ≤ 64 }
+    ensures { result.ring.n ≡ n }
+{
+    Roster {
+        ring: Ring { m: 32, l, n },
+        ids: slot_ids(),
+    }
 }
 
 fn crossing(s: Sides) -> Leaf {
@@ -48,15 +57,10 @@ pub extern "C" fn tarpudhriv_with_set(
     right: u64,
     d: u64,
 ) -> Leaf {
-    let ids = slot_ids();
-    if n > 64 {
+    if n > 64 || i >= n {
         return none();
     }
-    if i >= n {
-        return none();
-    }
-    let g = Ring { m: 32, l, n };
-    crossing(leaf::with_set(g, &ids, i, Sides { left, right }, d))
+    crossing(leaf::with_set(&roster(l, n), i, Sides { left, right }, d))
 }
 
 #[unsafe(no_mangle)]
@@ -68,13 +72,8 @@ pub extern "C" fn tarpudhriv_with_one(
     right: u64,
     j: usize,
 ) -> Leaf {
-    let ids = slot_ids();
-    if n > 64 {
+    if n > 64 || i >= n {
         return none();
     }
-    if i >= n {
-        return none();
-    }
-    let g = Ring { m: 32, l, n };
-    crossing(leaf::with_one(g, &ids, i, Sides { left, right }, j))
+    crossing(leaf::with_one(&roster(l, n), i, Sides { left, right }, j))
 }

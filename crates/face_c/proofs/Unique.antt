@@ -5,14 +5,15 @@ use Prim.Native.Nat.{ℕ}
 use Rattle.file.proofs.Replies.{both-same}
 use Rattle.face.specs.Calls.{loaded_of, begun_of, wrote_by, left_by, rest_by}
 use Rattle.listing.specs.List.{list_of, listed_of}
-use Rattle.face_c.specs.declared.Asked.{Asked}
+use Rattle.std.specs.Prelude.{Option}
+use Rattle.rules.specs.declared.Action.{Action}
 use Rattle.face_c.specs.Words.{pack_of, rest_word, asked_of, step_word, via_word, step_left}
 
 -- the reply is this word, and the buffer is left with this content
 abbrev pub Replies : ℕ → List ℕ → ℕ → List ℕ → Type 0
 Replies word left r bs = (r ≡ word) × (bs ≡ left)
 
-pub action-of-unique : (k x y : ℕ) (q q' : Asked) → q ≡ asked_of k x y → q' ≡ asked_of k x y → q ≡ q'
+pub action-of-unique : (k x y : ℕ) (q q' : Option Action) → q ≡ asked_of k x y → q' ≡ asked_of k x y → q ≡ q'
 action-of-unique k x y q q' h h' = h ∙ sym h'
 
 module _ (out bs bs' : List ℕ) (r r' : ℕ) where
@@ -28,12 +29,12 @@ module _ (out bs bs' : List ℕ) (r r' : ℕ) where
         → (r ≡ r') × (bs ≡ bs')
     load-unique h h' = both-same h h'
 
-    pub step-unique : (q : Asked) → Replies (step_word q file out) (step_left q file out) r bs
+    pub step-unique : (q : Option Action) → Replies (step_word q file out) (step_left q file out) r bs
         → Replies (step_word q file out) (step_left q file out) r' bs'
         → (r ≡ r') × (bs ≡ bs')
     step-unique q h h' = both-same h h'
 
-    pub step-via-unique : (q : Asked) → Replies (via_word q file out) (step_left q file out) r bs
+    pub step-via-unique : (q : Option Action) → Replies (via_word q file out) (step_left q file out) r bs
         → Replies (via_word q file out) (step_left q file out) r' bs'
         → (r ≡ r') × (bs ≡ bs')
     step-via-unique q h h' = both-same h h'

@@ -3,62 +3,71 @@
 #![tactic(auto)]
 
 ghost use Rattle.std.specs.Prelude.{◌≡◌, ◌≤◌};
+ghost use Rattle.rules.specs.Numbers.{refusal_number};
+ghost use Rattle.file.specs.Write.{count_of};
 ghost use Rattle.face.specs.Calls.{loaded_of, begun_of, wrote_by, left_by, rest_by};
 ghost use Rattle.listing.specs.List.{list_of, listed_of};
-ghost use Rattle.face_c.specs.Words.{pack_of, letter_of, rest_word, asked_of, step_word, via_word, step_left};
+ghost use Rattle.face_c.specs.Words.{pack_of, wrote_in, letter_of, rest_word, asked_of, step_word, via_word, step_left};
 
 use face::{Moved, Rest};
 use file::Wrote;
-use rules::{Action, Answer};
+use rules::{Action, Refusal};
 
-// What a number says of an action.
-#[derive(Clone, Copy)]
-pub enum Asked {
-    Is(Action),
-    None,
-}
-
-// The action of a number, with its two words.
-pub fn action_of(k: u64, x: u64, y: u64) -> Asked
+// The action of a number, with its two words, if the number is an action's.
+#[tactic(auto, unfolding(crate::specs::Words::asked_of))]
+pub fn action_of(k: u64, x: u64, y: u64) -> Option<Action>
     ensures { result ≡ asked_of k x y }
 {
     match k {
-        1 => Asked::Is(Action::Lookup(x as usize, y)),
-        2 => Asked::Is(Action::Join(x as usize, y as usize)),
-        3 => Asked::Is(Action::RequestLease(x as usize)),
-        4 => Asked::Is(Action::LeaseExpired(x as usize, y as usize)),
-        5 => Asked::Is(Action::GrantExpired(x as usize, y as usize)),
-        6 => Asked::Is(Action::Take(x as usize)),
-        7 => Asked::Is(Action::Deliver(x as usize)),
-        8 => Asked::Is(Action::Forward(x as usize)),
-        9 => Asked::Is(Action::NodeLeft(x as usize)),
-        10 => Asked::Is(Action::SuspectFaulty(x as usize, y as usize)),
-        11 => Asked::Is(Action::ProbeTimeOut(x as usize, y as usize)),
-        12 => Asked::Is(Action::DeclareDead(x as usize, y as usize)),
-        13 => Asked::Is(Action::LSRepair(x as usize)),
-        14 => Asked::Is(Action::ResignNode(x as usize, y as usize)),
-        15 => Asked::Is(Action::Recover(x as usize)),
-        _ => Asked::None,
+        1 => Some(Action::Lookup(x as usize, y)),
+        2 => Some(Action::Join(x as usize, y as usize)),
+        3 => Some(Action::RequestLease(x as usize)),
+        4 => Some(Action::LeaseExpired(x as usize, y as usize)),
+        5 => Some(Action::GrantExpired(x as usize, y as usize)),
+        6 => Some(Action::Take(x as usize)),
+        7 => Some(Action::Deliver(x as usize)),
+        8 => Some(Action::Forward(x as usize)),
+        9 => Some(Action::NodeLeft(x as usize)),
+        10 => Some(Action::SuspectFaulty(x as usize, y as usize)),
+        11 => Some(Action::ProbeTimeOut(x as usize, y as usize)),
+        12 => Some(Action::DeclareDead(x as usize, y as usize)),
+        13 => Some(Action::LSRepair(x as usize)),
+        14 => Some(Action::ResignNode(x as usize, y as usize)),
+        15 => Some(Action::Recover(x as usize)),
+        _ => None,
     }
 }
 
-// An answer and a count as one word.
+// The number of a refusal as one word.
+fn refused(why: Refusal) -> u64
+    ensures { result ≡ refusal_number why }
+{
+    parts::answer_number(Err(why)) as u64
+}
+
+// The count of bytes written, or the refusal, as one word.
 fn packed(w: Wrote) -> u64
-    requires { w.count ≤ 65536 }
+    requires { count_of w ≤ 65536 }
     ensures { result ≡ pack_of w }
 {
-    let answer = w.answer;
-    (w.count as u64) * 4294967296 + parts::answer_number(answer) as u64
+    match w {
+        Ok(count) => (count as u64) * 4294967296,
+        Err(why) => refused(why),
+    }
 }
 
 // The same, and the letter of where the next hop came from in the highest byte.
-fn lettered(m: Moved) -> u64
-    requires { m.wrote.count ≤ 65536 }
+fn lettered(m: Result<Moved, Refusal>) -> u64
+    requires { count_of (wrote_in m) ≤ 65536 }
     ensures { result ≡ letter_of m }
 {
-    let via = m.via;
-    let w = m.wrote;
-    (parts::via_number(via) as u64) * 72057594037927936 + packed(w)
+    match m {
+        Ok(moved) => {
+            (parts::via_number(moved.via) as u64) * 72057594037927936
+                + (moved.count as u64) * 4294967296
+        }
+        Err(why) => refused(why),
+    }
 }
 
 // Whether a table is settled as one word.
@@ -66,10 +75,17 @@ fn rest_word(said: Rest) -> u64
     ensures { result ≡ rest_word said }
 {
     match said {
-        Rest::Settled => 4294967296,
-        Rest::Unsettled => 0,
-        Rest::NotAsked(why) => parts::answer_number(Answer::Refused(why)) as u64,
+        Ok(true) => 4294967296,
+        Ok(false) => 0,
+        Err(why) => refused(why),
     }
+}
+
+// How many bytes a step wrote, or its refusal.
+fn written(m: Result<Moved, Refusal>) -> Wrote
+    ensures { result ≡ wrote_in m }
+{
+    Ok(m?.count)
 }
 
 // Reads a table file and writes it back.
@@ -86,8 +102,8 @@ pub fn tarpudhriv_step(file: &[u8], action: u64, x: u64, y: u64, out: &mut [u8])
     ensures left { out.new ≡ step_left (asked_of action x y) file.now out.old }
 {
     match action_of(action, x, y) {
-        Asked::Is(a) => packed(face_file::step_file(file, a, out).wrote),
-        Asked::None => 4294967295,
+        Some(a) => packed(written(face_file::step_file(file, a, out))),
+        None => 4294967295,
     }
 }
 
@@ -97,8 +113,8 @@ pub fn tarpudhriv_step_via(file: &[u8], action: u64, x: u64, y: u64, out: &mut [
     ensures left { out.new ≡ step_left (asked_of action x y) file.now out.old }
 {
     match action_of(action, x, y) {
-        Asked::Is(a) => lettered(face_file::step_file(file, a, out)),
-        Asked::None => 4294967295,
+        Some(a) => lettered(face_file::step_file(file, a, out)),
+        None => 4294967295,
     }
 }
 

@@ -5,9 +5,11 @@ use mathlib.Core.List.{List}
 use Prim.Native.Nat.{ℕ}
 use Rattle.rules.specs.declared.Action.{Action}
 use Rattle.table_type.specs.declared.Stepped.{Stepped}
-use Rattle.file.specs.declared.Wrote.{Wrote}
+use Rattle.std.specs.Prelude.{Result}
+use Rattle.rules.specs.declared.Refusal.{Refusal}
+use Rattle.file.specs.Write.{Wrote}
 use Rattle.file.proofs.Replies.{both-same}
-use Rattle.face.specs.declared.Rest.{Rest}
+use Rattle.face.specs.Asked.{Rest}
 use Rattle.face.specs.declared.Moved.{Moved}
 use Rattle.face.specs.Calls.{loaded_of, next_of, begun_of, wrote_by, left_by, moved_by, rest_by}
 
@@ -26,10 +28,10 @@ module _ (out cs cs' : List ℕ) (r r' : Wrote) where
   start-file-unique m l a ids h h' = both-same h h'
 
 -- what the caller has of a step: the same, and where the next hop came from
-abbrev pub Stepping : Stepped → List ℕ → List ℕ → Moved → Type 0
+abbrev pub Stepping : Stepped → List ℕ → List ℕ → Result Moved Refusal → Type 0
 Stepping s out cs r = (r ≡ moved_by s out) × (cs ≡ left_by s out)
 
-pub step-file-unique : (out cs cs' : List ℕ) (r r' : Moved) (file : List ℕ) (a : Action) → Stepping (next_of (loaded_of file) a) out cs r
+pub step-file-unique : (out cs cs' : List ℕ) (r r' : Result Moved Refusal) (file : List ℕ) (a : Action) → Stepping (next_of (loaded_of file) a) out cs r
     → Stepping (next_of (loaded_of file) a) out cs' r' → (r ≡ r') × (cs ≡ cs')
 step-file-unique out cs cs' r r' file a h h' = both-same h h'
 

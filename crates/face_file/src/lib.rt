@@ -3,11 +3,11 @@
 
 ghost use Rattle.std.specs.Prelude.{◌≡◌};
 ghost use Rattle.table_type.specs.Start.{no_table};
-ghost use Rattle.face.specs.Calls.{loaded_of, next_of, begun_of, wrote_by, left_by, moved_of, moved_by, rest_by};
+ghost use Rattle.face.specs.Calls.{loaded_of, next_of, begun_of, wrote_by, left_by, moved_by, rest_by};
 
 use face::{Moved, Rest};
 use file::Wrote;
-use rules::{Action, Answer, Refusal, Via};
+use rules::{Action, Refusal};
 use table_type::{Stepped, Table};
 
 // The table of no node.
@@ -37,8 +37,8 @@ fn next(s: Stepped, a: Action) -> Stepped
     let t = s.table;
     let p = s.pool;
     match answer {
-        Answer::Done => table_step::step(t, p, 256, a),
-        Answer::Refused(why) => table_parts::refused(t, p, why),
+        Ok(()) => table_step::step(t, p, 256, a),
+        Err(why) => table_parts::refused(t, p, why),
     }
 }
 
@@ -48,22 +48,8 @@ fn written(s: Stepped, out: &mut [u8]) -> Wrote
 {
     let answer = s.answer;
     match answer {
-        Answer::Done => file_write::write(s.table, s.pool, 256, out),
-        Answer::Refused(why) => file_write::not_written(why),
-    }
-}
-
-// What was written, with where the next hop came from.
-fn with_via(w: Wrote, via: Via) -> Moved
-    ensures { result ≡ moved_of w w.answer via }
-{
-    let answer = w.answer;
-    match answer {
-        Answer::Done => Moved { wrote: w, via },
-        Answer::Refused(_) => Moved {
-            wrote: w,
-            via: Via::Unrouted,
-        },
+        Ok(()) => file_write::write(s.table, s.pool, 256, out),
+        Err(why) => Err(why),
     }
 }
 
@@ -91,13 +77,14 @@ pub fn reload(file: &[u8], out: &mut [u8]) -> Wrote
 }
 
 // Reads a table file, makes a step, and writes the table file after it. A refusal of any of the three leaves `out` as it is.
-pub fn step_file(file: &[u8], a: Action, out: &mut [u8]) -> Moved
+pub fn step_file(file: &[u8], a: Action, out: &mut [u8]) -> Result<Moved, Refusal>
     ensures r { result ≡ moved_by (next_of (loaded_of file.now) a) out.old }
     ensures left { out.new ≡ left_by (next_of (loaded_of file.now) a) out.old }
 {
     let s = next(loaded(file), a);
     let via = s.via;
-    with_via(written(s, out), via)
+    let count = written(s, out)?;
+    Ok(Moved { count, via })
 }
 
 // Makes a table of M, L, the set A and the ids, and writes its file. A refusal of either leaves `out` as it is.
@@ -115,7 +102,7 @@ pub fn settled_file(file: &[u8]) -> Rest
     let s = loaded(file);
     let answer = s.answer;
     match answer {
-        Answer::Done => face_table::settled(s.table, s.pool, 256),
-        Answer::Refused(why) => Rest::NotAsked(why),
+        Ok(()) => face_table::settled(s.table, s.pool, 256),
+        Err(why) => Err(why),
     }
 }

@@ -1,12 +1,12 @@
 -- What a caller gets who lends its list, computed by the checker: M and L in their places, the count and the letter told, and lists
 -- that have not 256 places. Assumes nothing.
+use Rattle.std.specs.Prelude.{Ok, Err}
 use mathlib.Core.Path.{◌≡◌, refl}
 use mathlib.Core.List.{List, [], ◌∷◌}
 use Prim.Native.Nat.{ℕ}
 use Rattle.ring.specs.Distance.{fall_of}
 use Rattle.marks.specs.Marks.{has, gather, tally, all_to, single, listed}
 use Rattle.rules.specs.declared.Message.{Message}
-use Rattle.rules.specs.declared.Answer.TheVariants.{Done, Refused}
 use Rattle.rules.specs.declared.Refusal.TheVariants as no
 use Rattle.rules.specs.declared.Via.TheVariants.{Unrouted, Leaf, Routing}
 use Rattle.rules.specs.Closest.{closest}
@@ -32,7 +32,7 @@ short = lookup 3 ∷ []
 
 pub record Lends : Type 0 where
   pub limits : ((begun blanks).table.m ≡ 8) × ((begun blanks).table.l ≡ 2) × ((begun blanks).table.n ≡ 4)
-  pub answer : ((begun blanks).answer ≡ Done) × ((begun short).answer ≡ Refused no.Invalid)
+  pub answer : ((begun blanks).answer ≡ Ok tt) × ((begun short).answer ≡ Err no.Invalid)
   -- no messages after a start; the count of those that wait
   pub count : ((reply_of (begun blanks)).count ≡ 0) × ((reply_of (done_of no_table (laid (lookup 3 ∷ lookup 4 ∷ [])))).count ≡ 2) × ((lent blanks 7).count ≡ 7)
   -- where the next hop came from, as the step says it
@@ -43,7 +43,8 @@ pub record Lends : Type 0 where
       × (given_of blanks short ≡ short)
 
 pub lends : Lends
-unfolding fall_of has gather tally all_to single listed closest leaf_with slot_ids slots_to start_node start_nodes start_fits ids_rise list_fits start_of start_step taken_of given_of
+unfolding fall_of has gather tally all_to single listed closest leaf_with slot_ids slots_to start_node start_nodes start_fits ids_rise list_fits start_of
+    start_step taken_of given_of
 lends =
     record {
       limits = (refl, refl, refl);

@@ -8,7 +8,6 @@ use lib.Dec.{eqb, ltb}
 use lib.ListN.{length}
 use borrow.Author.Tests.{ne_eqb}
 use Rattle.rules.specs.declared.Action.{Action}
-use Rattle.rules.specs.declared.Answer.TheVariants.{Refused}
 use Rattle.rules.specs.declared.Message.{Message}
 use Rattle.rules.specs.declared.Refusal.{Refusal}
 use Rattle.rules.specs.declared.Refusal.TheVariants as no
@@ -17,11 +16,10 @@ use Rattle.table_type.specs.declared.Table.{Table}
 use Rattle.table.specs.Settle.{refused_of}
 use Rattle.step.specs.Step.{is_sound, step_of}
 use Rattle.table_laws.proofs.Proved.{refusal-keeps}
-use Rattle.file.specs.declared.Wrote.{Wrote}
+use Rattle.std.specs.Prelude.{Err}
 use Rattle.file.proofs.Exactly.{load-leaves, write-leaves}
 use Rattle.file.specs.Load.{header_fits, offsets_fit, load_of}
-use Rattle.file.specs.Write.{not_written, wrote_of}
-use Rattle.face.specs.declared.Rest.TheVariants.{NotAsked}
+use Rattle.file.specs.Write.{Wrote, wrote_of}
 use Rattle.face.specs.Asked.{start_step, rest_of}
 use Rattle.face.proofs.Laid.{start-leaves}
 use Rattle.face_lent.specs.declared.Reply.{Reply}
@@ -44,7 +42,7 @@ given-taken ys = go (eqb (length ys) 256)
 module _ (t : Table) (ys : List Message) (n : ℕ) where
   module _ (zs : List Message) (r : Reply) where
     -- what is refused with the caller's own table and pool leaves both
-    leaves : (g : Stepped) (why : Refusal) → (g.answer ≡ Refused why → g ≡ refused_of t (lent ys n) why) → Handed g ys zs r → r.answer ≡ Refused why
+    leaves : (g : Stepped) (why : Refusal) → (g.answer ≡ Err why → g ≡ refused_of t (lent ys n) why) → Handed g ys zs r → r.answer ≡ Err why
         → Kept t ys n zs r
     leaves g why keeps h e =
         let is : g ≡ refused_of t (lent ys n) why = keeps (sym (ap (λ (x : Reply). x.answer) h.0) ∙ e) in
@@ -54,18 +52,18 @@ module _ (t : Table) (ys : List Message) (n : ℕ) where
           places = h.1 ∙ ap (λ (x : Stepped). given_of ys x.pool.places) is ∙ given-taken ys;
         }
 
-    pub step_keeps : (a : Action) (why : Refusal) → Handed (lent_step t ys n a) ys zs r → r.answer ≡ Refused why → Kept t ys n zs r
+    pub step_keeps : (a : Action) (why : Refusal) → Handed (lent_step t ys n a) ys zs r → r.answer ≡ Err why → Kept t ys n zs r
     step_keeps a why h e = leaves (lent_step t ys n a) why (refusal-keeps t (lent ys n) (length ys) a why) h e
 
-    pub start-keeps : (m l : ℕ) (ids : List ℕ) (a : ℕ) (why : Refusal) → Handed (lent_start t ys n m l ids a) ys zs r → r.answer ≡ Refused why
+    pub start-keeps : (m l : ℕ) (ids : List ℕ) (a : ℕ) (why : Refusal) → Handed (lent_start t ys n m l ids a) ys zs r → r.answer ≡ Err why
         → Kept t ys n zs r
     start-keeps m l ids a why h e = leaves (lent_start t ys n m l ids a) why (start-leaves t (lent ys n) (length ys) m l ids a why) h e
 
-    pub load-keeps : (bs : List ℕ) (why : Refusal) → Handed (lent_load bs t ys n) ys zs r → r.answer ≡ Refused why → Kept t ys n zs r
+    pub load-keeps : (bs : List ℕ) (why : Refusal) → Handed (lent_load bs t ys n) ys zs r → r.answer ≡ Err why → Kept t ys n zs r
     load-keeps bs why h e = leaves (lent_load bs t ys n) why (load-leaves bs t (lent ys n) (length ys) why) h e
 
-  pub write_keeps : (bs cs : List ℕ) (r : Wrote) (why : Refusal) → Filed t ys n bs cs r → r.answer ≡ Refused why → cs ≡ bs
-  write_keeps bs cs r why h e = h.1 ∙ (write-leaves t (lent ys n) (length ys) bs why (sym (ap (λ (x : Wrote). x.answer) h.0) ∙ e)).1
+  pub write_keeps : (bs cs : List ℕ) (r : Wrote) (why : Refusal) → Filed t ys n bs cs r → r ≡ Err why → cs ≡ bs
+  write_keeps bs cs r why h e = h.1 ∙ write-leaves t (lent ys n) (length ys) bs why (sym h.0 ∙ e)
 
   -- a list without 256 places
   module _ (short : length ys ≡ 256 → ⊥) where
@@ -82,11 +80,11 @@ module _ (t : Table) (ys : List Message) (n : ℕ) where
     unfolding load_of
     load-no-list bs long header offsets = rw (long, header, offsets, ne_eqb (length ys) 256 short)
 
-    pub settled-no-list : lent_rest t ys n ≡ NotAsked no.Invalid
+    pub settled-no-list : lent_rest t ys n ≡ Err no.Invalid
     unfolding rest_of is_sound
     settled-no-list = rw (ne_eqb (length ys) 256 short)
 
-    pub write-no-list : (bs : List ℕ) → wrote_of t (lent ys n) (length ys) bs ≡ not_written no.Invalid
+    pub write-no-list : (bs : List ℕ) → wrote_of t (lent ys n) (length ys) bs ≡ Err no.Invalid
     unfolding wrote_of is_sound
     write-no-list bs = rw (ne_eqb (length ys) 256 short)
 

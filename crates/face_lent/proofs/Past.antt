@@ -1,6 +1,8 @@
 -- What lies in the places past the count is not looked at: of two lists of 256 places that agree on the first count of them, each function says the same, and
 -- what is done leaves the same 256 places. And what is done leaves blank places past the count that it tells. The idea: the definitions look at a pool through
 -- its count and its waiting messages alone. What a refusal leaves, and lists without 256 places, are in Kept. Assumes nothing.
+use Rattle.rules.specs.Shapes.{Planned, Answer}
+use Rattle.std.specs.Prelude.{Ok, Err}
 use mathlib.Core.Path.{◌≡◌, refl, sym, ◌∙◌, ap, subst}
 use mathlib.Core.Bool.{Bool, true, false, cond, ◌&&◌, not}
 use mathlib.Core.List.{List}
@@ -15,12 +17,8 @@ use Rattle.marks.proofs.Laws.{all_same}
 use Rattle.rules.specs.declared.Action.{Action}
 use Rattle.rules.specs.declared.Action.TheVariants.{Lookup, Join, RequestLease, LeaseExpired, GrantExpired, Take, Deliver, Forward}
 use Rattle.rules.specs.declared.Action.TheVariants.{NodeLeft, SuspectFaulty, ProbeTimeOut, DeclareDead, LSRepair, ResignNode, Recover}
-use Rattle.rules.specs.declared.Answer.{Answer}
-use Rattle.rules.specs.declared.Answer.TheVariants.{Done, Refused}
 use Rattle.rules.specs.declared.Message.{Message}
 use Rattle.rules.specs.declared.Pool.{Pool}
-use Rattle.rules.specs.declared.Planned.{Planned}
-use Rattle.rules.specs.declared.Planned.TheVariants.{No, Go}
 use Rattle.rules.specs.declared.Refusal.{Refusal}
 use Rattle.rules.specs.declared.Refusal.TheVariants as no
 use Rattle.rules.specs.Fits.{message_fits, hops_fit}
@@ -33,11 +31,10 @@ use Rattle.table_type.specs.Start.{start_of}
 use Rattle.step.specs.Step.{Gone, all_stay, one-goes, probes-go, Asked, asked, remaining, planned_of, act_of, is_sound, step_of}
 use Rattle.table_type.specs.Table.{ids_of, ring_of}
 use Rattle.table.specs.Valid.{messages_fit, pool_fits, valid_of}
-use Rattle.file.specs.declared.Wrote.{Wrote}
 use Rattle.file.specs.Format.{file_of}
 use Rattle.file.specs.Load.{header_fits, offsets_fit, statuses_fit, file_table, file_pool, load_of}
-use Rattle.file.specs.Write.{wrote_of, written_of}
-use Rattle.face.specs.declared.Rest.{Rest}
+use Rattle.file.specs.Write.{Wrote, wrote_of, written_of}
+use Rattle.face.specs.Asked.{Rest}
 use Rattle.face.specs.Asked.{began, start_step, rest_of}
 use Rattle.face.proofs.Laid.{Neat, step-neat, load-neat, start-neat}
 use Rattle.face_lent.specs.declared.Reply.{Reply}
@@ -48,7 +45,7 @@ use Rattle.face_lent.specs.Lent.{pool_of, taken_of, given_of, lent, lent_step, l
 -- the same reply; and the same places, where it is done
 record Alike (g h : Stepped) : Type 0 where
   reply : reply_of g ≡ reply_of h
-  places : g.answer ≡ Done → g.pool.places ≡ h.pool.places
+  places : g.answer ≡ Ok tt → g.pool.places ≡ h.pool.places
 
 same_alike : (g : Stepped) → Alike g g
 same_alike g = record { reply = refl; places = λ e. refl }
@@ -97,8 +94,8 @@ module _ (t : Table) (n : ℕ) (xs ys : List Message) (same : take n xs ≡ take
 
   settle-alike : (ws : List Message) (i : ℕ) (x : Planned) → Alike (settle t (pool_of n xs) ws i x) (settle t (pool_of n ys) ws i x)
   unfolding settle carried_out
-  settle-alike ws i (No why) = refused-alike why
-  settle-alike ws i (Go x) = cond-alike (leb (length (mailed x ws)) 256) (λ e. same_alike _) (refused-alike no.Full)
+  settle-alike ws i (Err why) = refused-alike why
+  settle-alike ws i (Ok x) = cond-alike (leb (length (mailed x ws)) 256) (λ e. same_alike _) (refused-alike no.Full)
 
   remaining-same : (gone : Gone) → remaining (pool_of n xs) gone ≡ remaining (pool_of n ys) gone
   remaining-same all_stay = same
@@ -130,8 +127,8 @@ module _ (t : Table) (n : ℕ) (xs ys : List Message) (same : take n xs ≡ take
   start-alike len m l ids a = cond-alike (eqb len 256) (λ e. go (start_of m l ids a).answer) (refused-alike no.Invalid)
     where
       go : (w : Answer) → Alike (began w (start_of m l ids a).table t (pool_of n xs)) (began w (start_of m l ids a).table t (pool_of n ys))
-      go Done = same_alike _
-      go (Refused why) = refused-alike why
+      go (Ok tt) = same_alike _
+      go (Err why) = refused-alike why
 
   load-alike : (bs : List ℕ) (len : ℕ) → Alike (load_of bs t (pool_of n xs) len) (load_of bs t (pool_of n ys) len)
   unfolding load_of
@@ -167,20 +164,20 @@ given xs ws e = rw (eq-eqb (length xs) 256 e)
 
 -- what held ys holds zs, and the reply is r: the first places, as many as it counts, and then blank ones
 module _ (t : Table) (n : ℕ) (ys zs : List Message) (r : Reply) (long : length ys ≡ 256) where
-  blanks-past : {g : Stepped} → Neat g → Handed g ys zs r → r.answer ≡ Done → zs ≡ lay (take r.count zs)
+  blanks-past : {g : Stepped} → Neat g → Handed g ys zs r → r.answer ≡ Ok tt → zs ≡ lay (take r.count zs)
   blanks-past {g} neat f d =
-      let e : g.answer ≡ Done = ap (λ (x : Reply). x.answer) (sym f.0) ∙ d in
+      let e : g.answer ≡ (Ok tt) = ap (λ (x : Reply). x.answer) (sym f.0) ∙ d in
       let z : zs ≡ g.pool.places = f.1 ∙ given ys _ long in
       let c : r.count ≡ g.pool.count = ap (λ (x : Reply). x.count) f.0 in
       rw (c, z) (ap (λ (p : Pool). p.places) (neat e))
 
-  pub step-blank : (a : Action) → Handed (lent_step t ys n a) ys zs r → r.answer ≡ Done → zs ≡ lay (take r.count zs)
+  pub step-blank : (a : Action) → Handed (lent_step t ys n a) ys zs r → r.answer ≡ Ok tt → zs ≡ lay (take r.count zs)
   step-blank a = blanks-past (step-neat t (lent ys n) (length ys) a)
 
-  pub start-blank : (m l : ℕ) (ids : List ℕ) (a : ℕ) → Handed (lent_start t ys n m l ids a) ys zs r → r.answer ≡ Done → zs ≡ lay (take r.count zs)
+  pub start-blank : (m l : ℕ) (ids : List ℕ) (a : ℕ) → Handed (lent_start t ys n m l ids a) ys zs r → r.answer ≡ Ok tt → zs ≡ lay (take r.count zs)
   start-blank m l ids a = blanks-past (start-neat t (lent ys n) (length ys) m l ids a)
 
-  pub load-blank : (bs : List ℕ) → Handed (lent_load bs t ys n) ys zs r → r.answer ≡ Done → zs ≡ lay (take r.count zs)
+  pub load-blank : (bs : List ℕ) → Handed (lent_load bs t ys n) ys zs r → r.answer ≡ Ok tt → zs ≡ lay (take r.count zs)
   load-blank bs = blanks-past (load-neat t (lent ys n) (length ys) bs)
 
 -- two that agree on the first n
@@ -190,7 +187,7 @@ module _ (t : Table) (n : ℕ) (ys zs : List Message) (long : length ys ≡ 256)
 
   -- what held ys and zs holds ys' and zs', and the replies are r and r'
   module _ (ys' zs' : List Message) (r r' : Reply) where
-    alike : {g h : Stepped} → Alike g h → Handed g ys ys' r → Handed h zs zs' r' → (r ≡ r') × (r.answer ≡ Done → ys' ≡ zs')
+    alike : {g h : Stepped} → Alike g h → Handed g ys ys' r → Handed h zs zs' r' → (r ≡ r') × (r.answer ≡ Ok tt → ys' ≡ zs')
     alike {g} {h} k f f' = (
       f.0 ∙ k.reply ∙ sym f'.0,
       λ d.
@@ -199,15 +196,15 @@ module _ (t : Table) (n : ℕ) (ys zs : List Message) (long : length ys ≡ 256)
     )
 
     pub step_past : (a : Action) → Handed (lent_step t ys n a) ys ys' r → Handed (lent_step t zs n a) zs zs' r'
-        → (r ≡ r') × (r.answer ≡ Done → ys' ≡ zs')
+        → (r ≡ r') × (r.answer ≡ Ok tt → ys' ≡ zs')
     step_past a = alike (rw (long, long') (step-alike t n (taken_of ys) (taken_of zs) agree 256 a))
 
     pub start-past : (m l : ℕ) (ids : List ℕ) (a : ℕ) → Handed (lent_start t ys n m l ids a) ys ys' r → Handed (lent_start t zs n m l ids a) zs zs' r'
-        → (r ≡ r') × (r.answer ≡ Done → ys' ≡ zs')
+        → (r ≡ r') × (r.answer ≡ Ok tt → ys' ≡ zs')
     start-past m l ids a = alike (rw (long, long') (start-alike t n (taken_of ys) (taken_of zs) agree 256 m l ids a))
 
     pub load_past : (bs : List ℕ) → Handed (lent_load bs t ys n) ys ys' r → Handed (lent_load bs t zs n) zs zs' r'
-        → (r ≡ r') × (r.answer ≡ Done → ys' ≡ zs')
+        → (r ≡ r') × (r.answer ≡ Ok tt → ys' ≡ zs')
     load_past bs = alike (rw (long, long') (load-alike t n (taken_of ys) (taken_of zs) agree bs 256))
 
   pub settled-past : (r r' : Rest) → r ≡ lent_rest t ys n → r' ≡ lent_rest t zs n → r ≡ r'

@@ -9,11 +9,10 @@ use Rattle.rules.specs.declared.Pool.{Pool}
 use Rattle.table_type.specs.declared.Stepped.{Stepped}
 use Rattle.table_type.specs.declared.Table.{Table}
 use Rattle.step.specs.Step.{step_of}
-use Rattle.file.specs.declared.Wrote.{Wrote}
 use Rattle.file.specs.Load.{load_of}
 use Rattle.file.proofs.Replies.{both-same}
-use Rattle.file.specs.Write.{wrote_of, written_of}
-use Rattle.face.specs.declared.Rest.{Rest}
+use Rattle.file.specs.Write.{Wrote, wrote_of, written_of}
+use Rattle.face.specs.Asked.{Rest}
 use Rattle.face_lent.specs.declared.Reply.{Reply}
 use Rattle.face_lent.specs.Lent.{lent_step, lent_start, lent_load, lent_rest, Handed, Filed}
 

@@ -9,11 +9,9 @@ use Rattle.rules.specs.Pool.{blank}
 use Rattle.table_type.specs.declared.Stepped.{Stepped}
 use Rattle.table_type.specs.declared.Table.{Table}
 use Rattle.step.specs.Step.{step_of}
-use Rattle.file.specs.declared.Wrote.{Wrote}
 use Rattle.file.specs.Load.{load_of}
-use Rattle.file.specs.Write.{wrote_of, written_of}
-use Rattle.face.specs.declared.Rest.{Rest}
-use Rattle.face.specs.Asked.{start_step, rest_of}
+use Rattle.file.specs.Write.{Wrote, wrote_of, written_of}
+use Rattle.face.specs.Asked.{Rest, start_step, rest_of}
 use Rattle.face_lent.specs.declared.Reply.{Reply}
 
 abbrev pub pool_of : ℕ → List Message → Pool

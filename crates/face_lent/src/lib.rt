@@ -7,14 +7,14 @@ ghost use Rattle.face_lent.specs.Lent.{pool_of, blanks, places_of, taken_of, giv
 
 use face::Rest;
 use file::Wrote;
-use rules::{Action, Answer, Message, Pool, Via};
+use rules::{Action, Message, Pool, Refusal, Via};
 use table_type::{Stepped, Table};
 
 // What the caller gets beside its list: the answer, the table and the count of waiting messages; and where the next hop came from, if a step routed a
 // message to one.
 #[derive(Clone, Copy)]
 pub struct Reply {
-    pub answer: Answer,
+    pub answer: Result<(), Refusal>,
     pub table: Table,
     pub count: usize,
     pub via: Via,
@@ -63,10 +63,8 @@ fn take_in(pool: &[Message], count: usize) -> Pool
         return blank_pool(count);
     }
     let mut x = blank_pool(count);
-    let mut i: usize = 0;
-    while i < n {
+    for i in 0..n {
         x.places[i] = pool[i];
-        i += 1;
     }
     x
 }
@@ -76,10 +74,8 @@ fn give_back(pool: &mut [Message], x: Pool)
     ensures { pool.new ≡ given_of pool.old x.places }
 {
     let n = places(pool.len());
-    let mut i: usize = 0;
-    while i < n {
+    for i in 0..n {
         pool[i] = x.places[i];
-        i += 1;
     }
 }
 

@@ -6,8 +6,7 @@ use Rattle.rules.specs.declared.Pool.{Pool}
 use Rattle.rules.specs.Pool.{laid}
 use Rattle.table_type.specs.declared.Table.{Table}
 use Rattle.table_type.specs.declared.Stepped.{Stepped}
-use Rattle.face.specs.declared.Rest.{Rest}
-use Rattle.face.specs.Asked.{start_step, rest_of}
+use Rattle.face.specs.Asked.{Rest, start_step, rest_of}
 
 pub no-messages-unique : (r r' : Pool) → r ≡ laid [] → r' ≡ laid [] → r ≡ r'
 no-messages-unique r r' h h' = h ∙ sym h'

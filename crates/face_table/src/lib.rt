@@ -6,7 +6,7 @@ ghost use Rattle.rules.specs.Pool.{laid};
 ghost use Rattle.face.specs.Asked.{start_step, rest_of};
 
 use face::Rest;
-use rules::{Answer, Pool, Refusal};
+use rules::{Pool, Refusal};
 use table_type::{Stepped, Table};
 
 // The pool in which none waits.
@@ -27,8 +27,8 @@ pub fn start(t: Table, p: Pool, len: usize, m: u32, l: u32, ids: &[u32], a: u64)
     let answer = made.answer;
     let table = made.table;
     match answer {
-        Answer::Done => table_parts::done(table, table_parts::no_messages()),
-        Answer::Refused(why) => table_parts::refused(t, p, why),
+        Ok(()) => table_parts::done(table, table_parts::no_messages()),
+        Err(why) => table_parts::refused(t, p, why),
     }
 }
 
@@ -37,14 +37,10 @@ pub fn settled(t: Table, p: Pool, len: usize) -> Rest
     ensures { result ≡ rest_of t p len }
 {
     if len != 256 {
-        return Rest::NotAsked(Refusal::Invalid);
+        return Err(Refusal::Invalid);
     }
     if !table_valid::is_valid(t, p) {
-        return Rest::NotAsked(Refusal::Invalid);
+        return Err(Refusal::Invalid);
     }
-    if table_settled::is_settled_table(t) {
-        Rest::Settled
-    } else {
-        Rest::Unsettled
-    }
+    Ok(table_settled::is_settled_table(t))
 }

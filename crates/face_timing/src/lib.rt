@@ -6,7 +6,6 @@
 ghost use Rattle.std.specs.Prelude.{◌≡◌};
 ghost use Rattle.face_lent.specs.Lent.{lent_step, reply_of};
 
-use face_c::Asked;
 use face_lent::Reply;
 use file::Wrote;
 use rules::{Action, Message, Node, Pool};
@@ -15,8 +14,8 @@ use table_type::{Stepped, Table};
 // The action of a number, with its two words; a Take where the number is no action's.
 fn action_of(kind: u64, x: u64, y: u64) -> Action {
     match face_c::action_of(kind, x, y) {
-        Asked::Is(a) => a,
-        Asked::None => Action::Take(x as usize),
+        Some(a) => a,
+        None => Action::Take(x as usize),
     }
 }
 
@@ -45,14 +44,12 @@ fn steps(s: Stepped, a: Action, times: u32) -> u64 {
     let t = s.table;
     let p = s.pool;
     let mut sum: u64 = 0;
-    let mut i: u32 = 0;
-    while i < times {
+    for _ in 0..times {
         let r = table_step::step(t, p, 256, a);
         let answer = r.answer;
         let q = r.pool;
         let number = parts::answer_number(answer) as u64;
         sum = (sum + number + q.count as u64 % 65536) % 4294967296;
-        i += 1;
     }
     sum
 }
@@ -75,13 +72,11 @@ fn lent_steps(s: Stepped, a: Action, times: u32) -> u64 {
     let t = s.table;
     let p = s.pool;
     let mut sum: u64 = 0;
-    let mut i: u32 = 0;
-    while i < times {
+    for _ in 0..times {
         let r = lent_step(t, p, a);
         let answer = r.answer;
         let number = parts::answer_number(answer) as u64;
         sum = (sum + number + r.count as u64 % 65536) % 4294967296;
-        i += 1;
     }
     sum
 }
@@ -100,13 +95,11 @@ fn validity(s: Stepped, times: u32) -> u64 {
     let mut t = s.table;
     let mut p = s.pool;
     let mut sum: u64 = 0;
-    let mut i: u32 = 0;
-    while i < times {
+    for _ in 0..times {
         t.nodes[63] = turned_node(t.nodes[63]);
         p.places[255] = turned_message(p.places[255]);
         let x = one_if(table_valid::is_valid(t, p)) % 2;
         sum = (sum + x) % 4294967296;
-        i += 1;
     }
     sum
 }
@@ -121,35 +114,32 @@ pub extern "C" fn tarpudhriv_validity(file: &[u8], times: u32) -> u64 {
 #[unsafe(no_mangle)]
 pub extern "C" fn tarpudhriv_loads(file: &[u8], times: u32) -> u64 {
     let mut sum: u64 = 0;
-    let mut i: u32 = 0;
-    while i < times {
+    for _ in 0..times {
         let r = loaded(file);
         let answer = r.answer;
         let q = r.pool;
         let number = parts::answer_number(answer) as u64;
         sum = (sum + number + q.count as u64 % 65536) % 4294967296;
-        i += 1;
     }
     sum
 }
 
 fn told(w: Wrote) -> u64 {
-    let answer = w.answer;
-    let number = parts::answer_number(answer) as u64;
-    number % 16 + w.count as u64 % 65536
+    match w {
+        Ok(count) => count as u64 % 65536,
+        Err(why) => parts::answer_number(Err(why)) as u64 % 16,
+    }
 }
 
 fn writes(s: Stepped, out: &mut [u8], times: u32) -> u64 {
     let mut t = s.table;
     let mut p = s.pool;
     let mut sum: u64 = 0;
-    let mut i: u32 = 0;
-    while i < times {
+    for _ in 0..times {
         t.nodes[63] = turned_node(t.nodes[63]);
         p.places[255] = turned_message(p.places[255]);
         let x = told(file_write::write(t, p, 256, out)) % 131072;
         sum = (sum + x) % 4294967296;
-        i += 1;
     }
     sum
 }
@@ -164,11 +154,9 @@ pub extern "C" fn tarpudhriv_writes(file: &[u8], out: &mut [u8], times: u32) -> 
 #[unsafe(no_mangle)]
 pub extern "C" fn tarpudhriv_lists(file: &[u8], out: &mut [u8], times: u32) -> u64 {
     let mut sum: u64 = 0;
-    let mut i: u32 = 0;
-    while i < times {
+    for _ in 0..times {
         let x = told(file_list::list(file, out)) % 131072;
         sum = (sum + x) % 4294967296;
-        i += 1;
     }
     sum
 }

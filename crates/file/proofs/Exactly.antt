@@ -1,5 +1,6 @@
 -- When each number is answered: loading and writing are chains of tests, and the tests can go in six ways and in three. LoadExactly and
 -- WriteExactly say which way gives which number; a refusal leaves everything as it is. Assumes nothing.
+use Rattle.rules.specs.Shapes.{Answer}
 use mathlib.Core.Path.{◌≡◌, refl, sym, ◌∙◌, ap}
 use mathlib.Core.Logic.{◌↔◌}
 use mathlib.Core.Bool.{Bool, true, false, cond, ◌&&◌, not}
@@ -14,8 +15,6 @@ use Rattle.rules.specs.declared.Pool.{Pool}
 use Rattle.rules.specs.declared.Refusal.{Refusal}
 use Rattle.rules.specs.declared.Refusal.TheVariants as no
 use Rattle.rules.specs.declared.Via.TheVariants.{Unrouted}
-use Rattle.rules.specs.declared.Answer.{Answer}
-use Rattle.rules.specs.declared.Answer.TheVariants.{Done, Refused}
 use Rattle.rules.specs.Limits.{messages_high}
 use Rattle.rules.specs.Numbers.{answer_number}
 use Rattle.table_type.specs.declared.Table.{Table}
@@ -23,17 +22,17 @@ use Rattle.table_type.specs.declared.Stepped.{Stepped}
 use Rattle.table.specs.Settle.{refused_of, done_of}
 use Rattle.step.specs.Step.{is_sound}
 use Rattle.table.specs.Valid.{valid_of}
-use Rattle.file.specs.declared.Wrote.{Wrote}
+use Rattle.std.specs.Prelude.{Ok, Err}
 use Rattle.file.specs.Format.{total_of, file_of}
 use Rattle.file.specs.Load.{header_fits, offsets_fit, statuses_fit, file_table, file_pool, load_of}
-use Rattle.file.specs.Write.{not_written, wrote_of, written_of}
+use Rattle.file.specs.Write.{Wrote, said_number, wrote_of, written_of}
 
 -- 01's numbers of what reading and writing answer
 abbrev pub load_number : List ℕ → Table → Pool → ℕ → ℕ
 load_number bs t p len = answer_number (load_of bs t p len).answer
 
 abbrev pub write_number : Table → Pool → ℕ → List ℕ → ℕ
-write_number t p len buf = answer_number (wrote_of t p len buf).answer
+write_number t p len buf = said_number (wrote_of t p len buf)
 
 -- the conditions: 7, and that neither the list's length nor a record gives 10; those of 8 and 9 are header_fits and offsets_fit
 abbrev pub too_short : List ℕ → Bool
@@ -79,7 +78,7 @@ module _ (u : Table) (q : Pool) (t : Table) (p : Pool) where
   tests false true true true false = (refl, refl, refl, refl, refl)
   tests false true true true true = (refl, refl, refl, refl, refl)
 
-  left : (why : Refusal) (a b c d e : Bool) → (chain a b c d e (done_of u q) (refused_of t p)).answer ≡ Refused why
+  left : (why : Refusal) (a b c d e : Bool) → (chain a b c d e (done_of u q) (refused_of t p)).answer ≡ Err why
       → chain a b c d e (done_of u q) (refused_of t p) ≡ refused_of t p why
   left why true b c d e h = ap (λ (w : Answer). record { answer = w; table = t; pool = p; via = Unrouted }) h
   left why false false c d e h = ap (λ (w : Answer). record { answer = w; table = t; pool = p; via = Unrouted }) h
@@ -118,7 +117,7 @@ pub record WriteExactly (t : Table) (p : Pool) (len : ℕ) (buf : List ℕ) : Ty
 
 -- writing as a chain of tests
 abbrev ends : Bool → Bool → ℕ → Wrote
-ends s r total = cond (not s) (not_written no.Invalid) (cond r (not_written no.NoRoom) (record { answer = Done; count = total }))
+ends s r total = cond (not s) (Err no.Invalid) (cond r (Err no.NoRoom) (Ok total))
 
 pub write-exactly : (t : Table) (p : Pool) (len : ℕ) (buf : List ℕ) → WriteExactly t p len buf
 unfolding wrote_of
@@ -128,7 +127,7 @@ write-exactly t p len buf =
     record { ten = exactly x 10 _ k.0; eleven = exactly x 11 _ k.1; done = exactly x 0 _ k.2 }
   where
     number : Bool → Bool → ℕ
-    number s r = answer_number (ends s r (total_of t.n p.count)).answer
+    number s r = said_number (ends s r (total_of t.n p.count))
 
     go : (s r : Bool) → (eqb (number s r) 10 ≡ not s) × (eqb (number s r) 11 ≡ (s && r)) × (eqb (number s r) 0 ≡ (s && not r))
     go false r = (refl, refl, refl)
@@ -144,28 +143,27 @@ module _ (bs : List ℕ) (t : Table) (p : Pool) (len : ℕ) where
       (statuses_fit bs && valid_of (file_table bs) (file_pool bs)) h
 
   -- a done load leaves a valid table
-  pub load-valid : (load_of bs t p len).answer ≡ Done → valid_of (load_of bs t p len).table (load_of bs t p len).pool ≡ true
+  pub load-valid : (load_of bs t p len).answer ≡ Ok tt → valid_of (load_of bs t p len).table (load_of bs t p len).pool ≡ true
   load-valid e =
       let none : load_number bs t p len ≡ 0 = ap answer_number e in
       let fits = (load-exactly bs t p len).done.0 none in
       let records = and_right (offsets_fit bs) _ (and_right (header_fits bs) _ (and_right (not (too_short bs)) _ fits)) in
       rw (load-makes none) (and_right (statuses_fit bs) _ (and_right (eqb len messages_high) _ records))
 
-  pub load-leaves : (why : Refusal) → (load_of bs t p len).answer ≡ Refused why → load_of bs t p len ≡ refused_of t p why
+  pub load-leaves : (why : Refusal) → (load_of bs t p len).answer ≡ Err why → load_of bs t p len ≡ refused_of t p why
   unfolding load_of
   load-leaves why h =
       left (file_table bs) (file_pool bs) t p why (too_short bs) (header_fits bs) (offsets_fit bs) (eqb len messages_high)
       (statuses_fit bs && valid_of (file_table bs) (file_pool bs)) h
 
 -- a refusal leaves the buffer
-pub write-leaves : (t : Table) (p : Pool) (len : ℕ) (buf : List ℕ) (why : Refusal) → (wrote_of t p len buf).answer ≡ Refused why
-    → (wrote_of t p len buf ≡ not_written why) × (written_of t p len buf ≡ buf)
+pub write-leaves : (t : Table) (p : Pool) (len : ℕ) (buf : List ℕ) (why : Refusal) → wrote_of t p len buf ≡ Err why
+    → written_of t p len buf ≡ buf
 unfolding wrote_of written_of
 write-leaves t p len buf why h = go (is_sound t p len) (no_room t p buf) h
   where
-    go : (s r : Bool) → (ends s r (total_of t.n p.count)).answer ≡ Refused why
-        → (ends s r (total_of t.n p.count) ≡ not_written why)
-        × (cond (not s) buf (cond r buf (file_of t p ++ drop (total_of t.n p.count) buf)) ≡ buf)
-    go false r h = (ap (λ (w : Answer). record { answer = w; count = 0 }) h, refl)
-    go true true h = (ap (λ (w : Answer). record { answer = w; count = 0 }) h, refl)
+    go : (s r : Bool) → ends s r (total_of t.n p.count) ≡ Err why
+        → cond (not s) buf (cond r buf (file_of t p ++ drop (total_of t.n p.count) buf)) ≡ buf
+    go false r h = refl
+    go true true h = refl
     go true false h = let z : ◌≡◌ {A = ℕ} 0 1 = cc in absurd (omega arith)

@@ -24,7 +24,7 @@ use Rattle.table.specs.Valid.{nodes_fit, messages_fit, pool_fits, valid_of}
 use Rattle.words.specs.Bytes.{bytes_of, number_of, encode, decode, encode_all, decode_all}
 use Rattle.file.specs.Format.{file_of}
 use Rattle.file.specs.Load.{header_fits, offsets_fit, statuses_fit, file_table, part_pool, file_pool, load_of}
-use Rattle.file.specs.Write.{wrote_of, written_of}
+use Rattle.file.specs.Write.{said_number, count_of, wrote_of, written_of}
 
 -- to unfold this is to unfold all that reading and writing compute with
 unfoldable opened : Unit {0}
@@ -220,7 +220,7 @@ loads =
 
 -- the answer and the count of a write into so many bytes
 abbrev wrote : Pool → ℕ → ℕ → ℕ × ℕ
-wrote p len bytes = (answer_number (wrote_of table p len (replicate bytes 7)).answer, (wrote_of table p len (replicate bytes 7)).count)
+wrote p len bytes = (said_number (wrote_of table p len (replicate bytes 7)), count_of (wrote_of table p len (replicate bytes 7)))
 
 -- a message that is not valid
 abbrev bad : Pool

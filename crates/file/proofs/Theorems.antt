@@ -14,7 +14,6 @@ use lib.Seq.{take_at, drop_at}
 use Rattle.marks.proofs.Bools.{and_left, and_right}
 use Rattle.rules.specs.declared.Pool.{Pool}
 use Rattle.rules.specs.declared.Refusal.{Refusal}
-use Rattle.rules.specs.declared.Answer.TheVariants.{Refused}
 use Rattle.rules.specs.Limits.{messages_high}
 use Rattle.rules.specs.Numbers.{answer_number}
 use Rattle.rules.specs.Pool.{waiting, laid}
@@ -26,7 +25,8 @@ use Rattle.table.specs.Valid.{valid_of}
 use Rattle.words.proofs.Codec.{Bytes}
 use Rattle.file.specs.Format.{total_of, file_of}
 use Rattle.file.specs.Load.{header_fits, offsets_fit, statuses_fit, file_table, file_pool, load_of}
-use Rattle.file.specs.Write.{not_written, wrote_of, written_of}
+use Rattle.std.specs.Prelude.{Ok, Err}
+use Rattle.file.specs.Write.{wrote_of, written_of}
 use Rattle.file.specs.Held.{Held}
 use Rattle.table_laws.proofs.Sound.{sound, sound-valid, is-valid, is-sound}
 use Rattle.file.proofs.Told.{laid-told}
@@ -53,7 +53,7 @@ total-most t p v = let s = sound t p v in omega (arith, s.numbers.n-high, s.coun
 
 -- what is counted and written when there is room
 pub counted : (t : Table) (p : Pool) (len : ℕ) (buf : List ℕ) → is_sound t p len ≡ true → total_of t.n p.count ≤ length buf
-    → (wrote_of t p len buf).count ≡ total_of t.n p.count
+    → wrote_of t p len buf ≡ Ok (total_of t.n p.count)
 unfolding wrote_of
 counted t p len buf s h = rw (s, le-ltb (length buf) (total_of t.n p.count) h)
 
@@ -124,9 +124,8 @@ refuses-exactly t p len bs = (load-exactly bs t p len, write-exactly t p len bs)
 -- ---- leaves the rest
 
 pub record Rest (t : Table) (p : Pool) (len : ℕ) (bs : List ℕ) : Type 0 where
-  pub load : (why : Refusal) → (load_of bs t p len).answer ≡ Refused why → load_of bs t p len ≡ refused_of t p why
-  pub write : (why : Refusal) → (wrote_of t p len bs).answer ≡ Refused why
-      → (wrote_of t p len bs ≡ not_written why) × (written_of t p len bs ≡ bs)
+  pub load : (why : Refusal) → (load_of bs t p len).answer ≡ Err why → load_of bs t p len ≡ refused_of t p why
+  pub write : (why : Refusal) → wrote_of t p len bs ≡ Err why → written_of t p len bs ≡ bs
   pub long : length (written_of t p len bs) ≡ length bs
   pub rest : drop (total_of t.n p.count) (written_of t p len bs) ≡ drop (total_of t.n p.count) bs
 

@@ -9,15 +9,14 @@ use lib.ListN.{length}
 use Rattle.rules.specs.declared.Pool.{Pool}
 use Rattle.rules.specs.declared.Refusal.{Refusal}
 use Rattle.rules.specs.declared.Refusal.TheVariants as no
-use Rattle.rules.specs.declared.Answer.TheVariants.{Done, Refused}
 use Rattle.rules.specs.Numbers.{refusal_number}
 use Rattle.rules.specs.Pool.{laid, waiting}
 use Rattle.table_type.specs.declared.Table.{Table}
 use Rattle.table_type.specs.declared.Stepped.{Stepped}
 use Rattle.table_type.specs.Start.{no_table}
-use Rattle.file.specs.declared.Wrote.{Wrote}
+use Rattle.std.specs.Prelude.{Ok, Err}
 use Rattle.file.specs.Load.{load_of}
-use Rattle.file.specs.Write.{not_written}
+use Rattle.file.specs.Write.{Wrote}
 use Rattle.text.specs.Decimal.{decimal}
 use Rattle.listing.specs.Print.{headline, refused_word, lines_of, print_of, listing_of}
 use Rattle.text.specs.InnerPrints.{Prints}
@@ -27,10 +26,10 @@ use Rattle.file_list.specs.InnerLoaded.{Loaded}
 
 -- what a load left, by its answer
 module _ {a b : List ℕ} {i : ℕ} (s : Stepped) where
-  pub loaded-done : s.answer ≡ Done → Prints a 0 (headline ++ lines_of s.table (waiting s.pool)) i b → Prints a 0 (print_of s) i b
+  pub loaded-done : s.answer ≡ Ok tt → Prints a 0 (headline ++ lines_of s.table (waiting s.pool)) i b → Prints a 0 (print_of s) i b
   loaded-done e p = rw e p
 
-  pub loaded-refused : (why : Refusal) → s.answer ≡ Refused why
+  pub loaded-refused : (why : Refusal) → s.answer ≡ Err why
       → Prints a 0 (refused_word ++ (decimal (refusal_number why) ++ (10 ∷ []))) i b → Prints a 0 (print_of s) i b
   loaded-refused why e p = rw e p
 
@@ -42,12 +41,12 @@ abbrev Lists : List ℕ → List ℕ → Wrote → List ℕ → Type 0
 Lists file out r new = (r ≡ list_of file out) × (new ≡ listed_of file out)
 
 module _ (file out : List ℕ) where
-  pub lists-none : length out < room → (r : Wrote) → r ≡ not_written no.NoRoom → Lists file out r out
+  pub lists-none : length out < room → Lists file out (Err no.NoRoom) out
   unfolding list_of listed_of
-  lists-none h r e = let l = lt-ltb (length out) room h in (rw (l, e), rw l)
+  lists-none h = let l = lt-ltb (length out) room h in (rw l, rw l)
 
   pub lists-done : room ≤ length out → {t : Table} {p : Pool} (s : Stepped) → t ≡ no_table → p ≡ laid [] → s ≡ load_of file t p 256
-      → {n : ℕ} {new : List ℕ} → Prints out 0 (print_of s) n new → Lists file out (record { answer = Done; count = n }) new
+      → {n : ℕ} {new : List ℕ} → Prints out 0 (print_of s) n new → Lists file out (Ok n) new
   unfolding list_of listed_of listing_of
   lists-done h s e f g p =
       let l = le-ltb (length out) room h in

@@ -3,6 +3,7 @@
 -- What a listing says is then tied to the steps made: `Travels` is a journey of real steps, `follow-travels` says that the listing's numbers and
 -- letters are those of one, and `travels-follow` that no others are. The measure: how many listed nodes are nearer to the key than the holder
 -- (crate lookup_laws). Assumes nothing.
+use Rattle.std.specs.Prelude.{Some, None}
 use mathlib.Core.Path.{◌≡◌, refl, sym, ◌∙◌}
 use mathlib.Core.Bool.{Bool, true, false, cond, not}
 use mathlib.Core.List.{List, [], ◌∷◌, ◌++◌, append_assoc, append-nil}
@@ -10,9 +11,7 @@ use Prim.Native.Nat.{ℕ, zero, suc, ◌+◌, ◌-◌, ◌^◌, ◌<◌, ◌≤�
 use native.Mathlib.Omega.{arith}
 use lib.ListN.{length}
 use lib.Seq.{set-get_or}
-use Rattle.marks.specs.Marks.{all_to}
-use Rattle.marks.specs.declared.Found.{Found}
-use Rattle.marks.specs.declared.Found.TheVariants.{At, Nothing}
+use Rattle.marks.specs.Marks.{all_to, Found}
 use Rattle.rules.specs.declared.Hop.{Hop}
 use Rattle.rules.specs.declared.Hop.TheVariants.{To, NoRoute}
 use Rattle.rules.specs.declared.Message.{Message}
@@ -212,8 +211,8 @@ module _ {t : Table} {m : Message} (l : Lone t m) where
 
 -- it ends at slot i, delivered or not, or goes on from another slot
 abbrev pub onward : Turn → ℕ → List ℕ → (ℕ → Trip) → Trip
-onward Delivers i letters rest = ended (At i) letters
-onward Stops i letters rest = ended Nothing letters
+onward Delivers i letters rest = ended (Some i) letters
+onward Stops i letters rest = ended None letters
 onward (Goes h) i letters rest = rest h
 
 -- one letter more, of the routing from slot i to h
@@ -222,7 +221,7 @@ lettered t i h letters = letters ++ (letter_at t i h ∷ [])
 
 -- by at most so many slots, from slot i
 unfoldable pub follow_to : ℕ → Table → ℕ → ℕ → List ℕ → Trip
-follow_to zero t k i letters = ended Nothing letters
+follow_to zero t k i letters = ended None letters
 follow_to (suc slots) t k i letters = onward (turn_at t k i) i letters (λ h. follow_to slots t k h (lettered t i h letters))
 
 -- one turn of 64, and none
@@ -231,7 +230,7 @@ pub turn : (t : Table) (k i hops : ℕ) (letters : List ℕ) → hops < 64
 unfolding follow_to
 turn t k i hops letters h = let e : 64 - hops ≡ suc (64 - (hops + 1)) = omega arith in rw e
 
-pub turn-none : (t : Table) (k i hops : ℕ) (letters : List ℕ) → 64 ≤ hops → follow_to (64 - hops) t k i letters ≡ ended Nothing letters
+pub turn-none : (t : Table) (k i hops : ℕ) (letters : List ℕ) → 64 ≤ hops → follow_to (64 - hops) t k i letters ≡ ended None letters
 unfolding follow_to
 turn-none t k i hops letters h = let e : 64 - hops ≡ 0 = omega arith in rw e
 
@@ -264,11 +263,11 @@ follow-is l = trip-is 64 l []
 -- Forwards to another node, each with the letter that its answer says
 pub data Travels (t : Table) : Message → Found → List ℕ → Type 0 where
   -- refused by a node that is not ready
-  stopped : {m : Message} → Halts t m → Travels t m Nothing []
+  stopped : {m : Message} → Halts t m → Travels t m None []
   -- delivered: nothing waits
-  arrived : {m : Message} → delivered t m ≡ done_of t (laid []) → Travels t m (At m.dest) []
+  arrived : {m : Message} → delivered t m ≡ done_of t (laid []) → Travels t m (Some m.dest) []
   -- no legal route: NoLegalRoute waits
-  stranded : {m : Message} → Passes t m Unrouted (placed (no_legal_route m.word) m.dest) → Travels t m Nothing []
+  stranded : {m : Message} → Passes t m Unrouted (placed (no_legal_route m.word) m.dest) → Travels t m None []
   -- forwarded: the same Lookup waits at another slot, with one hop more
   routed : {m : Message} {h : ℕ} {via : Via} {end : Found} {letters : List ℕ} → Passes t m via (farther m h)
       → Travels t (farther m h) end letters → Travels t m end (via_number via ∷ letters)
@@ -301,9 +300,9 @@ journey-in (suc n) {t} {m} l f =
     ends e b w = record { end = e; letters = []; travels = w; few = omega arith; below = b }
 
     go : (x : Turn) → Does t m x → ((h : ℕ) → hop_at t m.dest m.word ≡ To h → Journey t (farther m h)) → Journey t m
-    go x (stops s) on = ends Nothing tt (stopped s)
-    go x (delivers s) on = ends (At m.dest) (lone-slot l) (arrived s)
-    go x (strands s) on = ends Nothing tt (stranded s)
+    go x (stops s) on = ends None tt (stopped s)
+    go x (delivers s) on = ends (Some m.dest) (lone-slot l) (arrived s)
+    go x (strands s) on = ends None tt (stranded s)
     go x (routes h e s) on =
         let j = on h e in
         record {

@@ -1,5 +1,7 @@
 -- A lookup on its way, by the rules alone: where it is and how often it was routed, with what is left of its trip (Underway). One hop keeps
 -- that, and when the way ends the trip is that of the steps. Assumes nothing.
+use Rattle.marks.specs.Marks.{Found}
+use Rattle.std.specs.Prelude.{Some, None}
 use mathlib.Core.Path.{◌≡◌, refl, sym, ◌∙◌, ap}
 use mathlib.Core.List.{List}
 use Prim.Native.Nat.{ℕ, ◌+◌, ◌-◌, ◌^◌, ◌<◌, ◌≤◌}
@@ -7,8 +9,6 @@ use native.Mathlib.Omega.{arith}
 use native.Mathlib.Numerals.{add-one}
 use lib.ListN.{length, take, set, length-set}
 use lib.Seq.{take-suc-set}
-use Rattle.marks.specs.declared.Found.{Found}
-use Rattle.marks.specs.declared.Found.TheVariants.{At, Nothing}
 use Rattle.rules.specs.declared.Message.{Message}
 use Rattle.rules.specs.declared.Node.{Node}
 use Rattle.rules.specs.declared.Ring.{Ring}
@@ -33,11 +33,11 @@ pub record Underway (t : Table) (m : Message) (i hops : ℕ) (letters : List ℕ
   pub few : hops ≤ 64
   pub long : length letters ≡ 64
   pub slot : i < t.n
-  pub none_yet : end ≡ Nothing
+  pub none_yet : end ≡ None
   pub rest : follow_to (64 - hops) t m.word i (take hops letters) ≡ follow_of t m
 
 module _ {t : Table} {m : Message} (l : Lone t m) where
-  pub sets-out : (letters : List ℕ) → length letters ≡ 64 → Underway t m m.dest 0 letters Nothing
+  pub sets-out : (letters : List ℕ) → length letters ≡ 64 → Underway t m m.dest 0 letters None
   sets-out letters e = record { few = omega arith; long = e; slot = lone-slot l; none_yet = refl; rest = sym (follow-is l) }
 
   -- one letter is stored behind those before it
@@ -62,21 +62,20 @@ module _ {t : Table} {m : Message} (l : Lone t m) where
   inside u = omega (arith, u.slot, (lone-listed l).n-high)
 
   -- what the turn there asks
-  pub asked : {g : Ring} {ids : List ℕ} {i hops : ℕ} {letters : List ℕ} {end : Found} → g ≡ ring_of t → ids ≡ ids_of t
-      → Underway t m i hops letters end
-      → Listed g ids × (i < 64) × (m.word < 2 ^ g.m)
-  asked p q u = rw (p, q) (lone-listed l, inside u, lone-key l)
+  pub asked : {g : Ring} {i hops : ℕ} {letters : List ℕ} {end : Found} → g ≡ ring_of t → Underway t m i hops letters end
+      → (i < 64) × (m.word < 2 ^ g.m)
+  asked p u = rw p (inside u, lone-key l)
 
   -- how it can end
   pub trip-ends : {trip : Trip} → trip ≡ follow_of t m → Below trip.end 64 × (length trip.letters < 64)
   trip-ends e = rw e (go (follow_of t m).end (follow-below l), omega (arith, follow-few l, (lone-listed l).n-high))
     where
       go : (x : Found) → Below x t.n → Below x 64
-      go (At s) h = omega (arith, (lone-listed l).n-high)
-      go Nothing h = tt
+      go (Some s) h = omega (arith, (lone-listed l).n-high)
+      go None h = tt
 
 module _ {t : Table} {m : Message} {i hops : ℕ} {letters : List ℕ} {end : Found} (u : Underway t m i hops letters end) where
-  pub delivered : hops < 64 → turn_at t m.word i ≡ Delivers → ended (At i) (take hops letters) ≡ follow_of t m
+  pub delivered : hops < 64 → turn_at t m.word i ≡ Delivers → ended (Some i) (take hops letters) ≡ follow_of t m
   delivered b e = sym (turn t m.word i hops (take hops letters) b ∙ rw e) ∙ u.rest
 
   pub stopped : hops < 64 → turn_at t m.word i ≡ Stops → ended end (take hops letters) ≡ follow_of t m

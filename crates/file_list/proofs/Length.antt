@@ -1,4 +1,5 @@
 -- A loaded table is valid, so a listing is no longer than this; and the bytes that `list` counts are the listing. Assumes nothing.
+use Rattle.rules.specs.Shapes.{Answer}
 use mathlib.Core.Path.{◌≡◌, refl}
 use mathlib.Core.Bool.{Bool, true, false, cond}
 use mathlib.Core.List.{List, [], ◌++◌}
@@ -9,8 +10,6 @@ use borrow.Author.Tests.{le-ltb}
 use lib.ListN.{length, take, drop, length-append}
 use lib.Seq.{take-append_seam}
 use Rattle.rules.specs.declared.Pool.{Pool}
-use Rattle.rules.specs.declared.Answer.{Answer}
-use Rattle.rules.specs.declared.Answer.TheVariants.{Done, Refused}
 use Rattle.rules.specs.declared.Refusal.{Refusal}
 use Rattle.rules.specs.declared.Refusal.TheVariants as no
 use Rattle.rules.specs.Numbers.{refusal_number}
@@ -20,7 +19,8 @@ use Rattle.table_type.specs.declared.Stepped.{Stepped}
 use Rattle.table_type.specs.Start.{no_table}
 use Rattle.table_laws.proofs.Sound.{sound}
 use Rattle.file.specs.Load.{load_of}
-use Rattle.file.specs.Write.{not_written}
+use Rattle.std.specs.Prelude.{Ok, Err}
+use Rattle.file.specs.Write.{count_of}
 use Rattle.file.proofs.Exactly.{load-valid}
 use Rattle.listing.specs.List.{room, list_of, listed_of}
 use Rattle.listing.specs.Print.{printed, print_of, listing_of}
@@ -52,9 +52,9 @@ pub print-short : (s : Stepped) → Loaded s → length (print_of s) ≤ 21 + 25
 print-short s v = go s.answer refl
   where
     go : (a : Answer) → s.answer ≡ a → length (printed a s) ≤ 21 + 256 * 100
-    go Done e =
+    go (Ok tt) e =
         omega (arith, (sound s.table s.pool (v.valid e)).counted, lines-short s.table s.pool (v.valid e) s.pool.count (omega arith))
-    go (Refused why) e = simp length-append (omega (arith, refusal-short why))
+    go (Err why) e = simp length-append (omega (arith, refusal-short why))
 
 pub listing-short : (bs : List ℕ) → length (listing_of bs) ≤ 21 + 256 * 100
 unfolding listing_of
@@ -64,16 +64,16 @@ listing-short bs = print-short (load_of bs no_table (laid []) 256) (loaded bs no
 
 module _ (file out : List ℕ) where
   -- the count lies within the buffer
-  pub list_inside : (list_of file out).count ≤ length (listed_of file out)
+  pub list_inside : count_of (list_of file out) ≤ length (listed_of file out)
   unfolding list_of listed_of
   list_inside = go (ltb (length out) room)
     where
-      go : (b : Bool) → (cond b (not_written no.NoRoom) (record { answer = Done; count = length (listing_of file) })).count
+      go : (b : Bool) → count_of (cond b (Err no.NoRoom) (Ok (length (listing_of file))))
           ≤ length (cond b out (listing_of file ++ drop (length (listing_of file)) out))
       go true = omega arith
       go false = rw length-append (omega arith)
 
   -- where there is room, so many of its first bytes are the listing
-  pub list_tells : room ≤ length out → take (list_of file out).count (listed_of file out) ≡ listing_of file
+  pub list_tells : room ≤ length out → take (count_of (list_of file out)) (listed_of file out) ≡ listing_of file
   unfolding list_of listed_of
   list_tells h = rw (le-ltb (length out) room h) (take-append_seam (listing_of file) _)

@@ -1,7 +1,7 @@
 -- The line of a lookup that ended so, from the ids by slot: with those of a table it is the listing's (`line-is`). Assumes nothing.
+use Rattle.marks.specs.Marks.{Found}
+use Rattle.std.specs.Prelude.{Some, None}
 use mathlib.Core.Path.{◌≡◌, refl}
-use Rattle.marks.specs.declared.Found.{Found}
-use Rattle.marks.specs.declared.Found.TheVariants.{At, Nothing}
 use Rattle.rules.specs.declared.Message.{Message}
 use Rattle.table_type.specs.declared.Table.{Table}
 use Rattle.table_type.specs.Table.{ids_of}
@@ -11,8 +11,8 @@ use Rattle.listing.specs.Print.{end_text, line_of}
 use Rattle.file_list.specs.InnerLine.{end_in, line_in}
 
 end_is : (t : Table) (end : Found) → end_in (ids_of t) end ≡ end_text t end
-end_is t (At e) = rw (ids_at t.nodes e)
-end_is t Nothing = refl
+end_is t (Some e) = rw (ids_at t.nodes e)
+end_is t None = refl
 
 pub line-is : (t : Table) (m : Message) → let trip = follow_of t m in line_in (ids_of t) m trip.end trip.letters ≡ line_of t m
 unfolding line_of

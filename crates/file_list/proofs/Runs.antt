@@ -1,18 +1,16 @@
 -- The line of a lookup is put together of its fields, the lines of the messages passed of theirs, and the line of a refused file of two texts.
 -- Assumes nothing.
-use mathlib.Core.Path.{◌≡◌, refl}
+use Rattle.marks.specs.Marks.{Found}
+use mathlib.Core.Path.{◌≡◌}
 use mathlib.Core.Bool.{true}
 use mathlib.Core.List.{List, [], ◌∷◌, ◌++◌, append_assoc, append-nil}
 use Prim.Native.Nat.{ℕ, ◌+◌, ◌*◌, ◌<◌, ◌≤◌}
 use native.Mathlib.Omega.{arith}
 use borrow.Author.Tests.{ne_eqb}
-use lib.ListN.{get_or, length, take, length-append}
-use Rattle.marks.specs.declared.Found.{Found}
-use Rattle.marks.specs.declared.Found.TheVariants.{At, Nothing}
+use lib.ListN.{get_or, length, take}
 use Rattle.rules.specs.declared.Message.{Message}
 use Rattle.rules.specs.declared.Pool.{Pool}
 use Rattle.rules.specs.declared.Refusal.{Refusal}
-use Rattle.rules.specs.InnerAsks.{Below}
 use Rattle.rules.specs.Numbers.{refusal_number}
 use Rattle.rules.specs.Pool.{blank}
 use Rattle.table_type.specs.declared.Table.{Table}
@@ -25,50 +23,11 @@ use Rattle.text.specs.InnerPrints.{Prints}
 use Rattle.file_list.specs.InnerLine.{end_in, line_in}
 use Rattle.file_list.proofs.Text.{lines_more, lines-short}
 
--- ---- where a lookup ended
-
-pub end-slot : {end : Found} {e : ℕ} → end ≡ At e → Below end 64 → e < 64
-end-slot q h = rw q at h
-
-module _ (ids : List ℕ) {end : Found} where
-  pub end-id : {a b : List ℕ} {at i e : ℕ} → end ≡ At e → Prints a at (decimal (get_or ids e 0)) i b → Prints a at (end_in ids end) i b
-  end-id q p = rw q p
-
-  pub end_none : {a b : List ℕ} {at i : ℕ} → end ≡ Nothing → Prints a at (45 ∷ []) i b → Prints a at (end_in ids end) i b
-  end_none q p = rw q p
-
 -- ---- a line
-
--- the lengths of its fields
-pub fields-length : (ids : List ℕ) (m : Message) (end : Found) (letters : List ℕ)
-    → length (line_in ids m end letters)
-    ≡ length (decimal m.word) + 1 + (length (decimal (get_or ids m.dest 0)) + 1) + (length (end_in ids end) + 1 + length (hops_text letters))
-fields-length ids m end letters = simp length-append (omega arith)
-
--- the routings and their letters
-pub hops-length : (letters : List ℕ) → length (hops_text letters) ≡ length (decimal (length letters)) + 1 + (length (via_text letters) + 1)
-hops-length letters = simp length-append (omega arith)
 
 pub hops-run : {a b c d : List ℕ} {at i j k : ℕ} (letters : List ℕ) → Prints a at (decimal (length letters) ++ (32 ∷ [])) i b
     → Prints b i (via_text letters) j c → Prints c j (10 ∷ []) k d → Prints a at (hops_text letters) k d
 hops-run letters p q r = simp append_assoc at (then p (then q r))
-
--- the letters, where there are some
-pub via-none : (letters : List ℕ) {a b : List ℕ} {at i : ℕ} → length letters ≡ 0 → Prints a at (45 ∷ []) i b → Prints a at (via_text letters) i b
-via-none [] e p = p
-via-none (x ∷ xs) e p = absurd (omega arith)
-
-pub dash-fits : (letters : List ℕ) (at room : ℕ) → length letters ≡ 0 → at + length (via_text letters) ≤ room → at + 1 ≤ room
-dash-fits [] at room e h = h
-dash-fits (x ∷ xs) at room e h = absurd (omega arith)
-
-pub text-fits : (letters : List ℕ) (at room : ℕ) → (length letters ≡ 0 → ⊥) → at + length (via_text letters) ≤ room → at + length letters ≤ room
-text-fits [] at room e h = absurd (e refl)
-text-fits (x ∷ xs) at room e h = h
-
-pub via-some : (letters : List ℕ) → (length letters ≡ 0 → ⊥) → via_text letters ≡ letters
-via-some [] e = absurd (e refl)
-via-some (x ∷ xs) e = refl
 
 pub line-run : {a b c d e f : List ℕ} {at i j k l n : ℕ} (ids : List ℕ) (m : Message) (end : Found) (letters : List ℕ)
     → Prints a at (decimal m.word ++ (32 ∷ [])) i b → Prints b i (decimal (get_or ids m.dest 0) ++ (32 ∷ [])) j c

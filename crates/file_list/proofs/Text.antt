@@ -1,5 +1,7 @@
 -- How long the parts of a listing are, and how its lines follow from one another. A line has at most 100 bytes: its keys and ids are below 2^32,
 -- and a lookup is routed fewer than 64 times, with a letter each time. By induction on the messages. Assumes nothing.
+use Rattle.marks.specs.Marks.{Found}
+use Rattle.std.specs.Prelude.{Some, None}
 use mathlib.Core.Path.{◌≡◌, refl, ◌∙◌}
 use mathlib.Core.Bool.{Bool, true, false, cond}
 use mathlib.Core.List.{List, [], ◌∷◌, ◌++◌, append_assoc, append-nil}
@@ -14,8 +16,6 @@ use lib.Pow.{pow_mono}
 use lib.Seq.{get_or-take}
 use Rattle.text.specs.Decimal.{decimal}
 use Rattle.text.proofs.Digits.{decimal-few, decimal-word}
-use Rattle.marks.specs.declared.Found.{Found}
-use Rattle.marks.specs.declared.Found.TheVariants.{At, Nothing}
 use Rattle.rules.specs.declared.Message.{Message}
 use Rattle.rules.specs.declared.Pool.{Pool}
 use Rattle.rules.specs.InnerAsks.{Below}
@@ -55,8 +55,8 @@ module _ {t : Table} {m : Message} (l : Lone t m) where
       (ring-word (node_at t s).id (rw (ids_at t.nodes s) at ((lone-listed l).ids-in s (omega (arith, (lone-listed l).n-high)))))
 
   end_short : (e : Found) → Below e t.n → length (end_text t e) ≤ 10
-  end_short (At e) h = id-short e h
-  end_short Nothing h = omega arith
+  end_short (Some e) h = id-short e h
+  end_short None h = omega arith
 
   letters-few : length (follow_of t m).letters < 64
   letters-few = omega (arith, follow-few l, (lone-listed l).n-high)

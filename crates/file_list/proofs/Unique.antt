@@ -2,7 +2,7 @@
 use mathlib.Core.Path.{◌≡◌}
 use mathlib.Core.List.{List}
 use Prim.Native.Nat.{ℕ}
-use Rattle.file.specs.declared.Wrote.{Wrote}
+use Rattle.file.specs.Write.{Wrote}
 use Rattle.file.proofs.Replies.{both-same}
 use Rattle.listing.specs.List.{list_of, listed_of}
 

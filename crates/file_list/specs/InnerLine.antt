@@ -1,14 +1,13 @@
 -- The line of a lookup that ended so, from the ids by slot. Definitions only. Assumes nothing.
-use Rattle.std.specs.Prelude.{List, [], ◌∷◌, ◌++◌, ℕ, get_or}
-use Rattle.marks.specs.declared.Found.{Found}
-use Rattle.marks.specs.declared.Found.TheVariants.{At, Nothing}
+use Rattle.marks.specs.Marks.{Found}
+use Rattle.std.specs.Prelude.{List, [], ◌∷◌, ◌++◌, ℕ, get_or, Some, None}
 use Rattle.rules.specs.declared.Message.{Message}
 use Rattle.text.specs.Decimal.{decimal}
 use Rattle.listing.specs.Print.{space, hops_text}
 
 abbrev pub end_in : List ℕ → Found → List ℕ
-end_in ids (At e) = decimal (get_or ids e 0)
-end_in ids Nothing = 45 ∷ []
+end_in ids (Some e) = decimal (get_or ids e 0)
+end_in ids None = 45 ∷ []
 
 abbrev pub line_in : List ℕ → Message → Found → List ℕ → List ℕ
 line_in ids m end letters =

@@ -1,8 +1,8 @@
 // The listing of a table file: each waiting lookup followed to its end, and printed as a line.
 #![tactic(auto)]
 
-ghost use Rattle.std.specs.Prelude.{◌≡◌, true, [], ◌∷◌, ◌++◌, ◌+◌, ◌*◌, ◌^◌, ◌<◌, ◌≤◌, length, take};
-ghost use Rattle.rules.specs.InnerAsks.{Listed, Below};
+ghost use Rattle.std.specs.Prelude.{◌≡◌, true, [], ◌∷◌, ◌++◌, ◌+◌, ◌*◌, ◌^◌, ◌<◌, ◌≤◌, length};
+ghost use Rattle.rules.specs.InnerAsks.{Below};
 ghost use Rattle.rules.specs.Hop.{via_of};
 ghost use Rattle.rules.specs.Numbers.{refusal_number, via_number};
 ghost use Rattle.rules.specs.Pool.{waiting};
@@ -16,8 +16,7 @@ ghost use Rattle.listing.specs.List.{list_of, listed_of};
 ghost use Rattle.file_list.specs.InnerLoaded.{Loaded};
 
 use file::Wrote;
-use marks::Found;
-use rules::{Answer, Hop, Message, Node, Pool, Refusal, Ring};
+use rules::{Hop, Message, Node, Pool, Refusal, Roster, Status};
 use table_type::{Stepped, Table};
 
 // What a node does with a lookup that it takes: delivers it, stops it (it is not ready, or there is no legal route), or routes it to
@@ -30,18 +29,18 @@ pub enum Turn {
 }
 
 // What node i does with a lookup of k.
-fn turn_at(g: Ring, ids: &[u32; 64], dead: u64, i: usize, v: Node, k: u32) -> Turn
-    requires { Listed g ids.now × (i < 64) × (k < 2 ^ g.m) }
-    ensures { result ≡ turn_of g ids.now dead i v k }
+#[tactic(auto, using(rules::proofs::Statuses::statuses), unfolding(crate::specs::InnerFollow::turn_of))]
+fn turn_at(r: &Roster, dead: u64, i: usize, v: Node, k: u32) -> Turn
+    requires { (i < 64) × (k < 2 ^ r.now.ring.m) }
+    ensures { result ≡ turn_of r.now.ring r.now.ids dead i v k }
 {
-    let st = v.status;
-    if !parts::is_ready(st) {
+    if v.status != Status::Ready {
         return Turn::Stops;
     }
-    if leaf::covers(g, ids, i, parts::sides_of(v), k) {
+    if leaf::covers(r, i, parts::sides_of(v), k) {
         return Turn::Delivers;
     }
-    let next = hop::next_hop(g, ids, dead, i, v, k);
+    let next = hop::next_hop(r, dead, i, v, k);
     match next {
         Hop::To(h) => Turn::Goes(h),
         Hop::NoRoute => Turn::Stops,
@@ -56,16 +55,16 @@ fn letter_of(i: usize, v: Node, h: usize) -> u8
 }
 
 // Writes the id of the slot that delivered a lookup, or `-`.
-fn put_end(b: &mut [u8], at: usize, ids: &[u32; 64], end: Found) -> usize
+fn put_end(b: &mut [u8], at: usize, ids: &[u32; 64], end: Option<usize>) -> usize
     requires { Below end 64 × (at + length (end_in ids.now end) ≤ length b.old) }
     ensures { Prints b.old at (end_in ids.now end) result b.new }
 {
     match end {
-        Found::At(e) => {
+        Some(e) => {
             let id = ids[e];
             text::put_number(b, at, id)
         }
-        Found::Nothing => text::put_byte(b, at, 45),
+        None => text::put_byte(b, at, b'-'),
     }
 }
 
@@ -74,8 +73,8 @@ fn put_via(b: &mut [u8], at: usize, letters: &[u8]) -> usize
     requires { at + length (via_text letters.now) ≤ length b.old }
     ensures { Prints b.old at (via_text letters.now) result b.new }
 {
-    if letters.len() == 0 {
-        return text::put_byte(b, at, 45);
+    if letters.is_empty() {
+        return text::put_byte(b, at, b'-');
     }
     text::put_text(b, at, letters)
 }
@@ -85,59 +84,56 @@ fn put_hops(b: &mut [u8], at: usize, letters: &[u8]) -> usize
     requires { (length letters.now < 64) × (at + length (hops_text letters.now) ≤ length b.old) }
     ensures { Prints b.old at (hops_text letters.now) result b.new }
 {
-    let a1 = text::put_field(b, at, letters.len() as u32, 32);
+    let a1 = text::put_field(b, at, letters.len() as u32, b' ');
     let a2 = put_via(b, a1, letters);
-    text::put_byte(b, a2, 10)
+    text::put_byte(b, a2, b'\n')
 }
 
-// Writes the line of a lookup that ended so, routed `hops` times with these letters.
+// Writes the line of a lookup that ended so, routed with these letters.
 fn put_line(
     b: &mut [u8],
     at: usize,
     ids: &[u32; 64],
     m: Message,
-    end: Found,
+    end: Option<usize>,
     letters: &[u8],
-    hops: usize,
 ) -> usize
-    requires { (m.dest < 64) × Below end 64 × (hops < 64) × (hops ≤ length letters.now) × (at + length (line_in ids.now m end (take hops letters.now)) ≤ length b.old) }
-    ensures { Prints b.old at (line_in ids.now m end (take hops letters.now)) result b.new }
+    requires { (m.dest < 64) × Below end 64 × (length letters.now < 64) × (at + length (line_in ids.now m end letters.now) ≤ length b.old) }
+    ensures { Prints b.old at (line_in ids.now m end letters.now) result b.new }
 {
     let i = m.dest as usize;
     let own = ids[i];
-    let a1 = text::put_field(b, at, m.word, 32);
-    let a2 = text::put_field(b, a1, own, 32);
+    let a1 = text::put_field(b, at, m.word, b' ');
+    let a2 = text::put_field(b, a1, own, b' ');
     let a3 = put_end(b, a2, ids, end);
-    let a4 = text::put_byte(b, a3, 32);
-    put_hops(b, a4, &letters[..hops])
+    let a4 = text::put_byte(b, a3, b' ');
+    put_hops(b, a4, letters)
 }
 
 // Follows each waiting lookup, in pool order, as the only message of the table, with no other step, and writes its line: by the rules alone, with no
-// pool and no test of validity at each hop. The table is looked at here alone, since a call for each lookup would copy it.
+// pool and no test of validity at each hop. The table is looked at here alone, since a call for each lookup would copy it. A `for` over the hops would not
+// leave how many they were.
 fn follow(b: &mut [u8], start: usize, t: Table, p: Pool) -> usize
     requires { (valid_of t p ≡ true) × (start + 100 * 256 ≤ length b.old) }
     ensures { Prints b.old start (lines_of t (waiting p)) result b.new }
 {
-    let g = table_type::ring_of(t);
-    let ids = table_type::ids(t);
+    let r = table_type::roster(t);
     let dead = table_settled::dead_set(t);
-    let n = p.count;
     let mut at = start;
-    let mut q: usize = 0;
-    'lookups: while q < n {
+    'lookups: for q in 0..p.count {
         let m = p.places[q];
         if m.kind == 1 {
             let from = m.dest as usize;
             let mut i = from;
             let mut hops: usize = 0;
             let mut letters = [0u8; 64];
-            let mut end = Found::Nothing;
+            let mut end = None;
             'hops: while hops < 64 {
                 let v = t.nodes[i];
-                let turn = turn_at(g, &ids, dead, i, v, m.word);
+                let turn = turn_at(&r, dead, i, v, m.word);
                 match turn {
                     Turn::Delivers => {
-                        end = Found::At(i);
+                        end = Some(i);
                         break 'hops;
                     }
                     Turn::Stops => break 'hops,
@@ -148,9 +144,8 @@ fn follow(b: &mut [u8], start: usize, t: Table, p: Pool) -> usize
                     }
                 }
             }
-            at = put_line(b, at, &ids, m, end, &letters, hops);
+            at = put_line(b, at, &r.ids, m, end, &letters[..hops]);
         }
-        q += 1;
     }
     at
 }
@@ -169,9 +164,9 @@ fn put_refused(b: &mut [u8], why: Refusal) -> usize
     requires { 65536 ≤ length b.old }
     ensures { Prints b.old 0 (refused_word ++ (decimal (refusal_number why) ++ (10 ∷ []))) result b.new }
 {
-    let number = parts::answer_number(Answer::Refused(why));
+    let number = parts::answer_number(Err(why));
     let at = text::put_text(b, 0, b"refused ");
-    text::put_field(b, at, number, 10)
+    text::put_field(b, at, number, b'\n')
 }
 
 // Writes the listing of what a load left.
@@ -181,8 +176,8 @@ fn put_loaded(b: &mut [u8], s: Stepped) -> usize
 {
     let answer = s.answer;
     match answer {
-        Answer::Done => print(s.table, s.pool, b),
-        Answer::Refused(why) => put_refused(b, why),
+        Ok(()) => print(s.table, s.pool, b),
+        Err(why) => put_refused(b, why),
     }
 }
 
@@ -192,7 +187,7 @@ pub fn list(file: &[u8], out: &mut [u8]) -> Wrote
     ensures { (result ≡ list_of file.now out.old) × (out.new ≡ listed_of file.now out.old) }
 {
     if out.len() < 65536 {
-        return file_write::not_written(Refusal::NoRoom);
+        return Err(Refusal::NoRoom);
     }
     let s = file_read::load(
         file,
@@ -200,9 +195,5 @@ pub fn list(file: &[u8], out: &mut [u8]) -> Wrote
         table_parts::no_messages(),
         256,
     );
-    let count = put_loaded(out, s);
-    Wrote {
-        answer: Answer::Done,
-        count,
-    }
+    Ok(put_loaded(out, s))
 }

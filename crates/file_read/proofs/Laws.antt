@@ -10,13 +10,15 @@ use native.Mathlib.Omega.{arith}
 use borrow.Author.Tests.{leb-true, eqb-true}
 use lib.Dec.{eqb, leb}
 use lib.ListN.{length, get_or, take, drop, set, replicate, length-map, length-drop}
-use lib.Seq.{take_all, drop-drop, set_at, append_snoc}
+use lib.Seq.{take_all, drop-cons, drop-drop, set_at, append_snoc}
 use Rattle.marks.proofs.Bools.{and_left, and_right}
 use Rattle.rules.specs.Limits.{m_low, m_high, l_low, l_high, nodes_high, messages_high}
 use Rattle.rules.specs.Fits.{between}
 use Rattle.words.specs.Bytes.{number_of, decode, decode_all}
 use Rattle.words.proofs.Codec.{decode-all-length}
 use Rattle.file.specs.Format.{node_widths, message_widths, nodes_at, messages_at, total_of, status_of, node_from, message_from}
+use Rattle.file.proofs.Back.{header-told}
+use Rattle.file_read.specs.InnerRecords.{Fitting}
 use Rattle.file.specs.Load.{header_word, file_m, file_l, file_n, file_count, header_fits, offsets_fit}
 
 -- the number whose w bytes begin at a place
@@ -79,9 +81,9 @@ rest-whole bs at = take_all (length bs - at) (drop at bs) (rw length-drop (omega
 
 -- ---- records one after the other
 
--- as many places as high, of which the first n hold the records passed and the others d
-abbrev pub passed : {A : Type 0} → ℕ → A → (List ℕ → A) → List ℕ → ℕ → List ℕ → ℕ → List A
-passed high d f ws size bs n = map f (decode_all ws size n bs) ++ replicate (high - n) d
+-- places, of which the first n hold the records passed and the others what they held
+abbrev pub passed : {A : Type 0} → (List ℕ → A) → List ℕ → ℕ → List ℕ → List A → ℕ → List A
+passed f ws size bs old n = map f (decode_all ws size n bs) ++ drop n old
 
 decode-all-more : (ws : List ℕ) (size n : ℕ) (bs : List ℕ)
     → decode_all ws size (suc n) bs ≡ decode_all ws size n bs ++ (decode ws (drop (size * n) bs) ∷ [])
@@ -94,20 +96,18 @@ decode-all-more ws size (suc n) bs =
 pub rows_long : {A : Type 0} (f : List ℕ → A) (ws : List ℕ) (size n : ℕ) (bs : List ℕ) → length (map f (decode_all ws size n bs)) ≡ n
 rows_long f ws size n bs = length-map (decode_all ws size n bs) f ∙ decode-all-length ws size n bs
 
-module _ {A : Type 0} (high : ℕ) (d : A) (f : List ℕ → A) (ws : List ℕ) (size : ℕ) (bs : List ℕ) where
-  pub passed_none : passed high d f ws size bs 0 ≡ replicate high d
+module _ {A : Type 0} (f : List ℕ → A) (ws : List ℕ) (size : ℕ) (bs : List ℕ) (old : List A) where
+  pub passed_none : passed f ws size bs old 0 ≡ old
   unfolding decode_all
-  passed_none = simp unary_clauses
+  passed_none = refl
 
-  pub passed-more : (n : ℕ) → n < high
-      → set (passed high d f ws size bs n) n (f (decode ws (drop (size * n) bs))) ≡ passed high d f ws size bs (n + 1)
-  passed-more n h =
-      let old = map f (decode_all ws size n bs) in
-      let v = f (decode ws (drop (size * n) bs)) in
-      let rest = replicate (high - suc n) d in
-      let e : high - n ≡ suc (high - suc n) = omega arith in
-      rw (add-one, e, decode-all-more ws size n bs, map-append)
-      (set_at old d rest v n (rows_long f ws size n bs) ∙ sym (append_snoc old v rest))
+  pub passed-more : (n : ℕ) (v : A) → n < length old → v ≡ f (decode ws (drop (size * n) bs))
+      → set (passed f ws size bs old n) n v ≡ passed f ws size bs old (n + 1)
+  passed-more n v h e =
+      let done = map f (decode_all ws size n bs) in
+      let rest = drop (suc n) old in
+      rw (add-one, drop-cons old n v h, decode-all-more ws size n bs, map-append, ← e)
+      (set_at done (get_or old n v) rest v n (rows_long f ws size n bs) ∙ sym (append_snoc done v rest))
 
 -- ---- what the tests of a header tell
 
@@ -132,3 +132,11 @@ header-counts bs h =
       leb-true _ _ (and_right (leb 1 (file_n bs)) (leb (file_n bs) 64) (and_left c (d && e) cde)),
       leb-true _ _ (and_left d e (and_right c (d && e) cde)),
     )
+
+-- the three parts of a file, and where the messages begin
+pub fits_told : {bs : List ℕ} → Fitting bs
+    → (length bs ≡ 32 + 64 * file_n bs + 56 * file_count bs) × ((file_n bs ≤ 64) × ((file_count bs ≤ 256) × (header_word bs 5 ≡ 32 + 64 * file_n bs)))
+fits_told {bs} f =
+    let told = header-told bs f.header f.offsets in
+    let few = header-counts bs f.header in
+    (told.long, (few.0, (few.1, told.messages)))

@@ -1,8 +1,8 @@
 // Reading a table file: its words, its records, its tests in the order of their numbers.
 #![tactic(auto)]
 
-ghost use Rattle.std.specs.Prelude.{◌≡◌, true, ◌+◌, ◌*◌, ◌<◌, ◌≤◌, length, drop};
-ghost use Rattle.words.specs.Bytes.{decode};
+ghost use Rattle.std.specs.Prelude.{◌≡◌, true, List, map, ◌++◌, ℕ, ◌+◌, ◌*◌, ◌<◌, ◌≤◌, length, drop};
+ghost use Rattle.words.specs.Bytes.{decode, decode_all};
 ghost use Rattle.file.specs.Format.{node_widths, message_widths, status_of, node_from, message_from};
 ghost use Rattle.file.specs.Load.{header_word, header_fits, offsets_fit, statuses_fit, file_table, part_pool, file_pool, load_of};
 ghost use Rattle.file_read.specs.InnerRecords.{Fitting, records_of};
@@ -15,10 +15,10 @@ pub fn word(bs: &[u8], i: usize) -> u32
     requires { (i < 8) × (32 ≤ length bs.now) }
     ensures { result ≡ header_word bs.now i }
 {
-    words::read32(bs, 4 * i)
+    words::read::<u32>(bs, 4 * i)
 }
 
-// The status of a number from 0 to 3, and dead for any other.
+// The status of a number from 0 to 3, and dead for any other. No `From`: neither type is of this crate.
 fn status_of(x: u32) -> Status
     ensures { result ≡ status_of x }
 {
@@ -30,31 +30,78 @@ fn status_of(x: u32) -> Status
     }
 }
 
+// A record of the file: a row of numbers, each of its width.
+trait Record: Copy {
+    // How many bytes it takes.
+    const SIZE: usize;
+
+    ghost SIZE: { ℕ };
+
+    ghost widths: { List ℕ };
+
+    ghost from: { List ℕ → Self };
+
+    // The record that begins at a place.
+    fn read(bs: &[u8], at: usize) -> Self
+        requires { at + SIZE ≤ length bs.now }
+        ensures { result ≡ from (decode widths (drop at bs.now)) };
+}
+
+impl Record for Node {
+    const SIZE: usize = 64;
+
+    ghost SIZE = { 64 };
+
+    ghost widths = { node_widths };
+
+    ghost from = { node_from };
+
+    fn read(bs: &[u8], at: usize) -> Node {
+        Node {
+            id: words::read(bs, at),
+            status: status_of(words::read(bs, at + 4)),
+            left: words::read(bs, at + 8),
+            right: words::read(bs, at + 16),
+            probing: words::read(bs, at + 24),
+            failed: words::read(bs, at + 32),
+            routing: words::read(bs, at + 40),
+            lease: words::read(bs, at + 48),
+            grant: words::read(bs, at + 56),
+        }
+    }
+}
+
+impl Record for Message {
+    const SIZE: usize = 56;
+
+    ghost SIZE = { 56 };
+
+    ghost widths = { message_widths };
+
+    ghost from = { message_from };
+
+    fn read(part: &[u8], at: usize) -> Message {
+        Message {
+            kind: words::read(part, at),
+            dest: words::read(part, at + 4),
+            word: words::read(part, at + 8),
+            flag: words::read(part, at + 12),
+            owner: words::read(part, at + 16),
+            hops: words::read(part, at + 20),
+            routing: words::read(part, at + 24),
+            left: words::read(part, at + 32),
+            right: words::read(part, at + 40),
+            failed: words::read(part, at + 48),
+        }
+    }
+}
+
 // The node whose record begins at a place.
 pub fn read_node(bs: &[u8], at: usize) -> Node
     requires { at + 64 ≤ length bs.now }
     ensures { result ≡ node_from (decode node_widths (drop at bs.now)) }
 {
-    let id = words::read32(bs, at);
-    let status = status_of(words::read32(bs, at + 4));
-    let left = words::read64(bs, at + 8);
-    let right = words::read64(bs, at + 16);
-    let probing = words::read64(bs, at + 24);
-    let failed = words::read64(bs, at + 32);
-    let routing = words::read64(bs, at + 40);
-    let lease = words::read64(bs, at + 48);
-    let grant = words::read64(bs, at + 56);
-    Node {
-        id,
-        status,
-        left,
-        right,
-        probing,
-        failed,
-        routing,
-        lease,
-        grant,
-    }
+    Node::read(bs, at)
 }
 
 // The message whose record begins at a place.
@@ -62,27 +109,16 @@ pub fn read_message(part: &[u8], at: usize) -> Message
     requires { at + 56 ≤ length part.now }
     ensures { result ≡ message_from (decode message_widths (drop at part.now)) }
 {
-    let kind = words::read32(part, at);
-    let dest = words::read32(part, at + 4);
-    let word = words::read32(part, at + 8);
-    let flag = words::read32(part, at + 12);
-    let owner = words::read32(part, at + 16);
-    let hops = words::read32(part, at + 20);
-    let routing = words::read64(part, at + 24);
-    let left = words::read64(part, at + 32);
-    let right = words::read64(part, at + 40);
-    let failed = words::read64(part, at + 48);
-    Message {
-        kind,
-        dest,
-        word,
-        flag,
-        owner,
-        hops,
-        routing,
-        left,
-        right,
-        failed,
+    Message::read(part, at)
+}
+
+// Reads the first n records of a part into the first n places; the others stay as they are.
+fn fill<R: Record>(places: &mut [R], part: &[u8], n: usize)
+    requires { (n ≤ length places.old) × (R.SIZE * n ≤ length part.now) }
+    ensures { places.new ≡ map R.from (decode_all R.widths R.SIZE n part.now) ++ drop n places.old }
+{
+    for s in 0..n {
+        places[s] = R::read(part, R::SIZE * s);
     }
 }
 
@@ -121,17 +157,16 @@ pub fn statuses_fit(bs: &[u8]) -> bool
     ensures { result ≡ statuses_fit bs.now }
 {
     let n = word(bs, 2) as usize;
-    let mut s: usize = 0;
-    while s < n {
-        if 3 < words::read32(bs, 32 + 64 * s + 4) {
+    for s in 0..n {
+        if 3 < words::read::<u32>(bs, 32 + 64 * s + 4) {
             return false;
         }
-        s += 1;
     }
     true
 }
 
 // The table of the file: its nodes in the slots 0 to n - 1, and no node in the others.
+#[tactic(auto, using(crate::proofs::Laws::fits_told))]
 fn read_table(bs: &[u8]) -> Table
     requires { Fitting bs.now }
     ensures { result ≡ file_table bs.now }
@@ -139,14 +174,8 @@ fn read_table(bs: &[u8]) -> Table
     let m = word(bs, 0);
     let l = word(bs, 1);
     let n = word(bs, 2) as usize;
-    let none = table_type::no_node();
-    let mut nodes = [none; 64];
-    let mut s: usize = 0;
-    while s < n {
-        let v = read_node(bs, 32 + 64 * s);
-        nodes[s] = v;
-        s += 1;
-    }
+    let mut nodes = [table_type::no_node(); 64];
+    fill(&mut nodes, &bs[32..], n);
     Table { m, l, n, nodes }
 }
 
@@ -155,18 +184,13 @@ fn read_pool(part: &[u8], count: usize) -> Pool
     requires { (56 * count ≤ length part.now) × (count ≤ 256) }
     ensures { result ≡ part_pool count part.now }
 {
-    let none = parts::blank_message();
-    let mut places = [none; 256];
-    let mut q: usize = 0;
-    while q < count {
-        let m = read_message(part, 56 * q);
-        places[q] = m;
-        q += 1;
-    }
+    let mut places = [parts::blank_message(); 256];
+    fill(&mut places, part, count);
     Pool { count, places }
 }
 
 // The messages of the file: the part that begins at the message offset is handed on.
+#[tactic(auto, using(crate::proofs::Laws::fits_told))]
 fn read_messages(file: &[u8]) -> Pool
     requires { Fitting file.now }
     ensures { result ≡ file_pool file.now }
@@ -194,6 +218,7 @@ fn load_records(file: &[u8], t: Table, p: Pool) -> Stepped
 
 // Reads a table file. 7 for a file shorter than 32 bytes, 8 for its header, 9 for its offsets, its total or its length, 10 for a list whose
 // length is not 256, then 10 for its records; a refusal leaves the table t and the pool p as they are.
+// `len` is how many places a caller's list has.
 pub fn load(file: &[u8], t: Table, p: Pool, len: usize) -> Stepped
     ensures { result ≡ load_of file.now t p len }
 {

@@ -11,14 +11,13 @@ use lib.ListN.{length}
 use Rattle.marks.proofs.Bools.{and_both, and-fails-left, and-fails-right}
 use Rattle.rules.specs.declared.Pool.{Pool}
 use Rattle.rules.specs.declared.Refusal.TheVariants as no
-use Rattle.rules.specs.declared.Answer.TheVariants.{Done}
 use Rattle.table_type.specs.declared.Table.{Table}
 use Rattle.step.specs.Step.{is_sound}
 use Rattle.table.specs.Valid.{valid_of}
 use Rattle.table_laws.proofs.Sound.{sound}
-use Rattle.file.specs.declared.Wrote.{Wrote}
+use Rattle.std.specs.Prelude.{Ok, Err}
 use Rattle.file.specs.Format.{total_of, file_of}
-use Rattle.file.specs.Write.{not_written, wrote_of, written_of}
+use Rattle.file.specs.Write.{Wrote, wrote_of, written_of}
 use Rattle.words.specs.InnerPut.{Put}
 
 -- what a valid table tells of its counts
@@ -30,15 +29,15 @@ abbrev pub Ends : Table → Pool → ℕ → List ℕ → Wrote → List ℕ →
 Ends t p len buf r new = (r ≡ wrote_of t p len buf) × (new ≡ written_of t p len buf)
 
 module _ (t : Table) (p : Pool) (len : ℕ) (buf : List ℕ) where
-  unsound : is_sound t p len ≡ false → (r : Wrote) → r ≡ not_written no.Invalid → Ends t p len buf r buf
+  unsound : is_sound t p len ≡ false → Ends t p len buf (Err no.Invalid) buf
   unfolding wrote_of written_of
-  unsound e r q = (rw (e, q), rw e)
+  unsound e = (rw e, rw e)
 
-  pub ends-places : (len ≡ 256 → ⊥) → (r : Wrote) → r ≡ not_written no.Invalid → Ends t p len buf r buf
+  pub ends-places : (len ≡ 256 → ⊥) → Ends t p len buf (Err no.Invalid) buf
   unfolding is_sound
   ends-places h = unsound (and-fails-left (valid_of t p) (ne_eqb len 256 h))
 
-  pub ends-invalid : valid_of t p ≡ false → (r : Wrote) → r ≡ not_written no.Invalid → Ends t p len buf r buf
+  pub ends-invalid : valid_of t p ≡ false → Ends t p len buf (Err no.Invalid) buf
   unfolding is_sound
   ends-invalid h = unsound (and-fails-right (eqb len 256) h)
 
@@ -46,15 +45,14 @@ module _ (t : Table) (p : Pool) (len : ℕ) (buf : List ℕ) where
   unfolding is_sound
   sound-is e v = and_both (eq-eqb len 256 e) v
 
-  pub ends-room : len ≡ 256 → valid_of t p ≡ true → length buf < total_of t.n p.count → (r : Wrote) → r ≡ not_written no.NoRoom
-      → Ends t p len buf r buf
+  pub ends-room : len ≡ 256 → valid_of t p ≡ true → length buf < total_of t.n p.count → Ends t p len buf (Err no.NoRoom) buf
   unfolding wrote_of written_of
-  ends-room e v h r q =
+  ends-room e v h =
       let l = lt-ltb (length buf) (total_of t.n p.count) h in
-      (rw (sound-is e v, l, q), rw (sound-is e v, l))
+      (rw (sound-is e v, l), rw (sound-is e v, l))
 
   pub ends-done : len ≡ 256 → valid_of t p ≡ true → total_of t.n p.count ≤ length buf → (next : ℕ) (new : List ℕ)
-      → Put (total_of t.n p.count) buf 0 (file_of t p) next new → Ends t p len buf (record { answer = Done; count = next }) new
+      → Put (total_of t.n p.count) buf 0 (file_of t p) next new → Ends t p len buf (Ok next) new
   unfolding wrote_of written_of
   ends-done e v h next new k =
       let l = le-ltb (length buf) (total_of t.n p.count) h in

@@ -51,12 +51,13 @@ rows_snoc f d ws (x ∷ xs) (suc s) h =
     ∙ sym (append_assoc (encode ws (f x)) (encode_all ws (map f (take s xs))) (encode ws (f (get_or xs s d))))
 
 -- one record more
-pub rows_more : {A : Type 0} (f : A → List ℕ) (d : A) (ws : List ℕ) (size : ℕ) (xs : List A) (s : ℕ) {a b c : List ℕ}
-    {at i j : ℕ} → s < length xs → Put (size * s) a at (encode_all ws (map f (take s xs))) i b
-    → Put size b i (encode ws (f (get_or xs s d))) j c → Put (size * (s + 1)) a at (encode_all ws (map f (take (s + 1) xs))) j c
-rows_more f d ws size xs s h p q =
+pub rows_more : {A : Type 0} (f : A → List ℕ) (ws : List ℕ) (size : ℕ) (xs : List A) (s : ℕ) (x : A) {a b c : List ℕ}
+    {at i j : ℕ} → s < length xs → x ≡ get_or xs s x → Put (size * s) a at (encode_all ws (map f (take s xs))) i b
+    → Put size b i (encode ws (f x)) j c → Put (size * (s + 1)) a at (encode_all ws (map f (take (s + 1) xs))) j c
+rows_more f ws size xs s x h here p q =
     let e : size * (s + 1) ≡ size * s + size = omega arith in
-    rw (e, add-one, rows_snoc f d ws xs s h) (follow p q)
+    let more = rows_snoc f x ws xs s h ∙ ap (λ y. encode_all ws (map f (take s xs)) ++ encode ws (f y)) (sym here) in
+    rw (e, add-one, more) (follow p q)
 
 pub file-run : {a b c d : List ℕ} {i j k : ℕ} (t : Table) (p : Pool)
     → Put 32 a 0 (encode header_widths (header_row t.m t.l t.n p.count)) i b → Put (64 * t.n) b i (node_bytes t) j c

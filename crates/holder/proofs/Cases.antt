@@ -22,9 +22,9 @@ use Rattle.table_type.specs.Start.{start_of}
 use Rattle.table.specs.Settled.{ready_set, settled_at, is_settled}
 use Rattle.step.specs.Step.{is_sound}
 use Rattle.table.specs.Valid.{nodes_fit, messages_fit, pool_fits, valid_of}
-use Rattle.holder.specs.declared.Holding.{Holding}
-use Rattle.holder.specs.declared.Holding.TheVariants.{NotAsked, OutOfRange, Unsettled, By}
-use Rattle.holder.specs.Holder.{covered_by, copies_of, holding_of, holding_number}
+use Rattle.std.specs.Prelude.{Ok, Err}
+use Rattle.holder.specs.declared.Unheld.TheVariants.{NotAsked, OutOfRange, Unsettled}
+use Rattle.holder.specs.Holder.{Holding, covered_by, copies_of, holding_of, holding_number}
 
 -- who holds k on a start of these ids, ready where A has a mark
 abbrev held : List ℕ → ℕ → ℕ → Holding
@@ -41,25 +41,25 @@ one_ok =
 
 pub record Cases : Type 0 where
   -- 80 is as far from 65 as from 95: 65 is below it. Its neighbours are 95 and 18
-  pub tie : held worked 15 80 ≡ By 2 10
+  pub tie : held worked 15 80 ≡ Ok (record { slot = 2; copies = 10 })
   -- past the highest id: 17, with 18 and 95
-  pub round : held worked 15 200 ≡ By 0 10
+  pub round : held worked 15 200 ≡ Ok (record { slot = 0; copies = 10 })
   -- of two ready nodes the other one has the copy, and alone there is none
-  pub pair : held worked 3 80 ≡ By 1 1
-  pub alone : held worked 1 80 ≡ By 0 0
+  pub pair : held worked 3 80 ≡ Ok (record { slot = 1; copies = 1 })
+  pub alone : held worked 1 80 ≡ Ok (record { slot = 0; copies = 0 })
   -- a node that is not ready holds nothing: the first slot is dead
-  pub second-alone : held worked 2 80 ≡ By 1 0
+  pub second-alone : held worked 2 80 ≡ Ok (record { slot = 1; copies = 0 })
   -- the last key, and the one behind it
-  pub last : held worked 15 255 ≡ By 0 10
-  pub behind : held worked 15 256 ≡ OutOfRange
+  pub last : held worked 15 255 ≡ Ok (record { slot = 0; copies = 10 })
+  pub behind : held worked 15 256 ≡ Err OutOfRange
   -- a table that is not settled, and a list without 256 places, which comes before all else
-  pub unsettled : holding_of one_ok (laid []) 256 80 ≡ Unsettled
-  pub places : holding_of one_ok (laid []) 255 256 ≡ NotAsked no.Invalid
+  pub unsettled : holding_of one_ok (laid []) 256 80 ≡ Err Unsettled
+  pub places : holding_of one_ok (laid []) 255 256 ≡ Err (NotAsked no.Invalid)
   -- the numbers
-  pub held-is-0 : holding_number (By 2 10) ≡ 0
-  pub out-of-range-is-1 : holding_number OutOfRange ≡ 1
-  pub invalid-is-10 : holding_number (NotAsked no.Invalid) ≡ 10
-  pub unsettled-is-15 : holding_number Unsettled ≡ 15
+  pub held-is-0 : holding_number (Ok (record { slot = 2; copies = 10 })) ≡ 0
+  pub out-of-range-is-1 : holding_number (Err OutOfRange) ≡ 1
+  pub invalid-is-10 : holding_number (Err (NotAsked no.Invalid)) ≡ 10
+  pub unsettled-is-15 : holding_number (Err Unsettled) ≡ 15
 
 pub cases : Cases
 unfolding fall_of left_cover_of right_cover_of covers_key has gather tally first_to all_to single meet add_of remove_of size_of listed best closest

@@ -1,11 +1,11 @@
 -- The slot that holds a key of a settled table. The idea: some ready node covers the key (settled-held of crate lookup_laws) and no two do
 -- (one-holder), so the first slot that passes the test is that node. Assumes nothing.
+use Rattle.marks.specs.Marks.{Found}
+use Rattle.std.specs.Prelude.{Some, None}
 use mathlib.Core.Path.{◌≡◌, refl, sym, ◌∙◌}
 use mathlib.Core.Bool.{true}
 use Prim.Native.Nat.{ℕ, ◌^◌, ◌<◌}
 use Rattle.marks.proofs.Bools.{opposed, and_left, and_right, and_both}
-use Rattle.marks.specs.declared.Found.{Found}
-use Rattle.marks.specs.declared.Found.TheVariants.{At, Nothing}
 use Rattle.marks.proofs.Laws.{first_found, first-none}
 use Rattle.rules.specs.declared.Pool.{Pool}
 use Rattle.rules.specs.Plans.{is_ready}
@@ -32,15 +32,15 @@ module _ (t : Table) (k s : ℕ) where
 -- ---- the first that passes
 
 module _ (t : Table) (p : Pool) (k : ℕ) (e : valid_of t p ≡ true) (settled : is_settled t ≡ true) (hk : k < 2 ^ t.m) where
-  pub covered : (h : ℕ) × (covered_by t k ≡ At h)
+  pub covered : (h : ℕ) × (covered_by t k ≡ Some h)
   unfolding covered_by
   covered = go (covered_by t k) refl (settled-held t p k e settled hk)
     where
-      go : (f : Found) → covered_by t k ≡ f → (i : ℕ) × Ready t i × (covers_at t i k ≡ true) → (h : ℕ) × (covered_by t k ≡ At h)
-      go (At h) d some = (h, d)
-      go Nothing d (i, r, c) = absurd (opposed (test-passes t k i r c) (first-none t.n (ready_covers t k) d i r.0))
+      go : (f : Found) → covered_by t k ≡ f → (i : ℕ) × Ready t i × (covers_at t i k ≡ true) → (h : ℕ) × (covered_by t k ≡ Some h)
+      go (Some h) d some = (h, d)
+      go None d (i, r, c) = absurd (opposed (test-passes t k i r c) (first-none t.n (ready_covers t k) d i r.0))
 
-  pub covered-holds : (h : ℕ) → covered_by t k ≡ At h → Holds t k h
+  pub covered-holds : (h : ℕ) → covered_by t k ≡ Some h → Holds t k h
   unfolding covered_by
   covered-holds h d =
       let f = first_found t.n (ready_covers t k) h d in

@@ -1,28 +1,24 @@
 // The next hop of a lookup or a join request, and where it came from.
 #![tactic(auto)]
 
-ghost use Rattle.std.specs.Prelude.{◌≡◌, ℕ, ◌^◌, ◌<◌, ◌≤◌};
-ghost use Rattle.rules.specs.InnerAsks.{Listed};
+ghost use Rattle.std.specs.Prelude.{◌≡◌, ℕ, cond, ◌^◌, ◌<◌, ◌≤◌};
 ghost use Rattle.rules.specs.Hop.{legal_of, by_leaf, leaf_candidates, route_candidates, next_hop, via_of};
 
-use marks::Found;
-use rules::{Hop, Node, Ring, Via, Way};
+use rules::{Hop, Node, Roster, Via, Way};
 
 // Is the leaf set alone looked at?
-fn by_leaf(g: Ring, ids: &[u32; 64], i: usize, v: Node) -> bool
-    requires { Listed g ids.now × (i < 64) }
-    ensures { result ≡ by_leaf g ids.now i v }
+#[tactic(auto, unfolding(rules::specs::Hop::by_leaf))]
+fn by_leaf(r: &Roster, i: usize, v: Node) -> bool
+    requires { i < 64 }
+    ensures { result ≡ by_leaf r.now.ring r.now.ids i v }
 {
     let s = parts::sides_of(v);
     if leaf::overlap(s) {
         return true;
     }
-    let l = leaf::seen(Way::FarUp, g, ids, i, v.left);
-    let r = leaf::seen(Way::FarDown, g, ids, i, v.right);
-    let own = ids[i];
-    let above = ids[l];
-    let below = ids[r];
-    dist::fall(g.m, above, own) <= dist::fall(g.m, above, below)
+    let above = r.ids[leaf::seen(Way::FarUp, r, i, v.left)];
+    let below = r.ids[leaf::seen(Way::FarDown, r, i, v.right)];
+    dist::fall(r.ring.m, above, r.ids[i]) <= dist::fall(r.ring.m, above, below)
 }
 
 // Some nodes without failed and dead.
@@ -33,6 +29,7 @@ fn legal(dead: u64, v: Node, set: u64) -> u64
 }
 
 // Content without failed and dead.
+#[tactic(auto, unfolding(rules::specs::Hop::leaf_candidates))]
 pub fn leaf_candidates(dead: u64, i: usize, v: Node) -> u64
     ensures { result ≡ leaf_candidates dead i v }
 {
@@ -40,6 +37,7 @@ pub fn leaf_candidates(dead: u64, i: usize, v: Node) -> u64
 }
 
 // Content and routing set, without failed and dead.
+#[tactic(auto, unfolding(rules::specs::Hop::route_candidates))]
 pub fn route_candidates(dead: u64, i: usize, v: Node) -> u64
     ensures { result ≡ route_candidates dead i v }
 {
@@ -47,21 +45,29 @@ pub fn route_candidates(dead: u64, i: usize, v: Node) -> u64
     legal(dead, v, marks::joined(content, v.routing))
 }
 
-// Where a lookup of k goes from node i.
-pub fn next_hop(g: Ring, ids: &[u32; 64], dead: u64, i: usize, v: Node, k: u32) -> Hop
-    requires { Listed g ids.now × (i < 64) × (k < 2 ^ g.m) }
-    ensures { result ≡ next_hop g ids.now dead i v k }
+// The candidates of the branch taken.
+fn candidates(r: &Roster, dead: u64, i: usize, v: Node) -> u64
+    requires { i < 64 }
+    ensures { result ≡ cond (by_leaf r.now.ring r.now.ids i v) (leaf_candidates dead i v) (route_candidates dead i v) }
 {
-    let candidates = if by_leaf(g, ids, i, v) {
+    if by_leaf(r, i, v) {
         leaf_candidates(dead, i, v)
     } else {
         route_candidates(dead, i, v)
-    };
-    let Found::At(h) = pick::best(Way::Near, g.m, k, ids, candidates) else {
+    }
+}
+
+// Where a lookup of k goes from node i.
+pub fn next_hop(r: &Roster, dead: u64, i: usize, v: Node, k: u32) -> Hop
+    requires { (i < 64) × (k < 2 ^ r.now.ring.m) }
+    ensures { result ≡ next_hop r.now.ring r.now.ids dead i v k }
+{
+    let set = candidates(r, dead, i, v);
+    let Some(h) = pick::best(Way::Near, r.ring.m, k, &r.ids, set) else {
         return Hop::NoRoute;
     };
-    let there = dist::rank(g.m, k, ids[h]);
-    let here = dist::rank(g.m, k, ids[i]);
+    let there = dist::rank(r.ring.m, k, r.ids[h]);
+    let here = dist::rank(r.ring.m, k, r.ids[i]);
     if there < here {
         Hop::To(h)
     } else {
@@ -70,6 +76,7 @@ pub fn next_hop(g: Ring, ids: &[u32; 64], dead: u64, i: usize, v: Node, k: u32) 
 }
 
 // Where the next hop h of node i came from: the leaf set, or the routing set alone.
+#[tactic(auto, unfolding(rules::specs::Hop::via_of))]
 pub fn via_of(i: usize, v: Node, h: usize) -> Via
     ensures { result ≡ via_of i v h }
 {

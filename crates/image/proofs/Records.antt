@@ -9,21 +9,6 @@ use lib.ListN.{length, get_or, take, drop, length-drop}
 use lib.Seq.{paste, take-nil, drop-nil, take-take, take-append-le, drop-append-le, drop-drop, take_at, drop_at, length-take-le, length-paste, drop-paste}
 use Rattle.image.specs.InnerRecords.{records_in, closed_up}
 
--- ---- sizes
-
--- a record below n ends within the first n
-pub ends-inside : (size k n : ℕ) → k < n → size * k + size ≤ size * n
-ends-inside size k n h =
-    let d = n - (k + 1) in
-    let e : n ≡ k + 1 + d = omega arith in
-    rw e (omega arith)
-
-pub begins-inside : (size k n : ℕ) → k ≤ n → size * k ≤ size * n
-begins-inside size k n h =
-    let d = n - k in
-    let e : n ≡ k + d = omega arith in
-    rw e (omega arith)
-
 -- n records are those before one, that one and those behind it
 pub cut : (size p n : ℕ) → p < n → size * n ≡ size * p + size + size * (n - 1 - p)
 cut size p n h =

@@ -1,4 +1,3 @@
-pub mod Moves
 pub mod Search
 pub mod Appends
 pub mod Passes

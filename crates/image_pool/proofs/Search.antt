@@ -1,5 +1,6 @@
 -- A search through the messages of a part, once a place is away: what was read at a place is the message there of what is left, and a search that passed the
 -- messages before `at` ends as the definition says. Assumes nothing.
+use Rattle.std.specs.Prelude.{Some, None}
 use mathlib.Core.Path.{◌≡◌, sym, ◌∙◌, ap}
 use mathlib.Core.Bool.{true, false}
 use mathlib.Core.List.{List}
@@ -7,7 +8,6 @@ use Prim.Native.Nat.{ℕ, ◌+◌, ◌*◌, ◌<◌, ◌≤◌}
 use native.Mathlib.Omega.{arith}
 use borrow.Author.Count.{below_more}
 use lib.ListN.{length, get_or, drop}
-use Rattle.marks.specs.declared.Found.TheVariants.{At, Nothing}
 use Rattle.rules.specs.declared.Message.{Message}
 use Rattle.rules.specs.Pool.{blank, message_at, waiting, laid}
 use Rattle.rules.specs.Mail.{alike, first_equal, removed_at}
@@ -22,9 +22,6 @@ use Rattle.image.proofs.Messages.{messages-length, message-at}
 -- none of the messages before `at` equals m
 pub record Missed (m : Message) (xs : List Message) (at : ℕ) : Type 0 where
   pub differ : (i : ℕ) → i < at → alike (get_or xs i blank) m ≡ false
-
-pub none-missed : (m : Message) (xs : List Message) → Missed m xs 0
-none-missed m xs = record { differ = λ i h. absurd (omega arith) }
 
 module _ (count gone : ℕ) (bs : List ℕ) (m : Message) where
   abbrev xs : List Message
@@ -56,11 +53,11 @@ module _ (count gone : ℕ) (bs : List ℕ) (m : Message) where
         ∙ sym (left_at (laid xs) gone counted at low)
         ∙ ap (λ (l : List Message). get_or l at blank) left_is
 
-    pub hit : (q : Message) → q ≡ get_or ys at blank → alike q m ≡ true → Missed m ys at → first_equal ys m ≡ At at
+    pub hit : (q : Message) → q ≡ get_or ys at blank → alike q m ≡ true → Missed m ys at → first_equal ys m ≡ Some at
     hit q e a k = first-equal-at ys m at (omega (arith, left-long)) (ap (λ (x : Message). alike x m) (sym e) ∙ a) k.differ
 
   pub missed_more : (at : ℕ) (q : Message) → q ≡ get_or ys at blank → alike q m ≡ false → Missed m ys at → Missed m ys (at + 1)
   missed_more at q e a k = record { differ = below_more _ _ k.differ (ap (λ (x : Message). alike x m) (sym e) ∙ a) }
 
-  pub missed-all : (at : ℕ) → left_count count gone ≤ at → Missed m ys at → first_equal ys m ≡ Nothing
+  pub missed-all : (at : ℕ) → left_count count gone ≤ at → Missed m ys at → first_equal ys m ≡ None
   missed-all at h k = first-equal-none ys m (λ t l. k.differ t (omega (arith, left-long)))

@@ -1,5 +1,6 @@
 -- Messages to the slots of a set, written one after the other: what is written, with what is still to write, is what was asked for (Sending); and the room that
 -- sending needs. Assumes nothing.
+use Rattle.std.specs.Prelude.{Some, None}
 use mathlib.Core.Path.{◌≡◌, sym, ◌∙◌, ap}
 use mathlib.Core.List.{List, [], ◌∷◌, ◌++◌, append-nil}
 use Prim.Native.Nat.{ℕ, ◌+◌, ◌*◌, ◌<◌, ◌≤◌}
@@ -7,7 +8,6 @@ use native.Mathlib.Omega.{arith}
 use lib.ListN.{length, get_or, take, drop, length-append}
 use lib.Seq.{append_snoc, take_all}
 use Rattle.marks.specs.Marks.{size_of, without, remove_of, lowest_of}
-use Rattle.marks.specs.declared.Found.TheVariants.{At, Nothing}
 use Rattle.rules.specs.declared.Message.{Message}
 use Rattle.rules.specs.Nodes.{placed}
 use Rattle.rules.specs.Pool.{blank}
@@ -59,7 +59,7 @@ module _ (m : Message) where
     pub long : length part ≡ size
     pub whole : goal ≡ messages_in end part ++ copies m rest
 
-  module _ {goal : List Message} {most size end rest s : ℕ} {part : List ℕ} (e : lowest_of rest ≡ At s) (k : Sending goal most size end rest part) where
+  module _ {goal : List Message} {most size end rest s : ℕ} {part : List ℕ} (e : lowest_of rest ≡ Some s) (k : Sending goal most size end rest part) where
     pub sending-low : end < most
     sending-low = omega (arith, k.sum, fewer rest s e)
 
@@ -76,7 +76,7 @@ module _ (m : Message) where
               ∙ ap (λ (ys : List Message). ys ++ copies m (remove_of rest s)) (sym q);
         }
 
-  pub sending-end : {goal : List Message} {most size end rest : ℕ} {part : List ℕ} → lowest_of rest ≡ Nothing → Sending goal most size end rest part
+  pub sending-end : {goal : List Message} {most size end rest : ℕ} {part : List ℕ} → lowest_of rest ≡ None → Sending goal most size end rest part
       → messages_in end part ≡ goal
   sending-end {end = end} {rest = rest} {part = part} e k =
       sym (k.whole ∙ ap (λ (ys : List Message). messages_in end part ++ ys) (copies-end m rest e) ∙ append-nil (messages_in end part))

@@ -1,5 +1,6 @@
 // The waiting messages in place: a lent part of bytes, 56 for each message. What is taken out closes the gap by one move, what is new is written behind the last.
 // Whole records are moved by their size alone. Each function asks of its callers that the part has room; what lies behind the messages afterwards is not told.
+// The count goes beside the part, which has room for more than the messages that wait.
 #![tactic(auto)]
 
 ghost use Rattle.std.specs.Prelude.{◌≡◌, ◌+◌, ◌-◌, ◌*◌, ◌<◌, ◌≤◌, [], ◌∷◌, ◌++◌, length, drop};
@@ -11,7 +12,6 @@ ghost use Rattle.file.specs.Held.{HeldMessage};
 ghost use Rattle.image.specs.InnerRecords.{records_in, closed_up, messages_in};
 ghost use Rattle.image_pool.specs.InnerTurns.{Keeps, Room};
 
-use marks::Found;
 use rules::Message;
 
 // Moves n bytes down by size: those from at + size on come to stand from at on.
@@ -20,11 +20,7 @@ fn move_down(b: &mut [u8], at: usize, size: usize, n: usize)
     ensures { b.new ≡ paste b.old at (drop (at + size) b.old) n }
 {
     let from = at + size;
-    let mut j: usize = 0;
-    while j < n {
-        b[at + j] = b[from + j];
-        j += 1;
-    }
+    b.copy_within(from..from + n, at);
 }
 
 // Takes the record at place p out of `count`, and closes the gap.
@@ -46,22 +42,21 @@ fn same(a: Message, b: Message) -> bool
     pool::alike(a, b)
 }
 
-// The first message that equals m, in pool order, of those left once place `gone` is away.
-pub fn first_equal(part: &[u8], count: usize, gone: usize, m: Message) -> Found
+// The first message that equals m, in pool order, of those left once place `gone` is away. The pool's own search reads a `Pool` and this one bytes:
+// what they share is the loop alone.
+pub fn first_equal(part: &[u8], count: usize, gone: usize, m: Message) -> Option<usize>
     requires { (count ≤ 256) × (56 * count ≤ length part.now) }
     ensures { result ≡ first_equal (removed_at (messages_in count part.now) gone) m }
 {
     let n = pool::left_count(count, gone);
-    let mut at: usize = 0;
-    'places: while at < n {
+    'places: for at in 0..n {
         let place = pool::place_of(gone, at);
         let q = file_read::read_message(part, 56 * place);
         if same(q, m) {
-            return Found::At(at);
+            return Some(at);
         }
-        at += 1;
     }
-    Found::Nothing
+    None
 }
 
 // It does nothing, and says that each number of a message fits its field.
@@ -86,8 +81,8 @@ pub fn replace(part: &mut [u8], count: usize, p: usize, m: Message) -> usize
     let at = first_equal(part, count, p, m);
     take_out(part, 56, count, p);
     match at {
-        Found::At(_) => count - 1,
-        Found::Nothing => {
+        Some(_) => count - 1,
+        None => {
             append(part, count - 1, m);
             count
         }
@@ -113,15 +108,13 @@ pub fn take_probes_out(part: &mut [u8], count: usize, i: u32, j: u32) -> usize
     ensures { messages_in result part.new ≡ without_probes (messages_in count part.old) i j }
 {
     let mut kept: usize = 0;
-    let mut at: usize = 0;
-    while at < count {
+    for at in 0..count {
         kept = keep(part, kept, at, i, j);
-        at += 1;
     }
     kept
 }
 
-// A set of slots, with q's if q equals m in all but the slot.
+// A set of slots, with q's if q equals m in all but the slot. As the pool's own, but with the quicker test of `same`.
 fn with_slot(set: u64, q: Message, m: Message) -> u64
     ensures { result ≡ held_with m set q }
 {
@@ -139,11 +132,9 @@ fn held_slots(part: &[u8], count: usize, m: Message) -> u64
     ensures { result ≡ held_of m (messages_in count part.now) }
 {
     let mut set: u64 = 0;
-    let mut at: usize = 0;
-    while at < count {
+    for at in 0..count {
         let q = file_read::read_message(part, 56 * at);
         set = with_slot(set, q, m);
-        at += 1;
     }
     set
 }
@@ -155,11 +146,7 @@ pub fn append_all(part: &mut [u8], n: usize, m: Message, set: u64) -> usize
 {
     let mut end = n;
     let mut rest = set;
-    'slots: loop {
-        let next = marks::lowest(rest);
-        let Found::At(s) = next else {
-            break 'slots;
-        };
+    'slots: while let Some(s) = marks::lowest(rest) {
         append(part, end, parts::to_slot(m, s as u32));
         end += 1;
         rest = marks::removed(rest, s);

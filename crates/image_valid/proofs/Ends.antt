@@ -1,5 +1,7 @@
 -- How a test of a table file ends: the answer of a load is that of its header and offsets, then that of its records, whatever table and pool were there
 -- before. Assumes nothing.
+use Rattle.rules.specs.Shapes.{Answer}
+use Rattle.std.specs.Prelude.{Ok, Err}
 use mathlib.Core.Path.{◌≡◌, refl, sym, ◌∙◌, ap}
 use mathlib.Core.Bool.{Bool, true, false, ◌&&◌}
 use mathlib.Core.List.{List}
@@ -8,8 +10,6 @@ use lib.ListN.{length}
 use Rattle.marks.proofs.Bools.{and-fails-left, and-fails-right}
 use Rattle.rules.specs.declared.Ring.{Ring}
 use Rattle.rules.specs.declared.Pool.{Pool}
-use Rattle.rules.specs.declared.Answer.{Answer}
-use Rattle.rules.specs.declared.Answer.TheVariants.{Done, Refused}
 use Rattle.rules.specs.declared.Refusal.TheVariants as no
 use Rattle.rules.specs.Fits.{numbers_fit}
 use Rattle.table_type.specs.declared.Table.{Table}
@@ -29,9 +29,6 @@ abbrev pub records_fit : List ℕ → Bool
 records_fit bs = statuses_fit bs && valid_of (file_table bs) (file_pool bs)
 
 module _ (bs : List ℕ) where
-  pub status-fails : statuses_fit bs ≡ false → records_fit bs ≡ false
-  status-fails e = and-fails-left (valid_of (file_table bs) (file_pool bs)) e
-
   pub nodes-fail : nodes_fit (file_table bs) ≡ false → records_fit bs ≡ false
   unfolding valid_of
   nodes-fail e =
@@ -45,25 +42,25 @@ module _ (bs : List ℕ) where
   pool-decides g ids r h s n e i q = rw (q, e, i, s, header-numbers bs h, n)
 
   module _ (t : Table) (p : Pool) where
-    pub answer-short : length bs < 32 → Refused no.Short ≡ (load_of bs t p 256).answer
+    pub answer-short : length bs < 32 → Err no.Short ≡ (load_of bs t p 256).answer
     answer-short h = sym (ap answer_of (load-short bs t p 256 h))
 
-    pub answer-header : 32 ≤ length bs → header_fits bs ≡ false → Refused no.Header ≡ (load_of bs t p 256).answer
+    pub answer-header : 32 ≤ length bs → header_fits bs ≡ false → Err no.Header ≡ (load_of bs t p 256).answer
     answer-header h e = sym (ap answer_of (load-header bs t p 256 h e))
 
-    pub answer-offsets : 32 ≤ length bs → header_fits bs ≡ true → offsets_fit bs ≡ false → Refused no.Offsets ≡ (load_of bs t p 256).answer
+    pub answer-offsets : 32 ≤ length bs → header_fits bs ≡ true → offsets_fit bs ≡ false → Err no.Offsets ≡ (load_of bs t p 256).answer
     answer-offsets h e o = sym (ap answer_of (load-offsets bs t p 256 h e o))
 
-    records-done : records_fit bs ≡ true → (records_of bs t p).answer ≡ Done
+    records-done : records_fit bs ≡ true → (records_of bs t p).answer ≡ Ok tt
     unfolding records_of
     records-done e = rw e
 
-    records-invalid : records_fit bs ≡ false → (records_of bs t p).answer ≡ Refused no.Invalid
+    records-invalid : records_fit bs ≡ false → (records_of bs t p).answer ≡ Err no.Invalid
     unfolding records_of
     records-invalid e = rw e
 
-    pub answer-done : 32 ≤ length bs → Fitting bs → records_fit bs ≡ true → Done ≡ (load_of bs t p 256).answer
+    pub answer-done : 32 ≤ length bs → Fitting bs → records_fit bs ≡ true → (Ok tt) ≡ (load_of bs t p 256).answer
     answer-done h f e = sym (ap answer_of (load_goes bs t p 256 h f refl) ∙ records-done e)
 
-    pub answer-invalid : 32 ≤ length bs → Fitting bs → records_fit bs ≡ false → Refused no.Invalid ≡ (load_of bs t p 256).answer
+    pub answer-invalid : 32 ≤ length bs → Fitting bs → records_fit bs ≡ false → Err no.Invalid ≡ (load_of bs t p 256).answer
     answer-invalid h f e = sym (ap answer_of (load_goes bs t p 256 h f refl) ∙ records-invalid e)

@@ -32,7 +32,8 @@ use Rattle.file.specs.Format.{node_widths, message_widths, nodes_at, node_from, 
 use Rattle.file.specs.Load.{header_word, file_m, file_l, file_n, file_count, header_fits, node_rows, file_table, part_pool}
 use Rattle.file.proofs.Rows.{map_at}
 use Rattle.file.proofs.File.{node-row-at}
-use Rattle.file_read.proofs.Laws.{field, passed, passed-more, rows_long}
+use Rattle.std.proofs.lemmas.List.{drop-replicate}
+use Rattle.file_read.proofs.Laws.{field, passed, passed_none, passed-more, rows_long}
 
 -- ---- places past a list
 
@@ -88,10 +89,6 @@ unfolding decode
 id-read bs at = refl
 
 module _ (bs : List ℕ) where
-  pub ring-is : ring_of (file_table bs) ≡ record { m = file_m bs; l = file_l bs; n = file_n bs }
-  unfolding file_table
-  ring-is = refl
-
   pub n-is : (file_table bs).n ≡ file_n bs
   unfolding file_table
   n-is = refl
@@ -132,18 +129,22 @@ module _ (bs : List ℕ) where
   low_turn s v h r = ap (λ (w : Node). w.id + 1) (r ∙ sym (node_in_lem s h)) ∙ low-next (file_table bs) s
 
   abbrev pub ids_to : ℕ → List ℕ
-  ids_to s = passed 64 0 id_in node_widths 64 (drop nodes_at bs) s
+  ids_to s = passed id_in node_widths 64 (drop nodes_at bs) (replicate 64 0) s
+
+  pub ids-none : replicate 64 0 ≡ ids_to 0
+  ids-none = sym (passed_none id_in node_widths 64 (drop nodes_at bs) (replicate 64 0))
 
   pub ids_more : (ids : List ℕ) (s r : ℕ) → s < 64 → ids ≡ ids_to s → r ≡ field 4 (nodes_at + 64 * s) bs → set ids s r ≡ ids_to (s + 1)
   ids_more ids s r h e q =
+      let read = q ∙ sym (id-read bs (nodes_at + 64 * s)) ∙ ap (λ (l : List ℕ). id_in (decode node_widths l)) (sym (drop-drop (64 * s) nodes_at bs)) in
       ap (λ (l : List ℕ). set l s r) e
-      ∙ ap (λ (x : ℕ). set (ids_to s) s x)
-      (q ∙ sym (id-read bs (nodes_at + 64 * s)) ∙ ap (λ (l : List ℕ). id_in (decode node_widths l)) (sym (drop-drop (64 * s) nodes_at bs)))
-      ∙ passed-more 64 0 id_in node_widths 64 (drop nodes_at bs) s h
+      ∙ passed-more id_in node_widths 64 (drop nodes_at bs) (replicate 64 0) s r (omega (arith, length-replicate {A = ℕ} 64 0)) read
 
   pub ids-are : ids_of (file_table bs) ≡ ids_to (file_n bs)
   unfolding file_table
-  ids-are = map-passed id_of node_from (node_rows bs) (64 - file_n bs) no_node
+  ids-are =
+      map-passed id_of node_from (node_rows bs) (64 - file_n bs) no_node
+      ∙ ap (λ (l : List ℕ). map id_in (node_rows bs) ++ l) (sym (drop-replicate (file_n bs) 64 0))
 
 -- ---- messages
 

@@ -1,8 +1,8 @@
 -- `tested` has one reply for every file: any two that its contract allows are equal. Assumes nothing.
+use Rattle.rules.specs.Shapes.{Answer}
 use mathlib.Core.Path.{◌≡◌, sym, ◌∙◌}
 use mathlib.Core.List.{List}
 use Prim.Native.Nat.{ℕ}
-use Rattle.rules.specs.declared.Answer.{Answer}
 use Rattle.rules.specs.declared.Pool.{Pool}
 use Rattle.table_type.specs.declared.Table.{Table}
 use Rattle.file.specs.Load.{file_table, file_pool, load_of}

@@ -13,7 +13,7 @@ ghost use Rattle.table_valid.specs.InnerNodes.{all_nodes};
 ghost use Rattle.file.specs.Load.{file_n, statuses_fit, file_table, part_pool, file_pool, load_of};
 ghost use Rattle.file_read.specs.InnerRecords.{Fitting};
 
-use rules::{Answer, Refusal, Ring};
+use rules::{Refusal, Ring};
 
 // M, L and n of the header.
 fn ring_in(file: &[u8]) -> Ring
@@ -27,33 +27,31 @@ fn ring_in(file: &[u8]) -> Ring
 }
 
 // Do the nodes obey their rules? Each id is above the one before it: low is the least that the next may be.
+#[tactic(auto, using(file_read::proofs::Laws::fits_told))]
 fn nodes_fit_in(file: &[u8], g: Ring, all: u64) -> bool
     requires { Fitting file.now × (g ≡ ring_of (file_table file.now)) × (all ≡ all_nodes g.n) }
     ensures { result ≡ nodes_fit (file_table file.now) }
 {
     let mut low: u64 = 0;
-    let mut s: usize = 0;
-    while s < g.n {
+    for s in 0..g.n {
         let v = file_read::read_node(file, 32 + 64 * s);
         if !(table_valid::id_fits(g, low, v.id) & table_valid::node_fits(g, all, s, v)) {
             return false;
         }
         low = (v.id as u64) + 1;
-        s += 1;
     }
     true
 }
 
 // The ids by slot, and 0 for a slot that is not listed.
+#[tactic(auto, using(file_read::proofs::Laws::fits_told))]
 fn ids_in(file: &[u8], n: usize) -> [u32; 64]
     requires { Fitting file.now × (n ≡ file_n file.now) }
     ensures { result ≡ ids_of (file_table file.now) }
 {
     let mut ids = [0u32; 64];
-    let mut s: usize = 0;
-    while s < n {
-        ids[s] = words::read32(file, 32 + 64 * s);
-        s += 1;
+    for s in 0..n {
+        ids[s] = words::read(file, 32 + 64 * s);
     }
     ids
 }
@@ -63,27 +61,25 @@ fn messages_fit_in(part: &[u8], count: usize, g: Ring, all: u64, ids: &[u32; 64]
     requires { (56 * count ≤ length part.now) × (count ≤ 256) × Listed g ids.now × (all ≡ all_nodes g.n) }
     ensures { result ≡ messages_fit g ids.now (part_pool count part.now) }
 {
-    let mut q: usize = 0;
-    while q < count {
+    for q in 0..count {
         let m = file_read::read_message(part, 56 * q);
         if !table_valid::place_fits(g, all, ids, m) {
             return false;
         }
-        q += 1;
     }
     true
 }
 
 // Are no two messages of the part equal? A message is compared only with the earlier ones of its own bucket: `heads` has one more than the last place of
-// each bucket, and `next` one more than the place before of the same bucket; 0 is none.
+// each bucket, and `next` one more than the place before of the same bucket; 0 is none. The validity of a pool by value (crate table_valid) walks the same
+// chains over its own places: what the two share is the loop alone.
 fn different_in(part: &[u8], count: usize) -> bool
     requires { (56 * count ≤ length part.now) × (count ≤ 256) }
     ensures { result ≡ all_different (waiting (part_pool count part.now)) }
 {
     let mut heads = [0u32; 509];
     let mut next = [0u32; 256];
-    let mut j: usize = 0;
-    'places: while j < count {
+    'places: for j in 0..count {
         let m = file_read::read_message(part, 56 * j);
         let h = pool::bucket(m);
         let first = heads[h];
@@ -97,7 +93,6 @@ fn different_in(part: &[u8], count: usize) -> bool
         }
         next[j] = first;
         heads[h] = (j + 1) as u32;
-        j += 1;
     }
     true
 }
@@ -114,6 +109,7 @@ fn pool_fits_in(part: &[u8], count: usize, g: Ring, all: u64, ids: &[u32; 64]) -
 }
 
 // Do the messages of the file obey their rules? The part that begins at the message offset is handed on.
+#[tactic(auto, using(file_read::proofs::Laws::fits_told))]
 fn file_pool_fits(file: &[u8], g: Ring, all: u64, ids: &[u32; 64]) -> bool
     requires { Fitting file.now × Listed g ids.now × (all ≡ all_nodes g.n) }
     ensures { result ≡ pool_fits g ids.now (file_pool file.now) }
@@ -124,6 +120,7 @@ fn file_pool_fits(file: &[u8], g: Ring, all: u64, ids: &[u32; 64]) -> bool
 }
 
 // Is every status one of 0 to 3, and are the table and the messages of the file valid?
+#[tactic(auto, using(file_read::proofs::Laws::fits_told))]
 fn records_fit(file: &[u8]) -> bool
     requires { Fitting file.now }
     ensures { result ≡ (statuses_fit file.now && valid_of (file_table file.now) (file_pool file.now)) }
@@ -141,21 +138,21 @@ fn records_fit(file: &[u8]) -> bool
 }
 
 // What a load of the file answers, whatever table and pool were there before, with a list of 256 places: 7, 8, 9, 10 or done.
-pub fn tested(file: &[u8]) -> Answer
+pub fn tested(file: &[u8]) -> Result<(), Refusal>
     ensures { (t : Table) → (p : Pool) → result ≡ (load_of file.now t p 256).answer }
 {
     if file.len() < 32 {
-        return Answer::Refused(Refusal::Short);
+        return Err(Refusal::Short);
     }
     if !file_read::header_fits(file) {
-        return Answer::Refused(Refusal::Header);
+        return Err(Refusal::Header);
     }
     if !file_read::offsets_fit(file) {
-        return Answer::Refused(Refusal::Offsets);
+        return Err(Refusal::Offsets);
     }
     if records_fit(file) {
-        Answer::Done
+        Ok(())
     } else {
-        Answer::Refused(Refusal::Invalid)
+        Err(Refusal::Invalid)
     }
 }

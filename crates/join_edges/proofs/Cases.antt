@@ -2,6 +2,7 @@
 -- each of them done, lead to two ready nodes that cover one key: 1 and 2 join at once, and 9 after them. So the hypothesis on Join is
 -- needed. The same from the table after the first 17 actions, where nobody is wait: those left join in turn, so what is not in the
 -- clauses does not mend. And in turn three nodes join by a fourth, and all are ready. Assumes nothing.
+use Rattle.std.specs.Prelude.{Ok}
 use mathlib.Core.Path.{◌≡◌, refl}
 use mathlib.Core.Bool.{Bool, true, false, ◌&&◌, not}
 use mathlib.Core.List.{List, [], ◌∷◌}
@@ -13,7 +14,6 @@ use Rattle.ring.specs.Distance.{fall_of, signed_of, abs_dist_of, rises_to, neare
 use Rattle.marks.specs.Marks.{has, gather, tally, first_to, all_to, single, union, meet, without, add_of, remove_of, size_of, lowest_of, listed}
 use Rattle.rules.specs.declared.Action.{Action}
 use Rattle.rules.specs.declared.Action.TheVariants.{Join, RequestLease, Take}
-use Rattle.rules.specs.declared.Answer.TheVariants.{Done}
 use Rattle.rules.specs.declared.Pool.{Pool}
 use Rattle.rules.specs.Pool.{message_at, laid}
 use Rattle.rules.specs.Pick.{best}
@@ -177,6 +177,6 @@ unfolding fall_of signed_of abs_dist_of rises_to nearer left_cover_of right_cove
     nodes_fit messages_fit pool_fits valid_of carried_out settle ready_set dead_set is_sound step_of nobody_waits guards introduces is_fair
 computed = (refl, refl)
 
-pub started : (start_of 4 1 (0 ∷ 1 ∷ 2 ∷ 9 ∷ 14 ∷ []) 17).answer ≡ Done
+pub started : (start_of 4 1 (0 ∷ 1 ∷ 2 ∷ 9 ∷ 14 ∷ []) 17).answer ≡ Ok tt
 unfolding start_of start_fits list_fits ids_rise listed all_to has slot_ids
 started = refl

@@ -1,5 +1,6 @@
 -- What the computed joins of Cases show: two that join at once end with two holders of one key, so the promise of joins in turn is not kept of any joins, and is
 -- lost before the end; joins one after the other end with all ready. Assumes nothing.
+use Rattle.std.specs.Prelude.{Ok}
 use mathlib.Core.Path.{◌≡◌}
 use mathlib.Core.Bool.{true}
 use mathlib.Core.List.{List, [], ◌∷◌, ◌++◌}
@@ -7,7 +8,6 @@ use Prim.Native.Nat.{ℕ}
 use native.Mathlib.Omega.{arith}
 use Rattle.marks.proofs.Bools.{opposed}
 use Rattle.rules.specs.declared.Action.{Action}
-use Rattle.rules.specs.declared.Answer.TheVariants.{Done}
 use Rattle.rules.specs.Pool.{laid}
 use Rattle.table_type.specs.Start.{start_of}
 use Rattle.join_laws.specs.Clauses.{Clauses}
@@ -39,7 +39,7 @@ at-end h =
 -- without the hypothesis on Join the promise is not kept
 abbrev pub AnyJoins : Type 0
 AnyJoins =
-    (m l : ℕ) (ids : List ℕ) (a : ℕ) (acts : List Action) → (start_of m l ids a).answer ≡ Done
+    (m l : ℕ) (ids : List ℕ) (a : ℕ) (acts : List Action) → (start_of m l ids a).answer ≡ Ok tt
     → Throughout Held (start_of m l ids a).table (laid []) acts
 
 pub joins-at-once : AnyJoins → ⊥

@@ -1,5 +1,7 @@
 -- Good things can happen: the join of 17 at 18, and of 65 and 95 after it, computed by the checker from the definition of the step. Then joins into small
 -- estates (T-02), where L is 4 and no side can be full: into three, into two, and into one. Assumes nothing.
+use Rattle.rules.specs.Shapes.{Answer}
+use Rattle.std.specs.Prelude.{Ok, Err}
 use mathlib.Core.Path.{◌≡◌, refl}
 use mathlib.Core.Bool.{Bool, true}
 use mathlib.Core.List.{List, [], ◌∷◌}
@@ -11,8 +13,6 @@ use Rattle.rules.specs.declared.Status.{Status}
 use Rattle.rules.specs.declared.Status.TheVariants.{Dead, Ready}
 use Rattle.rules.specs.declared.Action.{Action}
 use Rattle.rules.specs.declared.Action.TheVariants.{Join, RequestLease, Take}
-use Rattle.rules.specs.declared.Answer.{Answer}
-use Rattle.rules.specs.declared.Answer.TheVariants.{Done, Refused}
 use Rattle.rules.specs.declared.Pool.{Pool}
 use Rattle.rules.specs.Pool.{laid}
 use Rattle.rules.specs.Pick.{best}
@@ -38,8 +38,8 @@ use Rattle.step.specs.Step.{is_sound, step_of}
 
 -- actions one after the other, as long as each is done
 abbrev after : Answer → Stepped → (Table → Pool → Stepped) → Stepped
-after Done s rest = rest s.table s.pool
-after (Refused why) s rest = s
+after (Ok tt) s rest = rest s.table s.pool
+after (Err why) s rest = s
 
 abbrev run : List Action → Table → Pool → Stepped
 run [] t p = done_of t p

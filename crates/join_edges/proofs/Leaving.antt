@@ -2,6 +2,7 @@
 -- out; and two ready nodes cover one key: so join in turn needs that no probe times out. A node leaves, and the others know a dead one: so what every step keeps
 -- needs that no node leaves. Others of T-03's actions are done in turn. Then dead ends: a node that waits and that no repair takes, in an estate of three, with
 -- L = 2 and with L = 1. And a JoinReply that outlives the node that asked for it, and is taken after its next Join. Assumes nothing.
+use Rattle.std.specs.Prelude.{Ok}
 use mathlib.Core.Path.{◌≡◌, refl, ap}
 use mathlib.Core.Logic.{inl}
 use mathlib.Core.Bool.{Bool, true, ◌&&◌, not}
@@ -16,7 +17,6 @@ use Rattle.marks.specs.Marks.{has, gather, tally, first_to, all_to, single, unio
 use Rattle.rules.specs.declared.Action.{Action}
 use Rattle.rules.specs.declared.Action.TheVariants.{Join, RequestLease, GrantExpired, Take}
 use Rattle.rules.specs.declared.Action.TheVariants.{NodeLeft, SuspectFaulty, ProbeTimeOut, DeclareDead, LSRepair, ResignNode, Recover}
-use Rattle.rules.specs.declared.Answer.TheVariants.{Done}
 use Rattle.rules.specs.declared.Pool.{Pool}
 use Rattle.rules.specs.declared.Status.{Status}
 use Rattle.rules.specs.declared.Status.TheVariants.{Wait}
@@ -186,7 +186,7 @@ unfolding fall_of signed_of abs_dist_of rises_to nearer left_cover_of right_cove
     nobody_waits
 leaving = record { two-cover = refl; known_dead = refl; suspects = refl; resigns-in-turn = refl; few-nodes = refl; one-a-side = refl; stale-reply = refl }
 
-pub started : (start_of 5 2 (5 ∷ 17 ∷ 18 ∷ []) 3).answer ≡ Done
+pub started : (start_of 5 2 (5 ∷ 17 ∷ 18 ∷ []) 3).answer ≡ Ok tt
 unfolding start_of start_fits list_fits ids_rise listed all_to has slot_ids
 started = refl
 
@@ -196,7 +196,7 @@ started = refl
 abbrev pub JoinsPatient : Table → Pool → List Action → Type 0
 JoinsPatient t p [] = Unit {0}
 JoinsPatient t p (a ∷ acts) =
-    ((i seed : ℕ) → a ≡ Join i seed → (step_of t p 256 a).answer ≡ Done → NoneWaits t)
+    ((i seed : ℕ) → a ≡ Join i seed → (step_of t p 256 a).answer ≡ Ok tt → NoneWaits t)
     × JoinsPatient (step_of t p 256 a).table (step_of t p 256 a).pool acts
 
 abbrev nobody_joins : List Action → Bool

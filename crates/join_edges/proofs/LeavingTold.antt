@@ -1,12 +1,12 @@
 -- What the computed cases of Leaving show: where a node leaves the clauses are not kept, and without the hypothesis that bars departures the promise is not.
 -- Assumes nothing.
+use Rattle.std.specs.Prelude.{Ok}
 use mathlib.Core.Path.{◌≡◌, refl}
 use mathlib.Core.Bool.{◌&&◌}
 use mathlib.Core.List.{List, [], ◌∷◌}
 use Prim.Native.Nat.{ℕ}
 use native.Mathlib.Omega.{arith}
 use Rattle.rules.specs.declared.Action.{Action}
-use Rattle.rules.specs.declared.Answer.TheVariants.{Done}
 use Rattle.rules.specs.Pool.{laid}
 use Rattle.table_type.specs.Start.{start_of}
 use Rattle.table_laws.proofs.Nodes.{both}
@@ -23,7 +23,7 @@ left-broken = dead-told left.left.table left.left.pool (both left.done (knows_de
 -- without the hypothesis that bars them the promise is not kept
 abbrev pub AnyLeaves : Type 0
 AnyLeaves =
-    (m l : ℕ) (ids : List ℕ) (a : ℕ) (acts : List Action) → (start_of m l ids a).answer ≡ Done
+    (m l : ℕ) (ids : List ℕ) (a : ℕ) (acts : List Action) → (start_of m l ids a).answer ≡ Ok tt
     → JoinsPatient (start_of m l ids a).table (laid []) acts → Throughout Held (start_of m l ids a).table (laid []) acts
 
 pub joins-and-leaves : AnyLeaves → ⊥

@@ -1,4 +1,6 @@
 -- Every plan is good: one law for each action, and for Take one for each kind. Assumes nothing.
+use Rattle.rules.specs.Shapes.{Planned}
+use Rattle.std.specs.Prelude.{Ok, Err}
 use mathlib.Core.Path.{◌≡◌, refl, ap}
 use mathlib.Core.Logic.{inl, inr}
 use mathlib.Core.Bool.{Bool, true, false}
@@ -13,8 +15,6 @@ use Rattle.rules.specs.declared.Message.{Message}
 use Rattle.rules.specs.declared.Pool.{Pool}
 use Rattle.rules.specs.declared.Refusal.{Refusal}
 use Rattle.rules.specs.declared.Plan.{Plan}
-use Rattle.rules.specs.declared.Planned.{Planned}
-use Rattle.rules.specs.declared.Planned.TheVariants.{No, Go}
 use Rattle.rules.specs.declared.Action.{Action}
 use Rattle.rules.specs.declared.Action.TheVariants.{Lookup, Join, RequestLease, LeaseExpired, GrantExpired, Take, Deliver, Forward}
 use Rattle.rules.specs.declared.Action.TheVariants.{NodeLeft, SuspectFaulty, ProbeTimeOut, DeclareDead, LSRepair, ResignNode, Recover}
@@ -52,7 +52,7 @@ use Rattle.join_laws.proofs.Told.{told-join}
 -- ---- Join
 
 module _ (t : View) (i : ℕ) (c : Calm t) (h : i < t.ring.n) (none : (s : ℕ) → s < t.ring.n → is_wait (t.at s).status ≡ false) where
-  join-good : (waiting : Bool) (seed : ℕ) → seed < t.ring.n → (x : Plan) → plan_join waiting i (t.at i) seed (t.at seed) ≡ Go x
+  join-good : (waiting : Bool) (seed : ℕ) → seed < t.ring.n → (x : Plan) → plan_join waiting i (t.at i) seed (t.at seed) ≡ Ok x
       → Good t i x
   join-good waiting seed hs x e =
       let (ready, empty, same) = told-join waiting i (t.at i) seed (t.at seed) x e in
@@ -75,12 +75,12 @@ module _ (t : View) (i : ℕ) (c : Calm t) (h : i < t.ring.n) (none : (s : ℕ) 
 
 -- ---- Take, by kind
 
-comes : {P : Plan → Type 0} (what : Planned) → ((x : Plan) → what ≡ Go x → P x) → Comes (λ (why : Refusal). Unit {0}) P what
-comes (No why) f = says-no tt
-comes (Go x) f = goes (f x refl)
+comes : {P : Plan → Type 0} (what : Planned) → ((x : Plan) → what ≡ Ok x → P x) → Comes (λ (why : Refusal). Unit {0}) P what
+comes (Err why) f = says-no tt
+comes (Ok x) f = goes (f x refl)
 
 take-good : (t : View) (dead : ℕ) (m : Message) → Calm t → Fitting t → Obeys t.ring m → Fair t m → (x : Plan)
-    → plan_take m.kind t.ring t.ids dead m.dest (t.at m.dest) m ≡ Go x → Good t m.dest x
+    → plan_take m.kind t.ring t.ids dead m.dest (t.at m.dest) m ≡ Ok x → Good t m.dest x
 take-good t dead m c f o fair x e =
     let i = m.dest in
     let h = o.dest-in in
@@ -102,7 +102,7 @@ fitting {t} s = record { listed = s.listed; one = s.numbers.l-low; rules = λ i 
 module _ {t : Table} {p : Pool} (s : Sound t p) (c : Clauses t p) where
   pub planned-good : (a : Action) → (asked t p a).range ≡ true → (Barred a → ⊥) → ((i seed : ℕ) → a ≡ Join i seed → NoneWaits t)
       → (x : Plan)
-      → planned_of (asked t p a) ≡ Go x → Good (view_of t) (asked t p a).slot x
+      → planned_of (asked t p a) ≡ Ok x → Good (view_of t) (asked t p a).slot x
   planned-good (Lookup i k) e stay none =
       lookup-good (view_of t) i c.nodes (slot-in-range s (Lookup i k) e) (waits (waiting p) (placed (lookup k) i)) k
   planned-good (Join i seed) e stay none =

@@ -1,5 +1,6 @@
 -- Take of a BroadcastLSet. It is done at a node that is up, which stays up; what it learns is not dead by 9, and it guards against all of
 -- it. Assumes nothing.
+use Rattle.std.specs.Prelude.{Ok}
 use mathlib.Core.Path.{◌≡◌, refl, sym, ◌∙◌, ap}
 use mathlib.Core.Logic.{inl, inr, ⊎_elim}
 use mathlib.Core.Bool.{true, ◌&&◌, not}
@@ -14,7 +15,6 @@ use Rattle.rules.specs.declared.Status.TheVariants as status
 use Rattle.rules.specs.declared.Node.{Node}
 use Rattle.rules.specs.declared.Message.{Message}
 use Rattle.rules.specs.declared.Plan.{Plan}
-use Rattle.rules.specs.declared.Planned.TheVariants.{Go}
 use Rattle.rules.specs.Leaf.{content_of, leaf_with}
 use Rattle.rules.specs.Nodes.{sides_of, carried_of}
 use Rattle.rules.specs.Plans.{is_up, quiet_plan}
@@ -118,7 +118,7 @@ module _ (t : View) (i : ℕ) (c : Calm t) (f : Fitting t) (here : Up t i) (m : 
       (t.at i).status refl here.1)
 
 pub take-broadcast-good : (t : View) (i : ℕ) → Calm t → Fitting t → i < t.ring.n → (m : Message) → m.owner < t.ring.n
-    → ((y : ℕ) → Carries t m y → Alive t y) → (x : Plan) → plan_take_broadcast t.ring t.ids i (t.at i) m ≡ Go x → Good t i x
+    → ((y : ℕ) → Carries t m y → Alive t y) → (x : Plan) → plan_take_broadcast t.ring t.ids i (t.at i) m ≡ Ok x → Good t i x
 take-broadcast-good t i c f h m o lives x e =
     let (up, apart, same) = told-broadcast t.ring t.ids i (t.at i) m x e in
     rw same (broadcast-good t i c f (h, up) m o apart lives)

@@ -1,6 +1,7 @@
 -- The departures and repairs that keep the clauses, one law for each. SuspectFaulty, LSRepair and Recover only probe: leaf set, failed and status stay, and
 -- probing grows. DeclareDead is never done, since nobody is held for failed. ResignNode is done only at a node whose leaf set is empty: by 2 one that is wait and
 -- not empty guards against the ready node that it asks, and lacks no side. Assumes nothing.
+use Rattle.std.specs.Prelude.{Ok}
 use mathlib.Core.Path.{◌≡◌, refl, ◌∙◌}
 use mathlib.Core.Logic.{inl, inr, ⊎_elim}
 use mathlib.Core.Bool.{Bool, true}
@@ -12,7 +13,6 @@ use Rattle.marks.specs.Marks.{has, union, single}
 use Rattle.marks.proofs.Laws.{has-union, empty-has, size_none}
 use Rattle.rules.specs.declared.Node.{Node}
 use Rattle.rules.specs.declared.Plan.{Plan}
-use Rattle.rules.specs.declared.Planned.TheVariants.{Go}
 use Rattle.rules.specs.Leaf.{is_empty}
 use Rattle.plan.specs.Leave.{emptied, probing_plan, is_bare, lacks_side, plan_suspect_faulty, plan_declare_dead, plan_ls_repair, plan_resign_node, plan_recover}
 use Rattle.rules.specs.Letters.{no_sides, join_request}
@@ -65,24 +65,24 @@ module _ (t : View) (i : ℕ) (c : Calm t) (f : Fitting t) (h : i < t.ring.n) wh
           stands = inr (i, a);
         }
 
-  pub suspect-faulty-good : (j : ℕ) (x : Plan) → plan_suspect_faulty i (t.at i) j ≡ Go x → Good t i x
+  pub suspect-faulty-good : (j : ℕ) (x : Plan) → plan_suspect_faulty i (t.at i) j ≡ Ok x → Good t i x
   suspect-faulty-good j x e =
       let (up, same) = told-suspect-faulty i (t.at i) j x e in
       rw same (probing-good _ (h, up-alive (t.at i).status up))
 
-  pub repair-good : (x : Plan) → plan_ls_repair t.ring t.ids i (t.at i) ≡ Go x → Good t i x
+  pub repair-good : (x : Plan) → plan_ls_repair t.ring t.ids i (t.at i) ≡ Ok x → Good t i x
   repair-good x e =
       let (wait, same) = told-repair t.ring t.ids i (t.at i) x e in
       rw same (probing-good _ (h, wait-alive (t.at i).status wait))
 
-  pub recover-good : (some_up : Bool) (x : Plan) → plan_recover some_up t.ring t.ids i (t.at i) ≡ Go x → Good t i x
+  pub recover-good : (some_up : Bool) (x : Plan) → plan_recover some_up t.ring t.ids i (t.at i) ≡ Ok x → Good t i x
   recover-good some_up x e =
       let (wait, same) = told-recover some_up t.ring t.ids i (t.at i) x e in
       rw same (probing-good _ (h, wait-alive (t.at i).status wait))
 
   -- ---- DeclareDead: failed is empty
 
-  pub declare-dead-good : (j : ℕ) (x : Plan) → plan_declare_dead t.ring t.ids i (t.at i) j ≡ Go x → Good t i x
+  pub declare-dead-good : (j : ℕ) (x : Plan) → plan_declare_dead t.ring t.ids i (t.at i) j ≡ Ok x → Good t i x
   declare-dead-good j x e =
       absurd (opposed (told-declare-dead t.ring t.ids i (t.at i) j x e) (empty-has (t.at i).failed j (c.trusting i h)))
 
@@ -147,7 +147,7 @@ module _ (t : View) (i : ℕ) (c : Calm t) (f : Fitting t) (h : i < t.ring.n) wh
             stands = inr (i, (h, wait-alive (t.at i).status w.1));
           }
 
-  pub resign-good : (waiting : Bool) (n : ℕ) → n < t.ring.n → (x : Plan) → plan_resign_node waiting i (t.at i) n (t.at n) ≡ Go x → Good t i x
+  pub resign-good : (waiting : Bool) (n : ℕ) → n < t.ring.n → (x : Plan) → plan_resign_node waiting i (t.at i) n (t.at n) ≡ Ok x → Good t i x
   resign-good waiting n l x e =
       let (wait, ready, lacks, same) = told-resign waiting i (t.at i) n (t.at n) x e in
       let u : Up t n = (l, ready_up (t.at n).status ready) in

@@ -1,5 +1,6 @@
 -- The actions and kinds that leave every leaf set as it stands: Lookup, RequestLease, LeaseExpired, GrantExpired, Deliver, Forward, and Take of a
 -- JoinRequest that is passed on, and of a LeaseRequest. One law for each. Assumes nothing.
+use Rattle.std.specs.Prelude.{Ok}
 use mathlib.Core.Path.{◌≡◌, refl, sym, ◌∙◌}
 use mathlib.Core.Logic.{inr, ⊎_elim}
 use mathlib.Core.Bool.{Bool, true, false, cond, ◌&&◌}
@@ -15,7 +16,6 @@ use Rattle.rules.specs.declared.Status.{Status}
 use Rattle.rules.specs.declared.Status.TheVariants as status
 use Rattle.rules.specs.declared.Message.{Message}
 use Rattle.rules.specs.declared.Plan.{Plan}
-use Rattle.rules.specs.declared.Planned.TheVariants.{Go}
 use Rattle.plan.specs.Actions.{is_neighbour, lease_plan, plan_lookup, plan_request_lease, plan_lease_expired, plan_grant_expired}
 use Rattle.rules.specs.Hop.{next_hop}
 use Rattle.rules.specs.Leaf.{content_of}
@@ -84,7 +84,7 @@ module _ (t : View) (i : ℕ) (c : Calm t) (h : i < t.ring.n) where
 
   -- ---- the actions
 
-  pub lookup-good : (waiting : Bool) (k : ℕ) (x : Plan) → plan_lookup waiting i k (t.at i) ≡ Go x → Good t i x
+  pub lookup-good : (waiting : Bool) (k : ℕ) (x : Plan) → plan_lookup waiting i k (t.at i) ≡ Ok x → Good t i x
   lookup-good waiting k x e =
       rw (told-lookup waiting i k (t.at i) x e) (kept-good t i c h _ refl (sends-one (t.at i) (lookup k) i (free-lookup 0 k i)))
 
@@ -97,7 +97,7 @@ module _ (t : View) (i : ℕ) (c : Calm t) (h : i < t.ring.n) where
         rest = λ s l e. free-lease i s;
       })
 
-  pub request-lease-good : (x : Plan) → plan_request_lease t.ring t.ids i (t.at i) ≡ Go x → Good t i x
+  pub request-lease-good : (x : Plan) → plan_request_lease t.ring t.ids i (t.at i) ≡ Ok x → Good t i x
   request-lease-good x e = rw (told-request-lease t.ring t.ids i (t.at i) x e).1 lease-good
 
   leases-good : (lease grant : ℕ) (st : Status) → SameSort st (t.at i).status → Alive t i
@@ -110,24 +110,24 @@ module _ (t : View) (i : ℕ) (c : Calm t) (h : i < t.ring.n) where
         stands = inr (i, a);
       }
 
-  pub lease-expired-good : (j : ℕ) (x : Plan) → plan_lease_expired t.ring t.ids i (t.at i) j ≡ Go x → Good t i x
+  pub lease-expired-good : (j : ℕ) (x : Plan) → plan_lease_expired t.ring t.ids i (t.at i) j ≡ Ok x → Good t i x
   lease-expired-good j x e =
       let (up, same) = told-lease-expired t.ring t.ids i (t.at i) j x e in
       let near = is_ready (t.at i).status && is_neighbour t.ring t.ids i (t.at i) j in
       rw same
       (leases-good _ _ _ (up-sort _ _ (cond_up near status.Ok (t.at i).status refl up) up) (h, up-alive (t.at i).status up))
 
-  pub grant-expired-good : (j s : ℕ) (x : Plan) → plan_grant_expired i (t.at i) j (t.at s) ≡ Go x → Good t i x
+  pub grant-expired-good : (j s : ℕ) (x : Plan) → plan_grant_expired i (t.at i) j (t.at s) ≡ Ok x → Good t i x
   grant-expired-good j s x e =
       let (up, same) = told-grant-expired i (t.at i) j (t.at s) x e in
       rw same (leases-good _ _ _ (same-sort (t.at i).status) (h, up-alive (t.at i).status up))
 
   -- ---- Deliver and Forward
 
-  pub deliver-good : (kind k : ℕ) (x : Plan) → plan_deliver kind t.ring t.ids i (t.at i) k ≡ Go x → Good t i x
+  pub deliver-good : (kind k : ℕ) (x : Plan) → plan_deliver kind t.ring t.ids i (t.at i) k ≡ Ok x → Good t i x
   deliver-good kind k x e = rw (told-deliver kind t.ring t.ids i (t.at i) k x e) (kept-good t i c h _ refl (sends_none (t.at i)))
 
-  pub forward-lookup-good : (kind dead k hops : ℕ) (x : Plan) → plan_forward kind t.ring t.ids dead i (t.at i) k hops ≡ Go x → Good t i x
+  pub forward-lookup-good : (kind dead k hops : ℕ) (x : Plan) → plan_forward kind t.ring t.ids dead i (t.at i) k hops ≡ Ok x → Good t i x
   forward-lookup-good kind dead k hops x e =
       rw (told-forward kind t.ring t.ids dead i (t.at i) k hops x e)
       (forward-good (next_hop t.ring t.ids dead i (t.at i) k) (lookup_after (hops + 1) k) k (free-lookup (hops + 1) k))
@@ -171,7 +171,7 @@ module _ (t : View) (i : ℕ) (c : Calm t) (h : i < t.ring.n) where
         stands = inr (i, a);
       }
 
-  pub take-lease-request-good : Fitting t → (j : ℕ) (x : Plan) → plan_take_lease_request t.ring t.ids i (t.at i) j ≡ Go x → Good t i x
+  pub take-lease-request-good : Fitting t → (j : ℕ) (x : Plan) → plan_take_lease_request t.ring t.ids i (t.at i) j ≡ Ok x → Good t i x
   take-lease-request-good f j x e =
       let (up, same) = told-lease-request t.ring t.ids i (t.at i) j x e in
       rw same (grant-good f (h, up-alive (t.at i).status up) j (is_neighbour t.ring t.ids i (t.at i) j))

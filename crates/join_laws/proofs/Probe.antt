@@ -1,6 +1,7 @@
 -- Take of an LSProbe and of an LSProbeReply, from j at i. Both add j, who is not dead, to the leaf set, so i guards against j; failed
 -- stays empty, so of those probed none is lost but j in the second, and j guards against i by 8. Where then nobody is left to probe, i
 -- may become ok. Assumes nothing.
+use Rattle.std.specs.Prelude.{None, Ok}
 use mathlib.Core.Path.{◌≡◌, refl, sym, ◌∙◌, ap, subst}
 use mathlib.Core.Logic.{◌⊎◌, inl, inr, ⊎_elim}
 use mathlib.Core.Bool.{Bool, true, false, cond, ◌&&◌, ◌||◌, not}
@@ -11,14 +12,12 @@ use borrow.Author.Tests.{eqb-true, ne_eqb}
 use Rattle.marks.proofs.Bools.{opposed, and_both, or_left, false-not, and-fails-left, bool_false, eq-or-ne}
 use Rattle.marks.specs.Marks.{has, remove_of, union, without}
 use Rattle.marks.proofs.Laws.{has-zero, has-remove, has-union, has-without, gather_none}
-use Rattle.marks.specs.declared.Found.TheVariants.{Nothing}
 use Rattle.rules.specs.declared.Sides.{Sides}
 use Rattle.rules.specs.declared.Status.{Status}
 use Rattle.rules.specs.declared.Status.TheVariants as status
 use Rattle.rules.specs.declared.Node.{Node}
 use Rattle.rules.specs.declared.Message.{Message}
 use Rattle.rules.specs.declared.Plan.{Plan}
-use Rattle.rules.specs.declared.Planned.TheVariants.{Go}
 use Rattle.rules.specs.Leaf.{leaf_with_one, is_empty, overlaps, is_complete}
 use Rattle.rules.specs.Letters.{ls_probe, ls_probe_reply}
 use Rattle.rules.specs.Nodes.{sides_of, placed}
@@ -181,7 +180,7 @@ module _ (t : View) (i : ℕ) (c : Calm t) (f : Fitting t) (here : Alive t i) (f
 
     -- the plan that leaves the status st
     abbrev planned : Status → Plan
-    planned st = record { node = learnt left st; first = blank; to = Nothing; each = ls_probe i heard trusted; all = asked; via = Unrouted }
+    planned st = record { node = learnt left st; first = blank; to = None; each = ls_probe i heard trusted; all = asked; via = Unrouted }
 
     waits-good : Good t i (planned (t.at i).status)
     waits-good =
@@ -253,13 +252,13 @@ module _ (t : View) (i : ℕ) (c : Calm t) (f : Fitting t) (here : Alive t i) (f
     answer-good = after-good
 
 pub take-probe-good : (t : View) (i : ℕ) → Calm t → Fitting t → i < t.ring.n → (m : Message) → Alive t m.word → (x : Plan)
-    → plan_take_probe t.ring t.ids i (t.at i) m ≡ Go x → Good t i x
+    → plan_take_probe t.ring t.ids i (t.at i) m ≡ Ok x → Good t i x
 take-probe-good t i c f h m there x e =
     let (alive, fits, apart, same) = told-probe t.ring t.ids i (t.at i) m x e in
     rw same (probe-good t i c f (h, alive) fits m there apart)
 
 pub take-probe-reply-good : (t : View) (i : ℕ) → Calm t → Fitting t → i < t.ring.n → (m : Message)
-    → Alive t m.word × GuardsAt t m.word i → (x : Plan) → plan_take_probe_reply t.ring t.ids i (t.at i) m ≡ Go x → Good t i x
+    → Alive t m.word × GuardsAt t m.word i → (x : Plan) → plan_take_probe_reply t.ring t.ids i (t.at i) m ≡ Ok x → Good t i x
 take-probe-reply-good t i c f h m (there, back) x e =
     let (alive, fits, apart, same) = told-probe-reply t.ring t.ids i (t.at i) m x e in
     rw same (answer-good t i c f (h, alive) fits m there apart back)

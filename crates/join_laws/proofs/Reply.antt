@@ -1,6 +1,7 @@
 -- Take of a JoinReply. It is done at an empty node i only, so by 6 i is wait, and the message introduces it. With the content added i
 -- guards against every node that is up. One that i does not probe stands beyond a node that i knows, above and below, and guards against
 -- those two: so it guards against i (`beyond-up`, `beyond-down`). Assumes nothing.
+use Rattle.std.specs.Prelude.{Ok}
 use mathlib.Core.Path.{◌≡◌, refl, ◌∙◌}
 use mathlib.Core.Logic.{inl, inr, ⊎_elim}
 use mathlib.Core.Bool.{true, false, ◌||◌}
@@ -15,7 +16,6 @@ use Rattle.rules.specs.declared.Sides.{Sides}
 use Rattle.rules.specs.declared.Node.{Node}
 use Rattle.rules.specs.declared.Message.{Message}
 use Rattle.rules.specs.declared.Plan.{Plan}
-use Rattle.rules.specs.declared.Planned.TheVariants.{Go}
 use Rattle.rules.specs.Leaf.{content_of, leaf_with}
 use Rattle.rules.specs.Nodes.{sides_of, carried_of}
 use Rattle.rules.specs.Pick.{id_at}
@@ -126,7 +126,7 @@ module _ (t : View) (i : ℕ) (m : Message) (c : Calm t) (f : Fitting t) (new : 
       }
 
 pub take-join-reply-good : (t : View) (i : ℕ) (m : Message) → Calm t → Fitting t → i < t.ring.n
-    → Joining t i × (Blank t i → Introduces t i m) → (x : Plan) → plan_take_join_reply t.ring t.ids i (t.at i) m ≡ Go x → Good t i x
+    → Joining t i × (Blank t i → Introduces t i m) → (x : Plan) → plan_take_join_reply t.ring t.ids i (t.at i) m ≡ Ok x → Good t i x
 take-join-reply-good t i m c f h (join, intro) x e =
     let (alive, empty, same) = told-join-reply t.ring t.ids i (t.at i) m x e in
     let new : Blank t i = (⊎_elim (λ p. p) (λ p. absurd (opposed empty p)) join, empty) in

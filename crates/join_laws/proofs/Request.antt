@@ -1,6 +1,7 @@
 -- Take of a JoinRequest, answered. The node c that answers covers the id of j, which is wait and empty: so j stands between c and a
 -- neighbour of c, and of all nodes that are up, none is closer to j above or below than one of these two (`covered-beside`). What c knows
 -- is not dead, and is not j, and nobody but j is wait: all of it is up. Assumes nothing.
+use Rattle.std.specs.Prelude.{Ok}
 use mathlib.Core.Path.{◌≡◌, refl, ◌∙◌}
 use mathlib.Core.Logic.{◌⊎◌, inl, inr, ⊎_elim}
 use mathlib.Core.Bool.{true, false, ◌||◌}
@@ -13,7 +14,6 @@ use Rattle.marks.proofs.Bools.{opposed, or_left, or_right, eq-or-ne}
 use Rattle.marks.specs.Marks.{has}
 use Rattle.rules.specs.declared.Way.TheVariants.{Up as Rising, Down as Falling}
 use Rattle.rules.specs.declared.Plan.{Plan}
-use Rattle.rules.specs.declared.Planned.TheVariants.{Go}
 use Rattle.rules.specs.Leaf.{content_of, covers_of, left_neighbour, right_neighbour, way_up, way_down}
 use Rattle.rules.specs.Letters.{join_reply}
 use Rattle.rules.specs.Nodes.{sides_of, placed}
@@ -130,7 +130,7 @@ module _ (t : View) (i : ℕ) (c : Calm t) (f : Fitting t) (here : Up t i) where
     taken dead x (passed_on same) = rw same (request-on-good t i c here.0 dead j _ (id_at t.ids j) join)
 
 pub take-join-request-good : (t : View) (i : ℕ) → Calm t → Fitting t → i < t.ring.n → (dead j routing : ℕ) → Joining t j → (x : Plan)
-    → plan_take_join_request t.ring t.ids dead i (t.at i) j routing ≡ Go x → Good t i x
+    → plan_take_join_request t.ring t.ids dead i (t.at i) j routing ≡ Ok x → Good t i x
 take-join-request-good t i c f h dead j routing join x e =
     let (ready, told) = told-join-request t.ring t.ids dead i (t.at i) j routing x e in
     taken t i c f (h, ready_up (t.at i).status ready) j routing join dead x told

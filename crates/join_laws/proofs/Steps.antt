@@ -1,5 +1,7 @@
 -- Every step keeps the clauses, and so does every list of actions in which nodes join in turn; where they hold, T-08's condition does,
 -- and there is one holder. Assumes nothing.
+use Rattle.rules.specs.Shapes.{Answer}
+use Rattle.std.specs.Prelude.{Ok, Err}
 use mathlib.Core.Path.{◌≡◌, refl, sym, ◌∙◌, ap, ap₂, subst, fun_ext}
 use mathlib.Core.Logic.{◌⊎◌, inl, inr, ⊎_elim}
 use mathlib.Core.Bool.{true, not}
@@ -19,8 +21,6 @@ use Rattle.rules.specs.declared.Pool.{Pool}
 use Rattle.rules.specs.declared.Plan.{Plan}
 use Rattle.rules.specs.declared.Action.{Action}
 use Rattle.rules.specs.declared.Action.TheVariants.{Join}
-use Rattle.rules.specs.declared.Answer.{Answer}
-use Rattle.rules.specs.declared.Answer.TheVariants.{Done, Refused}
 use Rattle.rules.specs.Nodes.{no_node}
 use Rattle.rules.specs.Pick.{id_at}
 use Rattle.rules.specs.Plans.{is_dead, mailed}
@@ -110,17 +110,17 @@ module _ {t : Table} {p : Pool} (c : Clauses t p) (a : Action) where
   step-clauses turn = go (step_of t p 256 a).answer refl
     where
       go : (r : Answer) → (step_of t p 256 a).answer ≡ r → Clauses (step_of t p 256 a).table (step_of t p 256 a).pool
-      go Done e =
+      go (Ok tt) e =
           let (x, d, same) = step-done t p 256 a e in
           rw same (done-clauses x d (turn.0 e) (λ i seed q. turn.1 i seed q e))
-      go (Refused why) e = rw (step-refused t p 256 a why e).1 c
+      go (Err why) e = rw (step-refused t p 256 a why e).1 c
 
 step-valid : (t : Table) (p : Pool) (a : Action) → valid_of t p ≡ true → valid_of (step_of t p 256 a).table (step_of t p 256 a).pool ≡ true
 step-valid t p a v = go (step_of t p 256 a).answer refl
   where
     go : (r : Answer) → (step_of t p 256 a).answer ≡ r → valid_of (step_of t p 256 a).table (step_of t p 256 a).pool ≡ true
-    go Done e = keeps-valid t p 256 a e
-    go (Refused why) e = rw (step-refused t p 256 a why e).1 v
+    go (Ok tt) e = keeps-valid t p 256 a e
+    go (Err why) e = rw (step-refused t p 256 a why e).1 v
 
 -- ---- what the clauses give
 

@@ -1,5 +1,7 @@
 -- A list of actions, run: whether each is done, whether nodes join in turn, and what is left. The tests pass exactly where the statements
 -- of InTurn hold. Assumes nothing.
+use Rattle.rules.specs.Shapes.{Answer}
+use Rattle.std.specs.Prelude.{Ok, Err}
 use mathlib.Core.Path.{◌≡◌, refl, sym}
 use mathlib.Core.Bool.{Bool, true, false, ◌&&◌, ◌||◌, not}
 use mathlib.Core.List.{List, [], ◌∷◌, ◌++◌}
@@ -10,8 +12,6 @@ use Rattle.marks.proofs.Laws.{each, all_of}
 use Rattle.rules.specs.declared.Action.{Action}
 use Rattle.rules.specs.declared.Action.TheVariants.{Lookup, Join, RequestLease, LeaseExpired, GrantExpired, Take, Deliver, Forward}
 use Rattle.rules.specs.declared.Action.TheVariants.{NodeLeft, SuspectFaulty, ProbeTimeOut, DeclareDead, LSRepair, ResignNode, Recover}
-use Rattle.rules.specs.declared.Answer.{Answer}
-use Rattle.rules.specs.declared.Answer.TheVariants.{Done, Refused}
 use Rattle.rules.specs.declared.Pool.{Pool}
 use Rattle.rules.specs.Plans.{is_wait}
 use Rattle.table_type.specs.declared.Table.{Table}
@@ -58,8 +58,8 @@ keeps_turns (ResignNode i n) = true
 keeps_turns (Recover i) = true
 
 abbrev pub is_done : Answer → Bool
-is_done Done = true
-is_done (Refused why) = false
+is_done (Ok tt) = true
+is_done (Err why) = false
 
 -- an action that is so answered: no NodeLeft or ProbeTimeOut is done, and no Join while some node is wait
 abbrev is_in_turn : Table → Action → Answer → Bool
@@ -154,17 +154,17 @@ joins-told (LSRepair i) e = absurd (clash (sym e))
 joins-told (ResignNode i n) e = absurd (clash (sym e))
 joins-told (Recover i) e = absurd (clash (sym e))
 
-done-told : (r : Answer) → is_done r ≡ true → r ≡ Done
-done-told Done e = refl
-done-told (Refused why) e = absurd (clash (sym e))
+done-told : (r : Answer) → is_done r ≡ true → r ≡ Ok tt
+done-told (Ok tt) e = refl
+done-told (Err why) e = absurd (clash (sym e))
 
 turn-of : (t : Table) (p : Pool) (a : Action) → InTurn t p a → is_in_turn t a (step_of t p 256 a).answer ≡ true
 turn-of t p a turn =
     and_both (stays (step_of t p 256 a).answer refl) (go (is_join a && is_done (step_of t p 256 a).answer) refl)
   where
     stays : (r : Answer) → (step_of t p 256 a).answer ≡ r → (not (is_done r) || keeps_turns a) ≡ true
-    stays Done e = turns-kept a (turn.0 e)
-    stays (Refused why) e = refl
+    stays (Ok tt) e = turns-kept a (turn.0 e)
+    stays (Err why) e = refl
 
     go : (b : Bool) → (is_join a && is_done (step_of t p 256 a).answer) ≡ b → (not b || nobody_waits t) ≡ true
     go true e =

@@ -1,5 +1,7 @@
 -- What the tests of each action and kind tell, where it plans something: the node's status, its leaf set and its partner, as far as the
 -- clauses ask, and the plan. One law for each action and kind. Assumes nothing.
+use Rattle.rules.specs.Shapes.{Planned}
+use Rattle.std.specs.Prelude.{Ok, Err}
 use mathlib.Core.Path.{◌≡◌, refl}
 use mathlib.Core.Logic.{◌⊎◌, inl, inr}
 use mathlib.Core.Bool.{Bool, true, false, cond, ◌&&◌, ◌||◌, not}
@@ -15,8 +17,6 @@ use Rattle.rules.specs.declared.Node.{Node}
 use Rattle.rules.specs.declared.Message.{Message}
 use Rattle.rules.specs.declared.Refusal.{Refusal}
 use Rattle.rules.specs.declared.Plan.{Plan}
-use Rattle.rules.specs.declared.Planned.{Planned}
-use Rattle.rules.specs.declared.Planned.TheVariants.{No, Go}
 use Rattle.plan.specs.Actions.{is_neighbour, lease_plan, plan_lookup, plan_join, plan_request_lease, plan_lease_expired, plan_grant_expired}
 use Rattle.rules.specs.Hop.{next_hop}
 use Rattle.rules.specs.Leaf.{content_of, leaf_with, is_complete, is_empty, covers_of}
@@ -33,22 +33,22 @@ use Rattle.table_laws.proofs.Nodes.{both}
 use Rattle.table_laws.proofs.By.{go_same, never-go}
 
 -- a test that would have refused fails
-passed : (b : Bool) (why : Refusal) (rest : Planned) {x : Plan} → cond b (No why) rest ≡ Go x → (b ≡ false) × (rest ≡ Go x)
+passed : (b : Bool) (why : Refusal) (rest : Planned) {x : Plan} → cond b (Err why) rest ≡ Ok x → (b ≡ false) × (rest ≡ Ok x)
 passed true why rest e = absurd (never-go e)
 passed false why rest e = (refl, e)
 
 -- one of two plans
-either : (b : Bool) (one : Plan) (other : Planned) {x : Plan} → cond b (Go one) other ≡ Go x → ((b ≡ true) × (x ≡ one)) ⊎ (other ≡ Go x)
+either : (b : Bool) (one : Plan) (other : Planned) {x : Plan} → cond b (Ok one) other ≡ Ok x → ((b ≡ true) × (x ≡ one)) ⊎ (other ≡ Ok x)
 either true one other e = inl (refl, go_same e)
 either false one other e = inr e
 
 -- ---- the actions
 
-pub told-lookup : (waiting : Bool) (i k : ℕ) (v : Node) (x : Plan) → plan_lookup waiting i k v ≡ Go x → x ≡ send_plan v (lookup k) i
+pub told-lookup : (waiting : Bool) (i k : ℕ) (v : Node) (x : Plan) → plan_lookup waiting i k v ≡ Ok x → x ≡ send_plan v (lookup k) i
 unfolding plan_lookup
 told-lookup waiting i k v x e = go_same (passed waiting _ _ e).1
 
-pub told-join : (waiting : Bool) (i : ℕ) (v : Node) (seed : ℕ) (u : Node) (x : Plan) → plan_join waiting i v seed u ≡ Go x
+pub told-join : (waiting : Bool) (i : ℕ) (v : Node) (seed : ℕ) (u : Node) (x : Plan) → plan_join waiting i v seed u ≡ Ok x
     → (is_ready u.status ≡ true) × (is_empty (sides_of v) ≡ true) × (x ≡ send_plan (with_status v status.Wait) (join_request i 0) seed)
 unfolding plan_join
 told-join waiting i v seed u x e =
@@ -57,7 +57,7 @@ told-join waiting i v seed u x e =
     let c = passed (not (is_empty (sides_of v))) _ _ b.1 in
     ((both (is_dead v.status) (is_ready u.status) (not-false _ a.0)).1, not-false _ c.0, go_same c.1)
 
-pub told-request-lease : (g : Ring) (ids : List ℕ) (i : ℕ) (v : Node) (x : Plan) → plan_request_lease g ids i v ≡ Go x
+pub told-request-lease : (g : Ring) (ids : List ℕ) (i : ℕ) (v : Node) (x : Plan) → plan_request_lease g ids i v ≡ Ok x
     → (is_ok v.status ≡ true) × (x ≡ lease_plan g ids i v)
 unfolding plan_request_lease
 told-request-lease g ids i v x e =
@@ -65,7 +65,7 @@ told-request-lease g ids i v x e =
     let b = passed (is_empty (sides_of v)) _ _ a.1 in
     (not-false _ a.0, go_same b.1)
 
-pub told-lease-expired : (g : Ring) (ids : List ℕ) (i : ℕ) (v : Node) (j : ℕ) (x : Plan) → plan_lease_expired g ids i v j ≡ Go x
+pub told-lease-expired : (g : Ring) (ids : List ℕ) (i : ℕ) (v : Node) (j : ℕ) (x : Plan) → plan_lease_expired g ids i v j ≡ Ok x
     → (is_up v.status ≡ true)
     × (x ≡ quiet_plan (with_leases v (remove_of v.lease j) v.grant
     (cond (is_ready v.status && is_neighbour g ids i v j) status.Ok v.status)))
@@ -74,7 +74,7 @@ told-lease-expired g ids i v j x e =
     let a = passed (not (is_up v.status)) _ _ e in
     (not-false _ a.0, go_same (passed (eqb i j || not (has v.lease j)) _ _ a.1).1)
 
-pub told-grant-expired : (i : ℕ) (v : Node) (j : ℕ) (u : Node) (x : Plan) → plan_grant_expired i v j u ≡ Go x
+pub told-grant-expired : (i : ℕ) (v : Node) (j : ℕ) (u : Node) (x : Plan) → plan_grant_expired i v j u ≡ Ok x
     → (is_up v.status ≡ true) × (x ≡ quiet_plan (with_leases v v.lease (remove_of v.grant j) v.status))
 unfolding plan_grant_expired
 told-grant-expired i v j u x e =
@@ -83,7 +83,7 @@ told-grant-expired i v j u x e =
 
 -- ---- departures and repairs
 
-pub told-suspect-faulty : (i : ℕ) (v : Node) (j : ℕ) (x : Plan) → plan_suspect_faulty i v j ≡ Go x
+pub told-suspect-faulty : (i : ℕ) (v : Node) (j : ℕ) (x : Plan) → plan_suspect_faulty i v j ≡ Ok x
     → (is_up v.status ≡ true) × (x ≡ probing_plan i v (single j))
 unfolding plan_suspect_faulty
 told-suspect-faulty i v j x e =
@@ -91,7 +91,7 @@ told-suspect-faulty i v j x e =
     (not-false _ a.0, go_same (passed (eqb i j || (not (has (content_of (sides_of v) i) j) || (has v.probing j || has v.failed j))) _ _ a.1).1)
 
 -- the plan is not asked for
-pub told-declare-dead : (g : Ring) (ids : List ℕ) (i : ℕ) (v : Node) (j : ℕ) (x : Plan) → plan_declare_dead g ids i v j ≡ Go x
+pub told-declare-dead : (g : Ring) (ids : List ℕ) (i : ℕ) (v : Node) (j : ℕ) (x : Plan) → plan_declare_dead g ids i v j ≡ Ok x
     → has v.failed j ≡ true
 unfolding plan_declare_dead
 told-declare-dead g ids i v j x e =
@@ -100,7 +100,7 @@ told-declare-dead g ids i v j x e =
     let b = passed (not held || (is_neighbour g ids i v j && has v.grant j)) _ _ a.1 in
     (both (has v.failed j) _ (not-false _ (or-fails-left (not held) _ b.0))).0
 
-pub told-repair : (g : Ring) (ids : List ℕ) (i : ℕ) (v : Node) (x : Plan) → plan_ls_repair g ids i v ≡ Go x
+pub told-repair : (g : Ring) (ids : List ℕ) (i : ℕ) (v : Node) (x : Plan) → plan_ls_repair g ids i v ≡ Ok x
     → (is_wait v.status ≡ true) × (x ≡ probing_plan i v (ends_to_probe g ids i (sides_of v)))
 unfolding plan_ls_repair
 told-repair g ids i v x e =
@@ -108,7 +108,7 @@ told-repair g ids i v x e =
     let b = passed (lacks_side (sides_of v) || is_complete g (sides_of v)) _ _ a.1 in
     (not-false _ a.0, go_same (passed (not (eqb v.probing 0)) _ _ b.1).1)
 
-pub told-resign : (waiting : Bool) (i : ℕ) (v : Node) (n : ℕ) (u : Node) (x : Plan) → plan_resign_node waiting i v n u ≡ Go x
+pub told-resign : (waiting : Bool) (i : ℕ) (v : Node) (n : ℕ) (u : Node) (x : Plan) → plan_resign_node waiting i v n u ≡ Ok x
     → (is_wait v.status ≡ true) × (is_ready u.status ≡ true) × (lacks_side (sides_of v) ≡ true)
     × (x ≡ send_plan (emptied v v.status (single i)) (join_request i 0) n)
 unfolding plan_resign_node
@@ -120,7 +120,7 @@ told-resign waiting i v n u x e =
     let (wait, ready) = both (is_wait v.status) (is_ready u.status) (not-false _ a.0) in
     (wait, ready, not-false _ c.0, go_same d.1)
 
-pub told-recover : (some_up : Bool) (g : Ring) (ids : List ℕ) (i : ℕ) (v : Node) (x : Plan) → plan_recover some_up g ids i v ≡ Go x
+pub told-recover : (some_up : Bool) (g : Ring) (ids : List ℕ) (i : ℕ) (v : Node) (x : Plan) → plan_recover some_up g ids i v ≡ Ok x
     → (is_wait v.status ≡ true) × (x ≡ probing_plan i v (single (last_end g ids i (sides_of v))))
 unfolding plan_recover
 told-recover some_up g ids i v x e =
@@ -130,7 +130,7 @@ told-recover some_up g ids i v x e =
 
 -- ---- Deliver and Forward, and Take by kind
 
-pub told-deliver : (kind : ℕ) (g : Ring) (ids : List ℕ) (i : ℕ) (v : Node) (k : ℕ) (x : Plan) → plan_deliver kind g ids i v k ≡ Go x → x ≡ quiet_plan v
+pub told-deliver : (kind : ℕ) (g : Ring) (ids : List ℕ) (i : ℕ) (v : Node) (k : ℕ) (x : Plan) → plan_deliver kind g ids i v k ≡ Ok x → x ≡ quiet_plan v
 unfolding plan_deliver
 told-deliver kind g ids i v k x e =
     let a = passed (not (eqb kind 1)) _ _ e in
@@ -138,7 +138,7 @@ told-deliver kind g ids i v k x e =
     go_same (passed (not (covers_of g ids i (sides_of v) k)) _ _ b.1).1
 
 pub told-forward : (kind : ℕ) (g : Ring) (ids : List ℕ) (dead i : ℕ) (v : Node) (k hops : ℕ) (x : Plan)
-    → plan_forward kind g ids dead i v k hops ≡ Go x → x ≡ forward_plan (next_hop g ids dead i v k) v (lookup_after (hops + 1) k) k i
+    → plan_forward kind g ids dead i v k hops ≡ Ok x → x ≡ forward_plan (next_hop g ids dead i v k) v (lookup_after (hops + 1) k) k i
 unfolding plan_forward
 told-forward kind g ids dead i v k hops x e =
     let a = passed (not (eqb kind 1)) _ _ e in
@@ -153,7 +153,7 @@ pub data Requested (g : Ring) (ids : List ℕ) (dead i : ℕ) (v : Node) (j rout
       → Requested g ids dead i v j routing x
 
 pub told-join-request : (g : Ring) (ids : List ℕ) (dead i : ℕ) (v : Node) (j routing : ℕ) (x : Plan)
-    → plan_take_join_request g ids dead i v j routing ≡ Go x → (is_ready v.status ≡ true) × Requested g ids dead i v j routing x
+    → plan_take_join_request g ids dead i v j routing ≡ Ok x → (is_ready v.status ≡ true) × Requested g ids dead i v j routing x
 unfolding plan_take_join_request
 told-join-request g ids dead i v j routing x e =
     let a = passed (not (is_ready v.status)) _ _ e in
@@ -164,12 +164,12 @@ told-join-request g ids dead i v j routing x e =
     onwards = forward_plan (next_hop g ids dead i v (id_at ids j)) v (join_request j (union routing v.routing)) (id_at ids j) i
 
     go : has (content_of (sides_of v) i) j ≡ false
-        → ((covers_of g ids i (sides_of v) (id_at ids j) ≡ true) × (x ≡ send_plan v (join_reply routing i (sides_of v)) j)) ⊎ (Go onwards ≡ Go x)
+        → ((covers_of g ids i (sides_of v) (id_at ids j) ≡ true) × (x ≡ send_plan v (join_reply routing i (sides_of v)) j)) ⊎ (◌≡◌ {A = Planned} (Ok onwards) (Ok x))
         → Requested g ids dead i v j routing x
     go out (inl p) = answered out p.0 p.1
     go out (inr p) = passed_on (go_same p)
 
-pub told-join-reply : (g : Ring) (ids : List ℕ) (i : ℕ) (v : Node) (m : Message) (x : Plan) → plan_take_join_reply g ids i v m ≡ Go x
+pub told-join-reply : (g : Ring) (ids : List ℕ) (i : ℕ) (v : Node) (m : Message) (x : Plan) → plan_take_join_reply g ids i v m ≡ Ok x
     → (is_dead v.status ≡ false) × (is_empty (sides_of v) ≡ true)
     × (x ≡ join_reply_plan i v m.routing (content_of (carried_of m) m.owner)
     (leaf_with g ids i (sides_of v) (content_of (carried_of m) m.owner)))
@@ -180,7 +180,7 @@ told-join-reply g ids i v m x e =
     let c = passed (not (eqb v.probing 0)) _ _ b.1 in
     (a.0, not-false _ b.0, go_same c.1)
 
-pub told-probe : (g : Ring) (ids : List ℕ) (i : ℕ) (v : Node) (m : Message) (x : Plan) → plan_take_probe g ids i v m ≡ Go x
+pub told-probe : (g : Ring) (ids : List ℕ) (i : ℕ) (v : Node) (m : Message) (x : Plan) → plan_take_probe g ids i v m ≡ Ok x
     → (is_dead v.status ≡ false) × (waits_empty v ≡ false) × (m.word ≡ i → ⊥) × (x ≡ probe_plan_of g ids i v m)
 unfolding plan_take_probe
 told-probe g ids i v m x e =
@@ -189,7 +189,7 @@ told-probe g ids i v m x e =
     let c = passed (eqb m.word i) _ _ b.1 in
     (a.0, b.0, eqb-false m.word i c.0, go_same c.1)
 
-pub told-probe-reply : (g : Ring) (ids : List ℕ) (i : ℕ) (v : Node) (m : Message) (x : Plan) → plan_take_probe_reply g ids i v m ≡ Go x
+pub told-probe-reply : (g : Ring) (ids : List ℕ) (i : ℕ) (v : Node) (m : Message) (x : Plan) → plan_take_probe_reply g ids i v m ≡ Ok x
     → (is_dead v.status ≡ false) × (waits_empty v ≡ false) × (m.word ≡ i → ⊥) × (x ≡ reply_plan_of g ids i v m)
 unfolding plan_take_probe_reply
 told-probe-reply g ids i v m x e =
@@ -198,7 +198,7 @@ told-probe-reply g ids i v m x e =
     let c = passed (eqb m.word i || not (has v.probing m.word)) _ _ b.1 in
     (a.0, b.0, eqb-false m.word i (or-fails-left (eqb m.word i) (not (has v.probing m.word)) c.0), go_same c.1)
 
-pub told-lease-request : (g : Ring) (ids : List ℕ) (i : ℕ) (v : Node) (j : ℕ) (x : Plan) → plan_take_lease_request g ids i v j ≡ Go x
+pub told-lease-request : (g : Ring) (ids : List ℕ) (i : ℕ) (v : Node) (j : ℕ) (x : Plan) → plan_take_lease_request g ids i v j ≡ Ok x
     → (is_up v.status ≡ true) × (x ≡ grant_plan i v j (is_neighbour g ids i v j))
 unfolding plan_take_lease_request
 told-lease-request g ids i v j x e =
@@ -206,7 +206,7 @@ told-lease-request g ids i v j x e =
     (not-false _ a.0, go_same (passed (is_empty (sides_of v)) _ _ a.1).1)
 
 -- whether the leaf set is complete is not asked
-pub told-broadcast : (g : Ring) (ids : List ℕ) (i : ℕ) (v : Node) (m : Message) (x : Plan) → plan_take_broadcast g ids i v m ≡ Go x
+pub told-broadcast : (g : Ring) (ids : List ℕ) (i : ℕ) (v : Node) (m : Message) (x : Plan) → plan_take_broadcast g ids i v m ≡ Ok x
     → (is_up v.status ≡ true) × (m.owner ≡ i → ⊥) × (x ≡ broadcast_plan g ids i v m)
 unfolding plan_take_broadcast
 told-broadcast g ids i v m x e =

@@ -1,12 +1,11 @@
 -- Beside 01: join in turn, and there is one holder. From every start, and from every valid table that satisfies the clauses, through every list of
 -- actions of the real step: if no node leaves, no probe times out, and no Join is done while some node is wait, then after every action no two ready
 -- nodes cover one key. Only statements: the proofs are named in Proved. Assumes nothing.
-use Rattle.std.specs.Prelude.{◌≡◌, true, false, List, [], ◌∷◌, ◌↔◌, ℕ, ◌^◌, ◌<◌}
+use Rattle.std.specs.Prelude.{◌≡◌, true, false, List, [], ◌∷◌, ◌↔◌, ℕ, ◌^◌, ◌<◌, Ok}
 use Rattle.rules.specs.Names.{Slot, Marks, Ids, Key}
 use Rattle.rules.specs.declared.Pool.{Pool}
 use Rattle.rules.specs.declared.Action.{Action}
 use Rattle.rules.specs.declared.Action.TheVariants.{Join, NodeLeft, ProbeTimeOut}
-use Rattle.rules.specs.declared.Answer.TheVariants.{Done}
 use Rattle.rules.specs.Plans.{is_wait, is_up}
 use Rattle.rules.specs.Pool.{laid}
 use Rattle.table_type.specs.declared.Table.{Table}
@@ -31,8 +30,8 @@ pub data Barred : Action → Type 0 where
 
 -- if the action is done, it is neither NodeLeft nor ProbeTimeOut; and if it is a Join, no node was wait. One that is refused changes nothing
 abbrev pub InTurn : Table → Pool → Action → Type 0
-InTurn t p a = ((step_of t p 256 a).answer ≡ Done → Barred a → ⊥)
-    × ((i seed : Slot) → a ≡ Join i seed → (step_of t p 256 a).answer ≡ Done → NoneWaits t)
+InTurn t p a = ((step_of t p 256 a).answer ≡ Ok tt → Barred a → ⊥)
+    × ((i seed : Slot) → a ≡ Join i seed → (step_of t p 256 a).answer ≡ Ok tt → NoneWaits t)
 
 -- no NodeLeft and no ProbeTimeOut of the list is done, and no Join of it while some node is wait
 abbrev pub Patient : Table → Pool → List Action → Type 0
@@ -64,7 +63,7 @@ pub record Held (t : Table) (p : Pool) : Type 0 where
 
 -- from every start
 abbrev pub StartHeld : Type 0
-StartHeld = (m l : ℕ) (ids : Ids) (a : Marks) (acts : List Action) → (start_of m l ids a).answer ≡ Done
+StartHeld = (m l : ℕ) (ids : Ids) (a : Marks) (acts : List Action) → (start_of m l ids a).answer ≡ Ok tt
     → Patient (start_of m l ids a).table (laid []) acts → Throughout Held (start_of m l ids a).table (laid []) acts
 
 -- from every valid table that satisfies the clauses
@@ -77,7 +76,7 @@ ClausesStay = (t : Table) (p : Pool) (acts : List Action) → valid_of t p ≡ t
 
 -- every start satisfies them
 abbrev pub StartClauses : Type 0
-StartClauses = (m l : ℕ) (ids : Ids) (a : Marks) → (start_of m l ids a).answer ≡ Done → Clauses (start_of m l ids a).table (laid [])
+StartClauses = (m l : ℕ) (ids : Ids) (a : Marks) → (start_of m l ids a).answer ≡ Ok tt → Clauses (start_of m l ids a).table (laid [])
 
 -- A fitter asks before a node joins: safe_to_join passes exactly where nobody is wait and the clauses hold
 abbrev pub SafeExactly : Type 0
@@ -89,6 +88,6 @@ SafeHeld = (t : Table) (p : Pool) (acts : List Action) → valid_of t p ≡ true
 
 -- and from a start, in turn, it passes exactly while nobody is wait
 abbrev pub StartSafe : Type 0
-StartSafe = (m l : ℕ) (ids : Ids) (a : Marks) (acts : List Action) → (start_of m l ids a).answer ≡ Done
+StartSafe = (m l : ℕ) (ids : Ids) (a : Marks) (acts : List Action) → (start_of m l ids a).answer ≡ Ok tt
     → Patient (start_of m l ids a).table (laid []) acts
     → Throughout (λ t p. safe_to_join t p ≡ nobody_waits t) (start_of m l ids a).table (laid []) acts

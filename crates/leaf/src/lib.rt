@@ -3,31 +3,32 @@
 
 ghost use Rattle.std.specs.Prelude.{◌≡◌, true, ℕ, ◌^◌, ◌<◌, ◌≤◌};
 ghost use Rattle.marks.specs.Marks.{has};
-ghost use Rattle.rules.specs.InnerAsks.{Listed};
 ghost use Rattle.rules.specs.Closest.{closest};
 ghost use Rattle.rules.specs.InnerSteps.{steps_of, other_than, looked_at};
 ghost use Rattle.rules.specs.Leaf.{content_of, seen_from, leaf_with, leaf_with_one, overlaps, is_complete, is_full, is_empty, covers_of};
 
-use marks::Found;
-use rules::{Ring, Sides, Way};
+use rules::{Ring, Roster, Sides, Way};
 
 // Both sides and the owner.
+#[tactic(auto, unfolding(rules::specs::Leaf::content_of))]
 pub fn content(s: Sides, i: usize) -> u64
     ensures { result ≡ content_of s i }
 {
     marks::added(marks::joined(s.left, s.right), i)
 }
 
-// The best of some nodes as seen from slot i, or i if there are none.
-pub fn seen(w: Way, g: Ring, ids: &[u32; 64], i: usize, set: u64) -> usize
-    requires { Listed g ids.now × (i < 64) }
-    ensures { result ≡ seen_from w g ids.now i set }
+// The best of some nodes as seen from slot i, or i if there are none: a slot.
+#[tactic(auto, unfolding(rules::specs::Leaf::seen_from))]
+pub fn seen(w: Way, r: &Roster, i: usize, set: u64) -> usize
+    requires { i < 64 }
+    ensures is { result ≡ seen_from w r.now.ring r.now.ids i set }
+    ensures slot { result < 64 }
 {
-    let k = ids[i];
-    let found = pick::best(w, g.m, k, ids, set);
+    let k = r.ids[i];
+    let found = pick::best(w, r.ring.m, k, &r.ids, set);
     match found {
-        Found::At(s) => s,
-        Found::Nothing => i,
+        Some(s) => s,
+        None => i,
     }
 }
 
@@ -58,8 +59,7 @@ fn first_along(up: bool, set: u64, i: usize, n: usize, l: u32) -> u64
 {
     let mut out: u64 = 0;
     let mut got: u32 = 0;
-    let mut d: usize = 1;
-    while d < n {
+    for d in 1..n {
         if got == l {
             return out;
         }
@@ -68,34 +68,35 @@ fn first_along(up: bool, set: u64, i: usize, n: usize, l: u32) -> u64
             out = marks::added(out, s);
             got += 1;
         }
-        d += 1;
     }
     out
 }
 
 // The leaf set of i with d added: ids rise by slot, so the nearest in a direction are the first on the way.
-pub fn with_set(g: Ring, ids: &[u32; 64], i: usize, s: Sides, d: u64) -> Sides
-    requires { Listed g ids.now × (i < g.n) }
-    ensures { result ≡ leaf_with g ids.now i s d }
+pub fn with_set(r: &Roster, i: usize, s: Sides, d: u64) -> Sides
+    requires { i < r.now.ring.n }
+    ensures { result ≡ leaf_with r.now.ring r.now.ids i s d }
 {
-    let left = first_along(true, marks::joined(s.left, d), i, g.n, g.l);
-    let right = first_along(false, marks::joined(s.right, d), i, g.n, g.l);
+    let left = first_along(true, marks::joined(s.left, d), i, r.ring.n, r.ring.l);
+    let right = first_along(false, marks::joined(s.right, d), i, r.ring.n, r.ring.l);
     Sides { left, right }
 }
 
 // The leaf set of i with j added, unless j is in it.
-pub fn with_one(g: Ring, ids: &[u32; 64], i: usize, s: Sides, j: usize) -> Sides
-    requires { Listed g ids.now × (i < g.n) }
-    ensures { result ≡ leaf_with_one g ids.now i s j }
+#[tactic(auto, unfolding(rules::specs::Leaf::leaf_with_one))]
+pub fn with_one(r: &Roster, i: usize, s: Sides, j: usize) -> Sides
+    requires { i < r.now.ring.n }
+    ensures { result ≡ leaf_with_one r.now.ring r.now.ids i s j }
 {
     if marks::is_in(content(s, i), j) {
         s
     } else {
-        with_set(g, ids, i, s, marks::of_one(j))
+        with_set(r, i, s, marks::of_one(j))
     }
 }
 
 // Do the sides share a member?
+#[tactic(auto, unfolding(rules::specs::Leaf::overlaps))]
 pub fn overlap(s: Sides) -> bool
     ensures { result ≡ overlaps s }
 {
@@ -103,6 +104,7 @@ pub fn overlap(s: Sides) -> bool
 }
 
 // Do both sides hold exactly l?
+#[tactic(auto, unfolding(rules::specs::Leaf::is_full))]
 fn full(g: Ring, s: Sides) -> bool
     ensures { result ≡ is_full g s }
 {
@@ -110,6 +112,7 @@ fn full(g: Ring, s: Sides) -> bool
 }
 
 // Are both sides full, or do they share a member?
+#[tactic(auto, unfolding(rules::specs::Leaf::is_complete))]
 pub fn complete(g: Ring, s: Sides) -> bool
     ensures { result ≡ is_complete g s }
 {
@@ -117,6 +120,7 @@ pub fn complete(g: Ring, s: Sides) -> bool
 }
 
 // Do both sides hold none?
+#[tactic(auto, unfolding(rules::specs::Leaf::is_empty))]
 pub fn empty(s: Sides) -> bool
     ensures { result ≡ is_empty s }
 {
@@ -124,14 +128,12 @@ pub fn empty(s: Sides) -> bool
 }
 
 // Does node i cover k?
-pub fn covers(g: Ring, ids: &[u32; 64], i: usize, s: Sides, k: u32) -> bool
-    requires { Listed g ids.now × (i < 64) × (k < 2 ^ g.m) }
-    ensures { result ≡ covers_of g ids.now i s k }
+#[tactic(auto, unfolding(rules::specs::Leaf::covers_of))]
+pub fn covers(r: &Roster, i: usize, s: Sides, k: u32) -> bool
+    requires { (i < 64) × (k < 2 ^ r.now.ring.m) }
+    ensures { result ≡ covers_of r.now.ring r.now.ids i s k }
 {
-    let l = seen(Way::Up, g, ids, i, s.left);
-    let r = seen(Way::Down, g, ids, i, s.right);
-    let own = ids[i];
-    let above = ids[l];
-    let below = ids[r];
-    dist::covers(g.m, own, above, below, k)
+    let above = seen(Way::Up, r, i, s.left);
+    let below = seen(Way::Down, r, i, s.right);
+    dist::covers(r.ring.m, r.ids[i], r.ids[above], r.ids[below], k)
 }

@@ -1,10 +1,8 @@
 -- The listing: its bytes, from the bytes of a table file. Definitions only. Assumes nothing.
-use Rattle.std.specs.Prelude.{cond, List, [], ◌∷◌, ◌++◌, ℕ, eqb, length}
-use Rattle.marks.specs.declared.Found.{Found}
-use Rattle.marks.specs.declared.Found.TheVariants.{At, Nothing}
+use Rattle.rules.specs.Shapes.{Answer}
+use Rattle.marks.specs.Marks.{Found}
+use Rattle.std.specs.Prelude.{cond, List, [], ◌∷◌, ◌++◌, ℕ, eqb, length, Some, None, Ok, Err}
 use Rattle.rules.specs.declared.Message.{Message}
-use Rattle.rules.specs.declared.Answer.{Answer}
-use Rattle.rules.specs.declared.Answer.TheVariants.{Done, Refused}
 use Rattle.rules.specs.Numbers.{refusal_number}
 use Rattle.rules.specs.Pool.{laid, waiting}
 use Rattle.table_type.specs.declared.Table.{Table}
@@ -31,8 +29,8 @@ refused_word = 114 ∷ 101 ∷ 102 ∷ 117 ∷ 115 ∷ 101 ∷ 100 ∷ 32 ∷ []
 
 -- id that delivers it, or `-`
 abbrev pub end_text : Table → Found → List ℕ
-end_text t (At e) = decimal (node_at t e).id
-end_text t Nothing = 45 ∷ []
+end_text t (Some e) = decimal (node_at t e).id
+end_text t None = 45 ∷ []
 
 -- T-01: a last column `via`, one letter for each routing, or `-` when hops is 0
 abbrev pub via_text : List ℕ → List ℕ
@@ -57,8 +55,8 @@ lines_of t (m ∷ ms) = let rest = lines_of t ms in cond (eqb m.kind 1) (line_of
 
 -- a refused file prints one line only
 abbrev pub printed : Answer → Stepped → List ℕ
-printed Done s = headline ++ lines_of s.table (waiting s.pool)
-printed (Refused why) s = refused_word ++ (decimal (refusal_number why) ++ (newline ∷ []))
+printed (Ok tt) s = headline ++ lines_of s.table (waiting s.pool)
+printed (Err why) s = refused_word ++ (decimal (refusal_number why) ++ (newline ∷ []))
 
 abbrev pub print_of : Stepped → List ℕ
 print_of s = printed s.answer s

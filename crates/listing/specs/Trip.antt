@@ -1,13 +1,11 @@
 -- Following a lookup as the only message, on a table with no other step: it is delivered or forwarded, by the real steps, until it is delivered or ends.
 -- Definitions only. Assumes nothing.
-use Rattle.std.specs.Prelude.{cond, List, [], ◌∷◌, ◌++◌, ℕ, zero, suc, eqb}
-use Rattle.marks.specs.declared.Found.{Found}
-use Rattle.marks.specs.declared.Found.TheVariants.{At, Nothing}
+use Rattle.rules.specs.Shapes.{Answer}
+use Rattle.marks.specs.Marks.{Found}
+use Rattle.std.specs.Prelude.{cond, List, [], ◌∷◌, ◌++◌, ℕ, zero, suc, eqb, Some, None, Ok, Err}
 use Rattle.rules.specs.Names.{Slot}
 use Rattle.rules.specs.declared.Message.{Message}
 use Rattle.rules.specs.declared.Pool.{Pool}
-use Rattle.rules.specs.declared.Answer.{Answer}
-use Rattle.rules.specs.declared.Answer.TheVariants.{Done, Refused}
 use Rattle.rules.specs.declared.Action.TheVariants.{Deliver, Forward}
 use Rattle.rules.specs.Numbers.{via_number}
 use Rattle.rules.specs.Pool.{laid, message_at}
@@ -24,17 +22,17 @@ ended end letters = record { end = end; letters = letters }
 
 -- what Forward of the only message says: refused, by a node that is not ready; a Lookup waits, forwarded; else no legal route
 abbrev pub on_by : Answer → Pool → List ℕ → Trip → Trip
-on_by (Refused why) p letters rest = ended Nothing letters
-on_by Done p letters rest = cond (eqb (message_at p 0).kind 1) rest (ended Nothing letters)
+on_by (Err why) p letters rest = ended None letters
+on_by (Ok tt) p letters rest = cond (eqb (message_at p 0).kind 1) rest (ended None letters)
 
 -- what Deliver of it at slot i says: delivered there; else as Forward says
 abbrev pub trip_by : Answer → Slot → List ℕ → Trip → Trip
-trip_by Done i letters rest = ended (At i) letters
-trip_by (Refused why) i letters rest = rest
+trip_by (Ok tt) i letters rest = ended (Some i) letters
+trip_by (Err why) i letters rest = rest
 
 -- by at most so many slots; the letter of a routing is the one that its step says
 unfoldable pub trip_of : ℕ → Table → Pool → List ℕ → Trip
-trip_of zero t p letters = ended Nothing letters
+trip_of zero t p letters = ended None letters
 trip_of (suc slots) t p letters =
     let s = step_of t p 256 (Forward 0) in
     let rest = trip_of slots s.table s.pool (letters ++ (via_number s.via ∷ [])) in

@@ -1,6 +1,7 @@
 -- How far the statements reach, computed on small tables. n - 1 routings are reached, though other steps fall between, and R - 1 for two ready nodes. Each hypothesis of the
 -- second half is needed: without it a valid table is named in which the lookup does not arrive, or in which a step between stops it. Of
 -- settled, which part fails is told part by part (`parts_of`; together they are settled). Assumes nothing.
+use Rattle.std.specs.Prelude.{Some, None, Err}
 use mathlib.Core.Path.{◌≡◌, refl, ◌∙◌, ap}
 use mathlib.Core.Bool.{Bool, true, false, ◌&&◌, ◌||◌, not, and-true}
 use mathlib.Core.List.{List, [], ◌∷◌, ◌++◌}
@@ -12,7 +13,6 @@ use Rattle.ring.specs.Distance.{fall_of, signed_of, abs_dist_of, rises_to, neare
 use Rattle.marks.proofs.Bools.{opposed}
 use Rattle.marks.proofs.Laws.{all_same}
 use Rattle.marks.specs.Marks.{has, gather, tally, all_to, single, union, meet, without, add_of, remove_of, size_of, listed}
-use Rattle.marks.specs.declared.Found.TheVariants.{At, Nothing}
 use Rattle.rules.specs.declared.Status.{Status}
 use Rattle.rules.specs.declared.Status.TheVariants as status
 use Rattle.rules.specs.declared.Way.TheVariants.{Up, Down}
@@ -21,7 +21,6 @@ use Rattle.rules.specs.declared.Pool.{Pool}
 use Rattle.rules.specs.declared.Action.{Action}
 use Rattle.rules.specs.declared.Action.TheVariants.{LeaseExpired, Deliver, Forward, ProbeTimeOut}
 use Rattle.rules.specs.declared.Refusal.TheVariants as no
-use Rattle.rules.specs.declared.Answer.TheVariants.{Refused}
 use Rattle.plan.specs.Actions.{is_neighbour, plan_lease_expired}
 use Rattle.rules.specs.Closest.{closest}
 use Rattle.rules.specs.Fits.{numbers_fit, id_fits, side_fits, leaf_fits, others_fit, node_fits, is_blank, slot_fits}
@@ -93,12 +92,12 @@ unfolding chain opened
 chain-routings = refl
 
 -- after one of them it waits at 2, with one hop (T-07)
-pub chain-carries : (place_after chain (only 0 3) (Forward 0 ∷ []) 0 ≡ At 0) × (hops_at (pool_after chain (only 0 3) (Forward 0 ∷ [])) 0 ≡ 1)
+pub chain-carries : (place_after chain (only 0 3) (Forward 0 ∷ []) 0 ≡ Some 0) × (hops_at (pool_after chain (only 0 3) (Forward 0 ∷ [])) 0 ≡ 1)
 unfolding chain place_after pool_after opened
 chain-carries = (refl, refl)
 
 -- where a refused Deliver falls before it, it stays, and is then routed
-pub between-carries : (place_after chain (only 0 3) (Deliver 0 ∷ Forward 0 ∷ []) 0 ≡ At 0) × (hops_at (pool_after chain (only 0 3) (Deliver 0 ∷ Forward 0 ∷ [])) 0 ≡ 1)
+pub between-carries : (place_after chain (only 0 3) (Deliver 0 ∷ Forward 0 ∷ []) 0 ≡ Some 0) × (hops_at (pool_after chain (only 0 3) (Deliver 0 ∷ Forward 0 ∷ [])) 0 ≡ 1)
 unfolding chain place_after pool_after opened
 between-carries = (refl, refl)
 
@@ -355,7 +354,7 @@ unfolding pair opened
 met-counts = refl
 
 -- and it waits nowhere then
-pub met-nowhere : place_after pair both-look (Forward 0 ∷ []) 0 ≡ Nothing
+pub met-nowhere : place_after pair both-look (Forward 0 ∷ []) 0 ≡ None
 unfolding pair place_after opened
 met-nowhere = refl
 
@@ -390,7 +389,7 @@ after_all t p [] = done_of t p
 after_all t p (a ∷ []) = stepped t p a
 after_all t p (a ∷ b ∷ acts) = after_all (stepped t p a).table (stepped t p a).pool (b ∷ acts)
 
-pub between-refused : (after_all pair (only 2 0) (Forward 0 ∷ LeaseExpired 1 0 ∷ Deliver 0 ∷ [])).answer ≡ Refused no.Status
+pub between-refused : (after_all pair (only 2 0) (Forward 0 ∷ LeaseExpired 1 0 ∷ Deliver 0 ∷ [])).answer ≡ Err no.Status
 unfolding pair after_all opened
 between-refused = refl
 

@@ -1,6 +1,7 @@
 -- In a settled table a lookup at a ready node, alone for its key, is delivered at the ready node nearest its key. Each Forward is done, and the Deliver; where
 -- the node does not cover the key, the lookup goes to a ready node that is nearer, and nothing equal waits there. The measure: how many
 -- ready nodes are nearer than the holder; it falls with every routing and is below R. By induction on a bound of it. Assumes nothing.
+use Rattle.std.specs.Prelude.{None, Ok}
 use mathlib.Core.Path.{◌≡◌, refl, sym, ◌∙◌, ap, subst}
 use mathlib.Core.Logic.{◌⊎◌, inl, inr}
 use mathlib.Core.Bool.{Bool, true, false, ◌&&◌}
@@ -12,14 +13,12 @@ use lib.Seq.{take-append_seam}
 use Rattle.ring.specs.Distance.{nearer}
 use Rattle.ring.proofs.Order.{nearer-transitive, nearer-irreflexive}
 use Rattle.marks.proofs.Bools.{opposed, bool_false, and_left, and_right, and_both, and-fails-right, lt-or-le}
-use Rattle.marks.specs.declared.Found.TheVariants.{Nothing}
 use Rattle.marks.specs.Marks.{has, tally, size_of}
 use Rattle.marks.proofs.Laws.{tally-strict}
 use Rattle.rules.specs.declared.Hop.TheVariants.{To}
 use Rattle.rules.specs.declared.Message.{Message}
 use Rattle.rules.specs.declared.Pool.{Pool}
 use Rattle.rules.specs.declared.Action.TheVariants.{Deliver, Forward}
-use Rattle.rules.specs.declared.Answer.TheVariants.{Done}
 use Rattle.rules.specs.Letters.{lookup, lookup_after}
 use Rattle.rules.specs.Mail.{fields_of, alike, first_equal, removed_at}
 use Rattle.rules.specs.Nodes.{placed}
@@ -69,7 +68,7 @@ alone-without {t} {p} v q k h alone = record { none = λ r l. go r l (lt-or-le r
         let low : r + 1 < p.count = omega (arith, removed-length (waiting p) q q-in, count-is v) in
         at r (r + 1) low (omega arith) (removed-high (waiting p) q q-in r b ∙ waiting-at p (r + 1) low)
 
-without-found : (k h : ℕ) (ys : List Message) → Without k ys → first_equal ys (placed (lookup k) h) ≡ Nothing
+without-found : (k h : ℕ) (ys : List Message) → Without k ys → first_equal ys (placed (lookup k) h) ≡ None
 without-found k h ys w =
     first-equal-none ys (placed (lookup k) h) (λ r l.
     bool_false (alike (get_or ys r blank) (placed (lookup k) h)) (λ a.
@@ -152,7 +151,7 @@ module _ (t : Table) (s : is_settled t ≡ true) (k : ℕ) (hk : k < 2 ^ t.m) (y
         let place = length (others p q) in
         let next = stepped t p (Forward q) in
         let sent = placed (lookup_after (hops_at p q + 1) k) h in
-        let none : first_equal (others p q) (placed (lookup k) h) ≡ Nothing = rw o (without-found k h ys w) in
+        let none : first_equal (others p q) (placed (lookup k) h) ≡ None = rw o (without-found k h ys w) in
         let fate : fate_of t p q (Forward q) ≡ routed h place = fate-forwarded t p q k d e l r c ∙ rw (to, none) in
         let told = subst (Tracked t p q k d (Forward q)) fate (tracked t p q k d (Forward q) e l) in
         let same : next.table ≡ t = ap (λ (x : Stepped). x.table) told.took.leaves in
@@ -198,8 +197,8 @@ dest-same : {p : Pool} {q k d e : ℕ} → LookupAt p q k d → LookupAt p q k e
 dest-same l i = ap (λ (m : Message). m.dest) (sym l.is ∙ i.is)
 
 -- Deliver and Forward of one lookup are not both done
-never_both : (t : Table) {p : Pool} {q k d : ℕ} → LookupAt p q k d → (stepped t p (Deliver q)).answer ≡ Done
-    → (stepped t p (Forward q)).answer ≡ Done → ⊥
+never_both : (t : Table) {p : Pool} {q k d : ℕ} → LookupAt p q k d → (stepped t p (Deliver q)).answer ≡ Ok tt
+    → (stepped t p (Forward q)).answer ≡ Ok tt → ⊥
 never_both t {p} {q} {k} {d} l a b =
     let x = step-done t p 256 (Deliver q) a in
     let y = step-done t p 256 (Forward q) b in

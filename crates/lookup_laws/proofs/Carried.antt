@@ -1,11 +1,11 @@
 -- The hop number of a Lookup is the number of its routings since issue, where it met no equal (T-07). A lookup that stays is the same message, and one that is routed has one hop
 -- more (Tracks), so the number grows as `routings` counts. A Lookup is issued only where none equal waits, so it stands at the end, with 0. Assumes nothing.
+use Rattle.marks.specs.Marks.{Found}
+use Rattle.std.specs.Prelude.{Some, None}
 use mathlib.Core.Path.{◌≡◌, refl, ◌∙◌, ap, subst}
 use mathlib.Core.List.{[], ◌∷◌, ◌++◌}
 use Prim.Native.Nat.{ℕ, ◌+◌}
 use native.Mathlib.Omega.{arith}
-use Rattle.marks.specs.declared.Found.{Found}
-use Rattle.marks.specs.declared.Found.TheVariants.{At, Nothing}
 use Rattle.rules.specs.declared.Message.{Message}
 use Rattle.rules.specs.declared.Pool.{Pool}
 use Rattle.rules.specs.declared.Plan.{Plan}
@@ -39,10 +39,10 @@ hops-of e = ap (λ (m : Message). m.hops) e
 
 -- ---- along any actions
 
-found-same : {q r : ℕ} → At q ≡ At r → q ≡ r
+found-same : {q r : ℕ} → Some q ≡ Some r → q ≡ r
 found-same e = cc
 
-not_found : {r : ℕ} → Nothing ≡ At r → ⊥
+not_found : {r : ℕ} → None ≡ Some r → ⊥
 not_found e = let z : ◌≡◌ {A = ℕ} 0 1 = cc in omega arith
 
 pub counts-routings : CountsRoutings
@@ -59,8 +59,8 @@ counts-routings t p q k d (a ∷ acts) r e l f =
     s = (stepped t p a).pool
 
     go : (x : Fate) → Tracked t p q k d a x
-        → ((j h : ℕ) → LookupAt s j k h → place_after u s acts j ≡ At r → hops_at (pool_after u s acts) r ≡ hops_at s j + routings u s acts j)
-        → waiting_by x (place_after u s acts) ≡ At r → hops_at (pool_after u s acts) r ≡ hops_at p q + counted x (routings u s acts)
+        → ((j h : ℕ) → LookupAt s j k h → place_after u s acts j ≡ Some r → hops_at (pool_after u s acts) r ≡ hops_at s j + routings u s acts j)
+        → waiting_by x (place_after u s acts) ≡ Some r → hops_at (pool_after u s acts) r ≡ hops_at p q + counted x (routings u s acts)
     go (stays j) w rest f = omega (arith, rest j d w.now f, hops-of w.same)
     go (routed h j) w rest f = omega (arith, rest j h w.now f, w.hops)
     go (met h j) w rest f = absurd (not_found f)
@@ -75,8 +75,8 @@ module _ (t : Table) (p : Pool) (i k : ℕ) (x : Plan) (w : DoneWith t p 256 (Lo
 
   goes_last : (f : Found) → first_equal (waiting p) issued ≡ f → mailed x (waiting p) ≡ waiting p ++ (issued ∷ [])
   unfolding plan_lookup waits
-  goes_last (At r) f = absurd (never-go (rw f at w.plan))
-  goes_last Nothing f =
+  goes_last (Some r) f = absurd (never-go (rw f at w.plan))
+  goes_last None f =
       let same : x ≡ send_plan (node_at t i) (lookup k) i = go_same (rw f at w.plan) in
       rw same (mailed-send Unrouted (node_at t i) (lookup k) i (waiting p) ∙ added-nothing (waiting p) issued f)
 

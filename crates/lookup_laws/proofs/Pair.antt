@@ -1,6 +1,8 @@
 -- The pair is 01's taking of a Lookup, and a gateway that only delivers. The idea: with a sound table and a place in range all steps come to
 -- `settle` of what is planned, so the steps agree where the plans do, and the plans differ in their tests alone; at a ready node one of the
 -- two has a plan, which is done (Taking). Along a run a lookup leaves a node by Deliver or Forward only (Tracks). Assumes nothing.
+use Rattle.rules.specs.Shapes.{Planned}
+use Rattle.std.specs.Prelude.{Err}
 use mathlib.Core.Path.{◌≡◌, refl, sym, ◌∙◌, ap, subst}
 use mathlib.Core.Bool.{Bool, true, false}
 use mathlib.Core.List.{[], ◌∷◌}
@@ -11,8 +13,6 @@ use borrow.Author.Tests.{eq-eqb, ne_eqb, eqb-true, lt-ltb, ltb-true}
 use Rattle.marks.proofs.Bools.{and_left}
 use Rattle.rules.specs.declared.Action.TheVariants.{Take, Deliver, Forward}
 use Rattle.rules.specs.declared.Message.{Message}
-use Rattle.rules.specs.declared.Planned.{Planned}
-use Rattle.rules.specs.declared.Planned.TheVariants.{No}
 use Rattle.rules.specs.declared.Pool.{Pool}
 use Rattle.rules.specs.declared.Refusal.TheVariants as no
 use Rattle.rules.specs.Pool.{message_at}
@@ -63,11 +63,11 @@ module _ (t : Table) (p : Pool) (len place : ℕ) (j : Judged t p len place) whe
   alike : (f g : Message → Planned) → f m ≡ g m → settles f ≡ settles g
   alike f g e = ap (settle t p (remaining p (takes p place f).gone) m.dest) e
 
-  refuses : (f : Message → Planned) → f m ≡ No no.Partner → settles f ≡ refused_of t p no.Partner
+  refuses : (f : Message → Planned) → f m ≡ Err no.Partner → settles f ≡ refused_of t p no.Partner
   unfolding settle
   refuses f e = ap (settle t p (remaining p (takes p place f).gone) m.dest) e
 
-  refuses-two : (f : Message → Planned) → f m ≡ No no.Status → settles f ≡ refused_of t p no.Status
+  refuses-two : (f : Message → Planned) → f m ≡ Err no.Status → settles f ≡ refused_of t p no.Status
   unfolding settle
   refuses-two f e = ap (settle t p (remaining p (takes p place f).gone) m.dest) e
 

@@ -1,6 +1,8 @@
 -- A routed lookup goes nearer, so it is routed at most n - 1 times. The measure: how many listed nodes are nearer to the key than the
 -- holder. It falls with every routing, it is below n, and other steps leave it alone, since ids, n and M never change. By induction on the
 -- actions. Assumes nothing.
+use Rattle.rules.specs.Shapes.{Answer}
+use Rattle.std.specs.Prelude.{Ok, Err}
 use mathlib.Core.Path.{◌≡◌, refl}
 use mathlib.Core.Bool.{true, false}
 use mathlib.Core.List.{List, [], ◌∷◌}
@@ -13,8 +15,6 @@ use Rattle.marks.specs.Marks.{tally}
 use Rattle.marks.proofs.Laws.{tally-strict, tally-all}
 use Rattle.rules.specs.declared.Pool.{Pool}
 use Rattle.rules.specs.declared.Action.{Action}
-use Rattle.rules.specs.declared.Answer.{Answer}
-use Rattle.rules.specs.declared.Answer.TheVariants.{Done, Refused}
 use Rattle.rules.specs.declared.Hop.TheVariants.{To}
 use Rattle.rules.specs.Pick.{id_at}
 use Rattle.rules_laws.proofs.Hops.{hop-to, hop-listed}
@@ -93,8 +93,8 @@ pub step-valid : (t : Table) (p : Pool) (a : Action) → valid_of t p ≡ true �
 step-valid t p a e = go (stepped t p a).answer refl
   where
     go : (r : Answer) → (stepped t p a).answer ≡ r → valid_of (stepped t p a).table (stepped t p a).pool ≡ true
-    go Done d = keeps-valid t p 256 a d
-    go (Refused why) d = rw (step-refused t p 256 a why d).1 e
+    go (Ok tt) d = keeps-valid t p 256 a d
+    go (Err why) d = rw (step-refused t p 256 a why d).1 e
 
 pub routed-few : (acts : List Action) (t : Table) (p : Pool) (q k d : ℕ) → valid_of t p ≡ true → LookupAt p q k d
     → routings t p acts q ≤ nearer_listed t k d

@@ -1,5 +1,6 @@
 -- Where a message stands in a list, and where it stands after messages are removed, added and laid out as a pool. In a valid pool every
 -- message of kind 1 is a Lookup, and a message equal to a Lookup is that Lookup but for its hops. Assumes nothing.
+use Rattle.std.specs.Prelude.{Some, None}
 use mathlib.Core.Path.{◌≡◌, refl, sym, ◌∙◌, ap}
 use mathlib.Core.Logic.{◌⊎◌, inl, inr}
 use mathlib.Core.Bool.{Bool, true, false, cond, ◌&&◌}
@@ -13,7 +14,6 @@ use lib.Seq.{get_or-append_seam}
 use Rattle.marks.specs.Marks.{tally}
 use Rattle.marks.proofs.Bools.{lt-or-le}
 use Rattle.marks.proofs.Laws.{tally-same}
-use Rattle.marks.specs.declared.Found.TheVariants.{At, Nothing}
 use Rattle.rules.specs.declared.Ring.{Ring}
 use Rattle.rules.specs.declared.Sides.{Sides}
 use Rattle.rules.specs.declared.Message.{Message}
@@ -180,20 +180,20 @@ alike_is m x z a =
 alike-kind : (m x : Message) → alike m x ≡ true → m.kind ≡ x.kind
 alike-kind m x a = ap (λ (r : List ℕ). get_or r 1 0) (alike_same m x a)
 
-found_from : (m : Message) (xs : List Message) (p r : ℕ) → first_from m xs p ≡ At r
+found_from : (m : Message) (xs : List Message) (p r : ℕ) → first_from m xs p ≡ Some r
     → (p ≤ r) × (r - p < length xs) × (alike (get_or xs (r - p) blank) m ≡ true)
 unfolding first_from
 found_from m [] p r e = absurd (nowhere e)
   where
-    nowhere : Nothing ≡ At r → ⊥
+    nowhere : None ≡ Some r → ⊥
     nowhere e = let z : ◌≡◌ {A = ℕ} 0 1 = cc in omega arith
 found_from m (x ∷ xs) p r e = go (alike x m) refl e (found_from m xs (p + 1) r)
   where
     Ends : Type 0
     Ends = (p ≤ r) × (r - p < suc (length xs)) × (alike (get_or (x ∷ xs) (r - p) blank) m ≡ true)
 
-    go : (b : Bool) → alike x m ≡ b → cond b (At p) (first_from m xs (p + 1)) ≡ At r
-        → (first_from m xs (p + 1) ≡ At r → (p + 1 ≤ r) × (r - (p + 1) < length xs) × (alike (get_or xs (r - (p + 1)) blank) m ≡ true)) → Ends
+    go : (b : Bool) → alike x m ≡ b → cond b (Some p) (first_from m xs (p + 1)) ≡ Some r
+        → (first_from m xs (p + 1) ≡ Some r → (p + 1 ≤ r) × (r - (p + 1) < length xs) × (alike (get_or xs (r - (p + 1)) blank) m ≡ true)) → Ends
     go true d f rest =
         let same : p ≡ r = cc in
         let none : r - p ≡ 0 = omega arith in
@@ -204,7 +204,7 @@ found_from m (x ∷ xs) p r e = go (alike x m) refl e (found_from m xs (p + 1) r
         (omega (arith, i.0), omega (arith, i.1), rw next i.2)
 
 -- the first equal one stands where it was found
-pub first_alike : (xs : List Message) (x : Message) (r : ℕ) → first_equal xs x ≡ At r → (r < length xs) × (alike (get_or xs r blank) x ≡ true)
+pub first_alike : (xs : List Message) (x : Message) (r : ℕ) → first_equal xs x ≡ Some r → (r < length xs) × (alike (get_or xs r blank) x ≡ true)
 unfolding first_equal
 first_alike xs x r e =
     let i = found_from x xs 0 r e in
@@ -212,7 +212,7 @@ first_alike xs x r e =
     (omega (arith, i.1), rw same at i.2)
 
 -- a Lookup equal to one with these hops: a Lookup with its own
-pub first-lookup : (xs : List Message) (c k h r : ℕ) → first_equal xs (placed (lookup_after c k) h) ≡ At r
+pub first-lookup : (xs : List Message) (c k h r : ℕ) → first_equal xs (placed (lookup_after c k) h) ≡ Some r
     → Stands xs r (placed (lookup_after (get_or xs r blank).hops k) h)
 unfolding alike
 first-lookup xs c k h r e =
@@ -221,7 +221,7 @@ first-lookup xs c k h r e =
 
 -- a message of another kind
 pub first-other : (g : Ring) (ids : List ℕ) (xs : List Message) (x : Message) (r : ℕ) → All (Within g ids) xs → (x.kind ≡ 1 → ⊥) → x.hops ≡ 0
-    → first_equal xs x ≡ At r → Stands xs r x
+    → first_equal xs x ≡ Some r → Stands xs r x
 first-other g ids xs x r f one z e =
     let i = first_alike xs x r e in
     let m = get_or xs r blank in
@@ -232,7 +232,7 @@ first-other g ids xs x r f one z e =
 first-from-any : (c b k h : ℕ) (xs : List Message) (p : ℕ) → first_from (placed (lookup_after c k) h) xs p ≡ first_from (placed (lookup_after b k) h) xs p
 unfolding first_from alike
 first-from-any c b k h [] p = refl
-first-from-any c b k h (x ∷ xs) p = ap (cond (alike x (placed (lookup_after c k) h)) (At p)) (first-from-any c b k h xs (p + 1))
+first-from-any c b k h (x ∷ xs) p = ap (cond (alike x (placed (lookup_after c k) h)) (Some p)) (first-from-any c b k h xs (p + 1))
 
 pub first_any : (c b k h : ℕ) (xs : List Message) → first_equal xs (placed (lookup_after c k) h) ≡ first_equal xs (placed (lookup_after b k) h)
 unfolding first_equal

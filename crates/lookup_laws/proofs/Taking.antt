@@ -1,6 +1,8 @@
 -- At a ready node Deliver of a lookup is done where the node covers its key, and Forward where it does not, in every valid table: the node
 -- makes a plan, and the pool has room, since one message goes and at most one comes. So the fate is what the node does: delivered, or on to
 -- the next hop. Assumes nothing.
+use Rattle.rules.specs.Shapes.{Answer}
+use Rattle.std.specs.Prelude.{Ok, Err}
 use mathlib.Core.Path.{◌≡◌, refl, sym, ◌∙◌, ap}
 use mathlib.Core.Bool.{true, false}
 use mathlib.Core.List.{List}
@@ -14,12 +16,9 @@ use Rattle.marks.proofs.Laws.{size-zero}
 use Rattle.rules.specs.declared.Message.{Message}
 use Rattle.rules.specs.declared.Pool.{Pool}
 use Rattle.rules.specs.declared.Plan.{Plan}
-use Rattle.rules.specs.declared.Planned.TheVariants.{Go}
 use Rattle.rules.specs.declared.Action.{Action}
 use Rattle.rules.specs.declared.Action.TheVariants.{Deliver, Forward}
 use Rattle.rules.specs.declared.Refusal.{Refusal}
-use Rattle.rules.specs.declared.Answer.{Answer}
-use Rattle.rules.specs.declared.Answer.TheVariants.{Done, Refused}
 use Rattle.rules.specs.Letters.{lookup_after}
 use Rattle.rules.specs.Plans.{is_ready, mailed, quiet_plan}
 use Rattle.rules.specs.Pool.{waiting}
@@ -56,7 +55,7 @@ module _ (t : Table) (p : Pool) (q k d : ℕ) (e : valid_of t p ≡ true) (l : L
       omega (arith, adds_one_lem x (others p q) f, removed-length (waiting p) q q-in, count-is v, v.counted)
 
   -- an action on place q that has a plan, which adds at most one message
-  module _ (a : Action) (g : (asked t p a).gone ≡ one-goes q) (x : Plan) (made : planned_of (asked t p a) ≡ Go x) (small : x.all ≡ 0) where
+  module _ (a : Action) (g : (asked t p a).gone ≡ one-goes q) (x : Plan) (made : planned_of (asked t p a) ≡ Ok x) (small : x.all ≡ 0) where
     never-refused : (why : Refusal) → RefusedFor t p 256 a why → ⊥
     unfolding is_sound
     never-refused why (invalid f) = opposed e f
@@ -66,23 +65,23 @@ module _ (t : Table) (p : Pool) (q k d : ℕ) (e : valid_of t p ≡ true) (l : L
         let same : y ≡ x = go_same (sym made ∙ f) in
         omega (arith, room x small, rw (same, g) at big)
 
-    done : (stepped t p a).answer ≡ Done
+    done : (stepped t p a).answer ≡ Ok tt
     done = go (stepped t p a).answer refl
       where
-        go : (r : Answer) → (stepped t p a).answer ≡ r → (stepped t p a).answer ≡ Done
-        go Done f = f
-        go (Refused why) f = absurd (never-refused why (step-refused t p 256 a why f).0)
+        go : (r : Answer) → (stepped t p a).answer ≡ r → (stepped t p a).answer ≡ Ok tt
+        go (Ok tt) f = f
+        go (Err why) f = absurd (never-refused why (step-refused t p 256 a why f).0)
 
-  pub deliver-done : covers_at t d k ≡ true → (stepped t p (Deliver q)).answer ≡ Done
+  pub deliver-done : covers_at t d k ≡ true → (stepped t p (Deliver q)).answer ≡ Ok tt
   unfolding plan_deliver
   deliver-done c = done (Deliver q) refl (quiet_plan (node_at t d)) (deliver-is t p q k d (sound t p e) l ∙ rw (status-ready, c)) refl
 
-  pub forward-done : covers_at t d k ≡ false → (stepped t p (Forward q)).answer ≡ Done
+  pub forward-done : covers_at t d k ≡ false → (stepped t p (Forward q)).answer ≡ Ok tt
   unfolding plan_forward
   forward-done c =
       let b = hops_at p q in
       let x = forward_plan (hop_at t d k) (node_at t d) (lookup_after (b + 1) k) k d in
-      let made : forward_at t d k b ≡ Go x = rw (status-ready, c) in
+      let made : forward_at t d k b ≡ Ok x = rw (status-ready, c) in
       done (Forward q) refl x (forward-is t p q k d (sound t p e) l ∙ made) (pass-adds t k d b x (forwards t k d b x made).sends)
 
   pub fate-delivered : covers_at t d k ≡ true → fate_of t p q (Deliver q) ≡ delivered

@@ -1,6 +1,8 @@
 -- The fate of a lookup is what really happens to it (`tracked`): what Fates says of each fate holds after every step on a valid table. A
 -- refused step changes nothing; of a done step, what waited before stands in front; and the lookup itself goes by
 -- Deliver or Forward alone, by cases of what the node does. Assumes nothing.
+use Rattle.rules.specs.Shapes.{Planned, Answer}
+use Rattle.std.specs.Prelude.{Some, None, Ok, Err}
 use mathlib.Core.Path.{◌≡◌, refl, sym, ◌∙◌, ap, ap₂, subst}
 use mathlib.Core.Bool.{Bool, true, false, cond, not}
 use mathlib.Core.List.{List}
@@ -10,9 +12,7 @@ use lib.Dec.{eqb, ltb}
 use lib.ListN.{length}
 use lib.Seq.{set-get_or}
 use borrow.Author.Tests.{eqb-true, eqb-false, ltb-true, ltb-false}
-use Rattle.marks.specs.declared.Found.{Found}
-use Rattle.marks.specs.declared.Found.TheVariants.{At, Nothing}
-use Rattle.marks.specs.Marks.{has}
+use Rattle.marks.specs.Marks.{has, Found}
 use Rattle.marks.proofs.Laws.{has-gather}
 use Rattle.rules.specs.declared.Hop.{Hop}
 use Rattle.rules.specs.declared.Hop.TheVariants.{To, NoRoute}
@@ -20,14 +20,10 @@ use Rattle.rules.specs.declared.Node.{Node}
 use Rattle.rules.specs.declared.Message.{Message}
 use Rattle.rules.specs.declared.Pool.{Pool}
 use Rattle.rules.specs.declared.Plan.{Plan}
-use Rattle.rules.specs.declared.Planned.{Planned}
-use Rattle.rules.specs.declared.Planned.TheVariants.{No, Go}
 use Rattle.rules.specs.declared.Action.{Action}
 use Rattle.rules.specs.declared.Action.TheVariants.{Lookup, Join, RequestLease, LeaseExpired, GrantExpired, Take, Deliver, Forward}
 use Rattle.rules.specs.declared.Action.TheVariants.{NodeLeft, SuspectFaulty, ProbeTimeOut, DeclareDead, LSRepair, ResignNode, Recover}
 use Rattle.rules.specs.declared.Refusal.TheVariants as no
-use Rattle.rules.specs.declared.Answer.{Answer}
-use Rattle.rules.specs.declared.Answer.TheVariants.{Done, Refused}
 use Rattle.rules.specs.declared.Via.{Via}
 use Rattle.rules.specs.declared.Via.TheVariants.{Unrouted}
 use Rattle.rules.specs.Fits.{message_fits}
@@ -85,26 +81,26 @@ pub record Passes (t : Table) (k d c : ℕ) (x : Plan) : Type 0 where
   pub sends : Sends t k d c x
 
 -- a plan is made where the node is ready and covers the key, or does not
-pub delivers : (t : Table) (k d : ℕ) (x : Plan) → deliver_at t d k ≡ Go x → Holds t k d x
+pub delivers : (t : Table) (k d : ℕ) (x : Plan) → deliver_at t d k ≡ Ok x → Holds t k d x
 unfolding plan_deliver
 delivers t k d x = go (is_ready (node_at t d).status) (covers_at t d k) refl refl
   where
     go : (r c : Bool) → is_ready (node_at t d).status ≡ r → covers_at t d k ≡ c
-        → cond (not r) (No no.Status) (cond (not c) (No no.Partner) (Go (quiet_plan (node_at t d)))) ≡ Go x → Holds t k d x
+        → cond (not r) (Err no.Status) (cond (not c) (Err no.Partner) (Ok (quiet_plan (node_at t d)))) ≡ Ok x → Holds t k d x
     go true true r c e = record { ready = r; covers = c; plan = go_same e }
     go true false r c e = absurd (never-go e)
     go false c r f e = absurd (never-go e)
 
-pub forwards : (t : Table) (k d c : ℕ) (x : Plan) → forward_at t d k c ≡ Go x → Passes t k d c x
+pub forwards : (t : Table) (k d c : ℕ) (x : Plan) → forward_at t d k c ≡ Ok x → Passes t k d c x
 unfolding plan_forward
 forwards t k d c x = go (is_ready (node_at t d).status) (covers_at t d k) refl refl
   where
-    onwards : (o : Hop) → hop_at t d k ≡ o → Go (forward_plan o (node_at t d) (lookup_after (c + 1) k) k d) ≡ Go x → Sends t k d c x
+    onwards : (o : Hop) → hop_at t d k ≡ o → ◌≡◌ {A = Planned} (Ok (forward_plan o (node_at t d) (lookup_after (c + 1) k) k d)) (Ok x) → Sends t k d c x
     onwards (To h) o f = to h o (go_same f)
     onwards NoRoute o f = nowhere o (go_same f)
 
     go : (r b : Bool) → is_ready (node_at t d).status ≡ r → covers_at t d k ≡ b
-        → cond (not r) (No no.Status) (cond b (No no.Partner) (Go (forward_plan (hop_at t d k) (node_at t d) (lookup_after (c + 1) k) k d))) ≡ Go x
+        → cond (not r) (Err no.Status) (cond b (Err no.Partner) (Ok (forward_plan (hop_at t d k) (node_at t d) (lookup_after (c + 1) k) k d))) ≡ Ok x
         → Passes t k d c x
     go true false r f e = record { ready = r; uncovered = f; sends = onwards (hop_at t d k) refl e }
     go true true r f e = absurd (never-go e)
@@ -137,7 +133,7 @@ module _ (t : Table) (p : Pool) (q k d : ℕ) (v : Sound t p) (l : LookupAt p q 
   forward-is = ap (forwarded_of t) l.is
 
   -- Take has no plan for it
-  pub take-is : planned_of (asked t p (Take q)) ≡ No no.Partner
+  pub take-is : planned_of (asked t p (Take q)) ≡ Err no.Partner
   unfolding plan_take
   take-is = ap (taken_of t) l.is
 
@@ -181,7 +177,7 @@ module _ (t : Table) (p : Pool) (q k d : ℕ) (v : Sound t p) (l : LookupAt p q 
 
       lands : (f : Found) → first_equal (others p q) (placed (lookup k) h) ≡ f
           → Tracked t p q k d (Forward q) (landing f h (length (others p q)))
-      lands (At r) f =
+      lands (Some r) f =
           let f' = first_any (c + 1) 0 k h (others p q) ∙ f in
           let b = sent (via_at t d h) (lookup_after (c + 1) k) h (others p q) s (added-at (others p q) (placed (lookup_after (c + 1) k) h) r f') in
           record {
@@ -190,7 +186,7 @@ module _ (t : Table) (p : Pool) (q k d : ℕ) (v : Sound t p) (l : LookupAt p q 
             hop = o;
             equal = (there (others p q) r _ b (first-lookup (others p q) 0 k h r f)).0;
           }
-      lands Nothing f =
+      lands None f =
           let f' = first_any (c + 1) 0 k h (others p q) ∙ f in
           let b = sent (via_at t d h) (lookup_after (c + 1) k) h _ s (added-nothing (others p q) (placed (lookup_after (c + 1) k) h) f') in
           let last = there _ (length (others p q)) (c + 1) b (stands-last (others p q) (placed (lookup_after (c + 1) k) h)) in
@@ -199,10 +195,10 @@ module _ (t : Table) (p : Pool) (q k d : ℕ) (v : Sound t p) (l : LookupAt p q 
     -- NoLegalRoute is added, or one waits already
     tells : (f : Found) → first_equal (others p q) (placed (no_legal_route k) d) ≡ f
         → (r : ℕ) × Stands (added (others p q) (placed (no_legal_route k) d)) r (placed (no_legal_route k) d)
-    tells (At r) f =
+    tells (Some r) f =
         rw (added-at (others p q) (placed (no_legal_route k) d) r f)
         (r, first-other (ring_of t) (ids_of t) (others p q) (placed (no_legal_route k) d) r others-within (λ e. omega arith) refl f)
-    tells Nothing f =
+    tells None f =
         rw (added-nothing (others p q) (placed (no_legal_route k) d) f)
         (length (others p q), stands-last (others p q) (placed (no_legal_route k) d))
 
@@ -294,8 +290,8 @@ module _ (t : Table) (p : Pool) (q k d : ℕ) (v : Sound t p) (l : LookupAt p q 
           go false b = other_goes a place x (eqb-false place q b) w e g (ltb place q) refl
 
   by_answer : (a : Action) (r : Answer) → (stepped t p a).answer ≡ r → Tracked t p q k d a (fate_by r t p q a)
-  by_answer a Done e = let done = step-done t p 256 a e in done-tracked a done.0 done.1 done.2
-  by_answer a (Refused why) e =
+  by_answer a (Ok tt) e = let done = step-done t p 256 a e in done-tracked a done.0 done.1 done.2
+  by_answer a (Err why) e =
       let same = (step-refused t p 256 a why e).1 in
       record { now = rw same l; same = rw same refl }
 

@@ -1,9 +1,8 @@
 -- The journey of one lookup through any steps. A tracked lookup is known by its place in the pool; each step of the real step function
 -- moves it, routes it, ends it or leaves it. Definitions only: Tracks proves that they say where the message really is. Assumes nothing.
-use Rattle.std.specs.Prelude.{◌≡◌, cond, List, [], ◌∷◌, ℕ, suc, pred, ◌-◌, ◌<◌, eqb, ltb, length}
-use Rattle.marks.specs.Marks.{tally}
-use Rattle.marks.specs.declared.Found.{Found}
-use Rattle.marks.specs.declared.Found.TheVariants.{At, Nothing}
+use Rattle.rules.specs.Shapes.{Answer}
+use Rattle.std.specs.Prelude.{◌≡◌, cond, List, [], ◌∷◌, ℕ, suc, pred, ◌-◌, ◌<◌, eqb, ltb, length, Some, None, Ok, Err}
+use Rattle.marks.specs.Marks.{tally, Found}
 use Rattle.rules.specs.Names.{Slot, Key, Hops, Place}
 use Rattle.rules.specs.declared.Hop.{Hop}
 use Rattle.rules.specs.declared.Hop.TheVariants.{To, NoRoute}
@@ -11,8 +10,6 @@ use Rattle.rules.specs.declared.Message.{Message}
 use Rattle.rules.specs.declared.Pool.{Pool}
 use Rattle.rules.specs.declared.Action.{Action}
 use Rattle.rules.specs.declared.Action.TheVariants.{Deliver, Forward}
-use Rattle.rules.specs.declared.Answer.{Answer}
-use Rattle.rules.specs.declared.Answer.TheVariants.{Done, Refused}
 use Rattle.rules.specs.Mail.{is_probe_from, first_equal, removed_at}
 use Rattle.rules.specs.Letters.{lookup, lookup_after}
 use Rattle.rules.specs.Nodes.{sides_of, placed}
@@ -52,8 +49,8 @@ pub data Fate : Type 0 where
   unroutable : Fate
 
 abbrev pub landing : Found → Slot → Place → Fate
-landing (At r) h last = met h r
-landing Nothing h last = routed h last
+landing (Some r) h last = met h r
+landing None h last = routed h last
 
 -- where a lookup that goes to the next hop lands, xs being the other messages
 abbrev pub onward : Hop → List Message → Key → Fate
@@ -78,8 +75,8 @@ fate_done t p q (probes-go i j) = stays (q - probes_before p i j q)
 
 -- a refused step changes nothing
 abbrev pub fate_by : Answer → Table → Pool → Place → Action → Fate
-fate_by Done t p q a = fate_done t p q (asked t p a).gone
-fate_by (Refused why) t p q a = stays q
+fate_by (Ok tt) t p q a = fate_done t p q (asked t p a).gone
+fate_by (Err why) t p q a = stays q
 
 unfoldable pub fate_of : Table → Pool → Place → Action → Fate
 fate_of t p q a = fate_by (stepped t p a).answer t p q a
@@ -104,8 +101,8 @@ pub data RoutesTo : Fate → Slot → Type 0 where
 -- with no other step between, the lookup of k at place q is forwarded m times to another node and then delivered at slot e; each step is
 -- done, on the table and the pool that the one before it left, and the last leaves the table u and the pool r
 pub data Delivers (k : Key) : Table → Pool → Place → ℕ → Slot → Table → Pool → Type 0 where
-  here : {t : Table} {p : Pool} {q : Place} {e : Slot} → LookupAt p q k e → (stepped t p (Deliver q)).answer ≡ Done
+  here : {t : Table} {p : Pool} {q : Place} {e : Slot} → LookupAt p q k e → (stepped t p (Deliver q)).answer ≡ Ok tt
       → fate_of t p q (Deliver q) ≡ delivered → Delivers k t p q 0 e (stepped t p (Deliver q)).table (stepped t p (Deliver q)).pool
-  on : {t u : Table} {p r : Pool} {q : Place} {d h : Slot} {q' : Place} {m : ℕ} {e : Slot} → LookupAt p q k d → (stepped t p (Forward q)).answer ≡ Done
+  on : {t u : Table} {p r : Pool} {q : Place} {d h : Slot} {q' : Place} {m : ℕ} {e : Slot} → LookupAt p q k d → (stepped t p (Forward q)).answer ≡ Ok tt
       → fate_of t p q (Forward q) ≡ routed h q' → Delivers k (stepped t p (Forward q)).table (stepped t p (Forward q)).pool q' m e u r
       → Delivers k t p q (suc m) e u r

@@ -1,15 +1,13 @@
 -- T-05: Deliver and Forward, read together, are 01's taking of a Lookup; and a node at which nothing is forwarded loses a lookup by delivery
 -- alone. 01's Take of a Lookup is kept here as what the pair is compared with. Only definitions and statements: the proofs are named in
 -- Proved. Assumes nothing.
-use Rattle.std.specs.Prelude.{◌≡◌, Bool, true, false, cond, not, List, [], ◌∷◌, ◌⊎◌, ℕ, ◌+◌, ◌<◌, eqb}
+use Rattle.rules.specs.Shapes.{Planned}
+use Rattle.std.specs.Prelude.{◌≡◌, Bool, true, false, cond, not, List, [], ◌∷◌, ◌⊎◌, ℕ, ◌+◌, ◌<◌, eqb, Ok, Err}
 use Rattle.rules.specs.Names.{Slot, Marks, Ids, Key, Hops, Place}
 use Rattle.rules.specs.declared.Action.{Action}
 use Rattle.rules.specs.declared.Action.TheVariants.{Take, Deliver, Forward}
-use Rattle.rules.specs.declared.Answer.TheVariants.{Done}
 use Rattle.rules.specs.declared.Message.{Message}
 use Rattle.rules.specs.declared.Node.{Node}
-use Rattle.rules.specs.declared.Planned.{Planned}
-use Rattle.rules.specs.declared.Planned.TheVariants.{No, Go}
 use Rattle.rules.specs.declared.Pool.{Pool}
 use Rattle.rules.specs.declared.Refusal.TheVariants as no
 use Rattle.rules.specs.declared.Ring.{Ring}
@@ -33,9 +31,9 @@ use Rattle.lookup_laws.specs.Journey.{stepped, LookupAt, Fate, stays, routed, me
 
 -- 2 unless ready. If i covers k, delivered: nothing is added. Else Lookup goes to the next hop, with one hop more (T-07), or NoLegalRoute(k) to i
 unfoldable pub plan_take_lookup : Ring → Ids → Marks → Slot → Node → Key → Hops → Planned
-plan_take_lookup g ids dead i v k hops = cond (not (is_ready v.status)) (No no.Status)
-    (cond (covers_of g ids i (sides_of v) k) (Go (quiet_plan v))
-    (Go (forward_plan (next_hop g ids dead i v k) v (lookup_after (hops + 1) k) k i)))
+plan_take_lookup g ids dead i v k hops = cond (not (is_ready v.status)) (Err no.Status)
+    (cond (covers_of g ids i (sides_of v) k) (Ok (quiet_plan v))
+    (Ok (forward_plan (next_hop g ids dead i v k) v (lookup_after (hops + 1) k) k i)))
 
 -- the other kinds as they are
 abbrev pub taken_before : Table → Message → Planned
@@ -54,7 +52,7 @@ take_of t p len place = cond (is_sound t p len)
 
 -- the one is done and leaves what Take left, the other is refused with 5
 pub record OneDone (t : Table) (p : Pool) (len : ℕ) (place : Place) (this other : Action) : Type 0 where
-  pub done : (step_of t p len this).answer ≡ Done
+  pub done : (step_of t p len this).answer ≡ Ok tt
   pub same : step_of t p len this ≡ take_of t p len place
   pub refused : step_of t p len other ≡ refused_of t p no.Partner
 

@@ -1,4 +1,5 @@
 -- Sets of nodes computed by the checker: 1, 2, 4 and 8 are the marks of slots 0 to 3, and 9223372036854775808 is the mark of slot 63. Assumes nothing.
+use Rattle.std.specs.Prelude.{Some, None}
 use mathlib.Core.Path.{◌≡◌, refl}
 use mathlib.Core.Bool.{true, false}
 use mathlib.Core.List.{[], ◌∷◌}
@@ -6,7 +7,6 @@ use Prim.Native.Nat.{ℕ}
 use lib.Dec.{ltb}
 use Rattle.marks.specs.Marks.{has, gather, tally, first_to, all_to, single, union, meet, without, add_of, remove_of, size_of}
 use Rattle.marks.specs.Marks.{lowest_of, listed}
-use Rattle.marks.specs.declared.Found.TheVariants.{At, Nothing}
 
 abbrev top : ℕ
 top = 9223372036854775808
@@ -21,11 +21,11 @@ pub record Sets : Type 0 where
   pub more : (add_of 5 1 ≡ 7) × (add_of 5 0 ≡ 5) × (add_of 0 63 ≡ top)
   pub fewer : (remove_of 5 2 ≡ 1) × (remove_of 5 1 ≡ 5) × (remove_of top 63 ≡ 0)
   pub size : (size_of 0 ≡ 0) × (size_of 11 ≡ 3) × (size_of top ≡ 1)
-  pub lowest : (lowest_of 12 ≡ At 2) × (lowest_of top ≡ At 63) × (lowest_of 0 ≡ Nothing)
+  pub lowest : (lowest_of 12 ≡ Some 2) × (lowest_of top ≡ Some 63) × (lowest_of 0 ≡ None)
   -- no mark is at n or above
   pub below : (listed 2 3 ≡ true) × (listed 2 4 ≡ false) × (listed 64 top ≡ true) × (listed 63 top ≡ false) × (listed 0 0 ≡ true)
   -- the slots below n that pass a test, their number, the first of them, whether all pass
-  pub passing : (gather 4 (λ s. ltb s 2) ≡ 3) × (tally 4 (λ s. ltb s 2) ≡ 2) × (first_to 4 (λ s. ltb 1 s) ≡ At 2) × (first_to 4 (λ s. ltb 3 s) ≡ Nothing)
+  pub passing : (gather 4 (λ s. ltb s 2) ≡ 3) × (tally 4 (λ s. ltb s 2) ≡ 2) × (first_to 4 (λ s. ltb 1 s) ≡ Some 2) × (first_to 4 (λ s. ltb 3 s) ≡ None)
   pub all : (all_to 3 (λ s. ltb s 3) ≡ true) × (all_to 4 (λ s. ltb s 3) ≡ false) × (all_to 4 (λ s. ltb 0 s) ≡ false)
 
 pub sets : Sets

@@ -1,6 +1,7 @@
 -- The laws of sets of nodes: the members of each set, how many there are, and the sets of slots below n. A set's law follows from
 -- `has-gather`, and two sets are equal by `ext`. What Bits and Slots say of digits and tests is passed on, so that a user names this
 -- file alone. Assumes nothing.
+use Rattle.std.specs.Prelude.{Some, None}
 use mathlib.Core.Path.{◌≡◌, refl, sym, ◌∙◌, ap}
 use mathlib.Core.Logic.{◌⊎◌, inl, inr, ⊎_elim}
 use mathlib.Core.Bool.{Bool, true, false, ◌&&◌, ◌||◌, not, or-false}
@@ -11,10 +12,8 @@ use native.Mathlib.Omega.{arith}
 use borrow.Author.Tests.{eq-eqb, ne_eqb, eqb-true, lt-leb, leb-false, lt-ltb, ltb-true, not-true}
 use lib.Dec.{eqb, leb, ltb}
 use lib.Pow.{pow_mono}
-use Rattle.marks.specs.declared.Found.{Found}
-use Rattle.marks.specs.declared.Found.TheVariants.{At, Nothing}
 use Rattle.marks.proofs.Bools.{opposed, bool_false, bool_same, and_left, and_right, or_cases, or_right, false-not, lt-or-le, eq-or-ne}
-use Rattle.marks.specs.Marks.{has, gather, tally, first_to, single, union, meet, without, add_of, remove_of}
+use Rattle.marks.specs.Marks.{has, gather, tally, first_to, single, union, meet, without, add_of, remove_of, Found}
 use Rattle.marks.specs.Marks.{size_of, lowest_of, listed}
 pub use Rattle.marks.proofs.Bits.{ext, has-zero, has-high, has-gather}
 pub use Rattle.marks.proofs.Bits.{gather-below, gather-high, gather-same, gather-all, gather_none, gather-more}
@@ -93,16 +92,16 @@ pub member : (a : ℕ) → a < 2 ^ 64 → 0 < a → (s : ℕ) × (s < 64) × (ha
 member a h l = go (first_to 64 (has a)) refl
   where
     go : (r : Found) → first_to 64 (has a) ≡ r → (s : ℕ) × (s < 64) × (has a s ≡ true)
-    go (At s) e = let i = first_found 64 (has a) s e in (s, i.below, i.holds)
-    go Nothing e = let z : a ≡ 0 = empty a h (first-none 64 (has a) e) in absurd (omega arith)
+    go (Some s) e = let i = first_found 64 (has a) s e in (s, i.below, i.holds)
+    go None e = let z : a ≡ 0 = empty a h (first-none 64 (has a) e) in absurd (omega arith)
 
 -- ---- the least member
 
-pub lowest-found : (a s : ℕ) → lowest_of a ≡ At s → First 64 (has a) s
+pub lowest-found : (a s : ℕ) → lowest_of a ≡ Some s → First 64 (has a) s
 unfolding lowest_of
 lowest-found a s e = first_found 64 (has a) s e
 
-pub lowest-none : (a : ℕ) → a < 2 ^ 64 → lowest_of a ≡ Nothing → a ≡ 0
+pub lowest-none : (a : ℕ) → a < 2 ^ 64 → lowest_of a ≡ None → a ≡ 0
 unfolding lowest_of
 lowest-none a h e = empty a h (first-none 64 (has a) e)
 

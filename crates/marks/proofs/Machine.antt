@@ -1,5 +1,6 @@
 -- The machine's operations on 64 marks are the operations on sets: `|`, `&`, `& !`, `<<`, `>>`, the count of ones and the zeros below
 -- the lowest one. Each is read mark by mark, and two sets with the same marks are equal. Assumes nothing.
+use Rattle.std.specs.Prelude.{Some, None}
 use mathlib.Core.Path.{◌≡◌, refl, sym, ◌∙◌, ap}
 use mathlib.Core.Logic.{◌⊎◌, inl, inr}
 use mathlib.Core.Bool.{Bool, true, false, cond, ◌&&◌, ◌||◌, not}
@@ -11,7 +12,6 @@ use lib.Bits.{bit_and, bit_or, bit_xor, and_shr, or_shr, xor_shr, and_mod, or_mo
 use lib.Count.{ones, ones_cat, count_trailing_zeros, under}
 use lib.Dec.{eqb}
 use lib.Pow.{ones_lt, ones_sub-lt, pow_pos, ones_split, high}
-use Rattle.marks.specs.declared.Found.TheVariants.{At, Nothing}
 use Rattle.marks.proofs.Bools.{bool_same}
 use Rattle.marks.specs.Marks.{has, gather, tally, single, union, meet, without, add_of, remove_of, size_of}
 use Rattle.marks.specs.Marks.{lowest_of, listed}
@@ -139,13 +139,13 @@ trailing-first (suc k) a p h = go (a % 2) refl (λ q. trailing-first k (a / 2) q
     go (suc d) e rest =
         record { below = omega arith; holds = rw (bit-zero a) (eq-eqb (a % 2) 1 (omega arith)); least = λ t l. absurd (omega arith) }
 
-pub trailing-lowest : (a : ℕ) → 0 < a → a < 2 ^ 64 → At (count_trailing_zeros 64 a) ≡ lowest_of a
+pub trailing-lowest : (a : ℕ) → 0 < a → a < 2 ^ 64 → Some (count_trailing_zeros 64 a) ≡ lowest_of a
 unfolding lowest_of
 trailing-lowest a p h =
     let i = trailing-first 64 a p h in
     sym (first-at 64 (has a) (count_trailing_zeros 64 a) i.below i.holds i.least)
 
-pub zero-lowest : Nothing ≡ lowest_of 0
+pub zero-lowest : None ≡ lowest_of 0
 unfolding lowest_of
 zero-lowest = sym (first-nothing 64 (has 0) (λ s h. has-zero s))
 

@@ -1,5 +1,6 @@
 -- Tests of the slots below n: how many pass (tally), the least that does (first_to), and that all do (all_to). Each law is by induction
 -- on n, or from one that is: the last slot is taken off. Assumes nothing.
+use Rattle.std.specs.Prelude.{Some, None}
 use mathlib.Core.Path.{◌≡◌, refl, sym, ◌∙◌, ap, ap₂}
 use mathlib.Core.Logic.{◌⊎◌, inl, inr, ⊎_elim}
 use mathlib.Core.Bool.{Bool, true, false, cond, ◌&&◌, ◌||◌, not, or-false, and-true}
@@ -9,11 +10,9 @@ use native.Mathlib.Numerals.{add-one}
 use native.Mathlib.Omega.{arith}
 use borrow.Author.Tests.{eq-eqb, ne_eqb, eqb-true}
 use lib.Dec.{eqb}
-use Rattle.marks.specs.declared.Found.{Found}
-use Rattle.marks.specs.declared.Found.TheVariants.{At, Nothing}
 use Rattle.marks.proofs.Bools.{clash, opposed, bool_cases, bool_false, and_left, and_right, and_both, and_cases, and-fails-right}
 use Rattle.marks.proofs.Bools.{or_cases, lt-or-le, eq-or-ne}
-use Rattle.marks.specs.Marks.{tally, or_else, first_to, all_to}
+use Rattle.marks.specs.Marks.{tally, or_else, first_to, all_to, Found}
 
 -- s < n + 1 is s = n or s < n
 last_or : {s n : ℕ} → s < suc n → (s ≡ n) ⊎ (s < n)
@@ -130,40 +129,40 @@ pub record First (n : ℕ) (f : ℕ → Bool) (s : ℕ) : Type 0 where
   pub holds : f s ≡ true
   pub least : (t : ℕ) → t < s → f t ≡ false
 
-no_place : {s : ℕ} → Nothing ≡ At s → ⊥
+no_place : {s : ℕ} → None ≡ Some s → ⊥
 no_place e = let z : ◌≡◌ {A = ℕ} 0 1 = cc in omega arith
 
-pub first-none : (n : ℕ) (f : ℕ → Bool) → first_to n f ≡ Nothing → (s : ℕ) → s < n → f s ≡ false
+pub first-none : (n : ℕ) (f : ℕ → Bool) → first_to n f ≡ None → (s : ℕ) → s < n → f s ≡ false
 unfolding first_to
 first-none zero f e s h = absurd (omega arith)
 first-none (suc n) f e s h = go (first_to n f) (λ q l. first-none n f q s l) (f n) refl e (last_or h)
   where
-    go : (r : Found) → (r ≡ Nothing → s < n → f s ≡ false) → (b : Bool) → f n ≡ b → or_else r (cond b (At n) Nothing) ≡ Nothing
+    go : (r : Found) → (r ≡ None → s < n → f s ≡ false) → (b : Bool) → f n ≡ b → or_else r (cond b (Some n) None) ≡ None
         → (s ≡ n) ⊎ (s < n) → f s ≡ false
-    go (At t) rest b q d o = absurd (no_place (sym d))
-    go Nothing rest true q d o = absurd (no_place (sym d))
-    go Nothing rest false q d (inl l) = rw l q
-    go Nothing rest false q d (inr l) = rest refl l
+    go (Some t) rest b q d o = absurd (no_place (sym d))
+    go None rest true q d o = absurd (no_place (sym d))
+    go None rest false q d (inl l) = rw l q
+    go None rest false q d (inr l) = rest refl l
 
-pub first_found : (n : ℕ) (f : ℕ → Bool) (s : ℕ) → first_to n f ≡ At s → First n f s
+pub first_found : (n : ℕ) (f : ℕ → Bool) (s : ℕ) → first_to n f ≡ Some s → First n f s
 unfolding first_to
 first_found zero f s e = absurd (no_place e)
 first_found (suc n) f s e = go (first_to n f) (first_found n f s) (first-none n f) (f n) refl e
   where
-    go : (r : Found) → (r ≡ At s → First n f s) → (r ≡ Nothing → (t : ℕ) → t < n → f t ≡ false) → (b : Bool) → f n ≡ b
-        → or_else r (cond b (At n) Nothing) ≡ At s → First (suc n) f s
-    go (At t) rest none b q d = let i = rest d in record { below = omega arith; holds = i.holds; least = i.least }
-    go Nothing rest none true q d =
+    go : (r : Found) → (r ≡ Some s → First n f s) → (r ≡ None → (t : ℕ) → t < n → f t ≡ false) → (b : Bool) → f n ≡ b
+        → or_else r (cond b (Some n) None) ≡ Some s → First (suc n) f s
+    go (Some t) rest none b q d = let i = rest d in record { below = omega arith; holds = i.holds; least = i.least }
+    go None rest none true q d =
         let k : n ≡ s = cc in
         record { below = omega arith; holds = rw (← k) q; least = λ t l. none refl t (omega arith) }
-    go Nothing rest none false q d = absurd (no_place d)
+    go None rest none false q d = absurd (no_place d)
 
-pub first-nothing : (n : ℕ) (f : ℕ → Bool) → ((s : ℕ) → s < n → f s ≡ false) → first_to n f ≡ Nothing
+pub first-nothing : (n : ℕ) (f : ℕ → Bool) → ((s : ℕ) → s < n → f s ≡ false) → first_to n f ≡ None
 unfolding first_to
 first-nothing zero f e = refl
 first-nothing (suc n) f e = rw (first-nothing n f (λ s h. e s (omega arith)), e n (omega arith))
 
-pub first-at : (n : ℕ) (f : ℕ → Bool) (s : ℕ) → s < n → f s ≡ true → ((t : ℕ) → t < s → f t ≡ false) → first_to n f ≡ At s
+pub first-at : (n : ℕ) (f : ℕ → Bool) (s : ℕ) → s < n → f s ≡ true → ((t : ℕ) → t < s → f t ≡ false) → first_to n f ≡ Some s
 first-at n f s h p e = go (first_to n f) refl
   where
     same : (t : ℕ) → First n f t → t ≡ s
@@ -174,15 +173,15 @@ first-at n f s h p e = go (first_to n f) refl
         meets (inr l) (inl k) = absurd (opposed p (i.least s k))
         meets (inr l) (inr k) = omega arith
 
-    go : (r : Found) → first_to n f ≡ r → first_to n f ≡ At s
-    go (At t) q = rw q (ap At (same t (first_found n f t q)))
-    go Nothing q = absurd (opposed p (first-none n f q s h))
+    go : (r : Found) → first_to n f ≡ r → first_to n f ≡ Some s
+    go (Some t) q = rw q (ap Some (same t (first_found n f t q)))
+    go None q = absurd (opposed p (first-none n f q s h))
 
 pub first-same : (n : ℕ) (f g : ℕ → Bool) → ((s : ℕ) → s < n → f s ≡ g s) → first_to n f ≡ first_to n g
 unfolding first_to
 first-same zero f g e = refl
 first-same (suc n) f g e =
-    ap₂ (λ (r : Found) (b : Bool). or_else r (cond b (At n) Nothing)) (first-same n f g (λ s h. e s (omega arith))) (e n (omega arith))
+    ap₂ (λ (r : Found) (b : Bool). or_else r (cond b (Some n) None)) (first-same n f g (λ s h. e s (omega arith))) (e n (omega arith))
 
 -- a walk that has found none yet
 pub record NoneBelow (f : ℕ → Bool) (s : ℕ) : Type 0 where
@@ -197,8 +196,8 @@ pub tally-some : (n : ℕ) (f : ℕ → Bool) → 0 < tally n f → (s : ℕ) ×
 tally-some n f h = go (first_to n f) refl
   where
     go : (r : Found) → first_to n f ≡ r → (s : ℕ) × (s < n) × (f s ≡ true)
-    go (At s) e = let i = first_found n f s e in (s, i.below, i.holds)
-    go Nothing e = absurd (omega (arith, tally-none n f (first-none n f e)))
+    go (Some s) e = let i = first_found n f s e in (s, i.below, i.holds)
+    go None e = absurd (omega (arith, tally-none n f (first-none n f e)))
 
 pub some-tally : (n : ℕ) (f : ℕ → Bool) (s : ℕ) → s < n → f s ≡ true → 0 < tally n f
 some-tally n f s h e = go (tally n f) refl

@@ -1,8 +1,6 @@
 -- A set of nodes is 64 marks, mark s for slot s: the number whose binary digit at s says whether s is in it.
 -- The operations are defined by membership. Definitions only; their laws are in Laws. Assumes nothing.
-use Rattle.std.specs.Prelude.{Bool, true, cond, ◌&&◌, ◌||◌, not, ℕ, zero, suc, ◌+◌, ◌/◌, ◌%◌, ◌^◌, eqb, leb}
-use Rattle.marks.specs.declared.Found.{Found}
-use Rattle.marks.specs.declared.Found.TheVariants.{At, Nothing}
+use Rattle.std.specs.Prelude.{Bool, true, cond, ◌&&◌, ◌||◌, not, ℕ, zero, suc, ◌+◌, ◌/◌, ◌%◌, ◌^◌, eqb, leb, Option, Some, None}
 
 -- slots 0 to n - 1
 abbrev pub Slot : Type 0
@@ -11,6 +9,10 @@ Slot = ℕ
 -- a set of nodes
 abbrev pub Marks : Type 0
 Marks = ℕ
+
+-- a slot that was looked for
+abbrev pub Found : Type 0
+Found = Option Slot
 
 -- slot s is in the set
 unfoldable pub has : Marks → Slot → Bool
@@ -28,13 +30,13 @@ tally (suc n) f = tally n f + cond (f n) 1 0
 
 -- T-06: the first of two that were found
 abbrev pub or_else : Found → Found → Found
-or_else (At s) other = At s
-or_else Nothing other = other
+or_else (Some s) other = Some s
+or_else None other = other
 
 -- T-06: the least slot below n that passes a test
 unfoldable pub first_to : ℕ → (ℕ → Bool) → Found
-first_to zero f = Nothing
-first_to (suc n) f = or_else (first_to n f) (cond (f n) (At n) Nothing)
+first_to zero f = None
+first_to (suc n) f = or_else (first_to n f) (cond (f n) (Some n) None)
 
 -- every slot below n passes a test
 unfoldable pub all_to : ℕ → (ℕ → Bool) → Bool

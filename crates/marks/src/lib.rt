@@ -4,13 +4,6 @@
 ghost use Rattle.std.specs.Prelude.{◌≡◌};
 ghost use Rattle.marks.specs.Marks.{has, single, union, meet, without, add_of, remove_of, size_of, lowest_of, listed};
 
-// A slot that was looked for.
-#[derive(Clone, Copy)]
-pub enum Found {
-    At(usize),
-    Nothing,
-}
-
 // Is slot s in the set?
 pub fn is_in(set: u64, s: usize) -> bool
     ensures { result ≡ has set s }
@@ -62,17 +55,17 @@ pub fn removed(a: u64, s: usize) -> u64
 pub fn count(a: u64) -> u32
     ensures { result ≡ size_of a }
 {
-    u64::count_ones(a)
+    a.count_ones()
 }
 
-// The least member.
-pub fn lowest(a: u64) -> Found
+// The least member, if there is one.
+pub fn lowest(a: u64) -> Option<usize>
     ensures { result ≡ lowest_of a }
 {
     if a == 0 {
-        Found::Nothing
+        None
     } else {
-        Found::At(u64::trailing_zeros(a) as usize)
+        Some(a.trailing_zeros() as usize)
     }
 }
 

@@ -1,6 +1,7 @@
 -- What two pools with the same messages share: their length, whether a request waits, whether all obey a rule and no two are equal, and so validity;
 -- and that removing, adding and sending keep it. Nothing is known of a message's rule, nor of when two are equal but that it is an equivalence.
 -- Assumes nothing.
+use Rattle.std.specs.Prelude.{Some, None}
 use mathlib.Core.Path.{◌≡◌, refl, sym, ◌∙◌, ap}
 use mathlib.Core.Logic.{◌⊎◌, inl, inr}
 use mathlib.Core.Bool.{Bool, true, false, cond, ◌&&◌, ◌||◌, not}
@@ -10,9 +11,7 @@ use native.Mathlib.Omega.{arith}
 use borrow.Author.Tests.{not-false}
 use lib.Dec.{eqb, ltb}
 use lib.ListN.{get_or, length, get_or-eq_default}
-use Rattle.marks.specs.declared.Found.{Found}
-use Rattle.marks.specs.declared.Found.TheVariants.{At, Nothing}
-use Rattle.marks.specs.Marks.{has, all_to}
+use Rattle.marks.specs.Marks.{has, all_to, Found}
 use Rattle.marks.proofs.Bools.{bool_same, true-not, lt-or-le}
 use Rattle.marks.proofs.Laws.{each, all_of}
 use Rattle.rules.specs.declared.Message.{Message}
@@ -165,8 +164,8 @@ kept-sent {xs} {ys} h m set (suc n) = go (has set n) (kept-sent h m set n)
     go false k = k
 
 kept-first : {xs ys : List Message} → SameMail xs ys → (to : Found) (m : Message) → SameMail (added_to to m xs) (added_to to m ys)
-kept-first h (At s) m = kept-added h (placed m s)
-kept-first h Nothing m = h
+kept-first h (Some s) m = kept-added h (placed m s)
+kept-first h None m = h
 
 pub kept-mailed : {xs ys : List Message} → SameMail xs ys → (x : Plan) → SameMail (mailed x xs) (mailed x ys)
 unfolding mailed

@@ -1,5 +1,7 @@
 -- A step on two pools with the same messages. The same actions ask for the same of them (SameAsked), and what is planned is carried out alike; a table
 -- is valid with the one exactly if it is with the other. Then any number of steps, the same actions found for any, and a search. Assumes nothing.
+use Rattle.rules.specs.Shapes.{Planned}
+use Rattle.std.specs.Prelude.{Ok, Err}
 use mathlib.Core.Path.{◌≡◌, refl, sym, ◌∙◌, ap}
 use mathlib.Core.Bool.{Bool, true, false, cond}
 use mathlib.Core.List.{List, [], ◌∷◌}
@@ -11,8 +13,6 @@ use Rattle.rules.specs.declared.Action.{Action}
 use Rattle.rules.specs.declared.Action.TheVariants.{Lookup, Join, RequestLease, LeaseExpired, GrantExpired, Take, Deliver, Forward}
 use Rattle.rules.specs.declared.Action.TheVariants.{NodeLeft, SuspectFaulty, ProbeTimeOut, DeclareDead, LSRepair, ResignNode, Recover}
 use Rattle.rules.specs.declared.Message.{Message}
-use Rattle.rules.specs.declared.Planned.{Planned}
-use Rattle.rules.specs.declared.Planned.TheVariants.{No, Go}
 use Rattle.rules.specs.declared.Pool.{Pool}
 use Rattle.rules.specs.declared.Refusal.{Refusal}
 use Rattle.rules.specs.declared.Refusal.TheVariants as no
@@ -106,8 +106,8 @@ module _ (t : Table) {p q : Pool} (s : SamePool p q) where
 
   settled_same : {xs ys : List Message} → SameMail xs ys → (i : ℕ) (what : Planned) → SameStep (settle t p xs i what) (settle t q ys i what)
   unfolding settle carried_out
-  settled_same h i (No why) = refused-same why
-  settled_same {xs} {ys} h i (Go x) = go _ _ (ap (λ (n : ℕ). leb n 256) (same_length (kept-mailed h x)))
+  settled_same h i (Err why) = refused-same why
+  settled_same {xs} {ys} h i (Ok x) = go _ _ (ap (λ (n : ℕ). leb n 256) (same_length (kept-mailed h x)))
     where
       done : List Message → Stepped
       done zs = done_by x.via (with_node t i x.node) (laid zs)

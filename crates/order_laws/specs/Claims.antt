@@ -1,7 +1,6 @@
 -- Beside 01: the order of the pool is of no account. Only statements: the proofs are in the other files. Assumes nothing.
-use Rattle.std.specs.Prelude.{◌≡◌, List, ◌↔◌, ℕ}
+use Rattle.std.specs.Prelude.{◌≡◌, List, ◌↔◌, ℕ, Err}
 use Rattle.rules.specs.declared.Action.{Action}
-use Rattle.rules.specs.declared.Answer.TheVariants.{Refused}
 use Rattle.rules.specs.declared.Message.{Message}
 use Rattle.rules.specs.declared.Pool.{Pool}
 use Rattle.rules.specs.declared.Refusal.{Refusal}
@@ -26,7 +25,7 @@ OrderNoAccount = (t : Table) (p q : Pool) (len : ℕ) (a b : Action) → SamePoo
 -- where it is refused both pools are as they were
 abbrev pub BothLeft : Type 0
 BothLeft =
-    (t : Table) (p q : Pool) (len : ℕ) (a b : Action) (why : Refusal) → SamePool p q → SameAction p q a b → (step_of t p len a).answer ≡ Refused why
+    (t : Table) (p q : Pool) (len : ℕ) (a b : Action) (why : Refusal) → SamePool p q → SameAction p q a b → (step_of t p len a).answer ≡ Err why
     → ((step_of t p len a).pool ≡ p) × ((step_of t q len b).pool ≡ q)
 
 -- for every action on p there is the same on q

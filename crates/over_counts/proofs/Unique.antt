@@ -5,15 +5,15 @@ use mathlib.Core.List.{List}
 use Prim.Native.Nat.{ℕ}
 use Rattle.rules.specs.declared.Action.{Action}
 use Rattle.rules.specs.declared.Pool.{Pool}
-use Rattle.file.specs.declared.Wrote.{Wrote}
-use Rattle.face.specs.declared.Rest.{Rest}
+use Rattle.std.specs.Prelude.{Result}
+use Rattle.rules.specs.declared.Refusal.{Refusal}
+use Rattle.file.specs.Write.{Wrote}
+use Rattle.face.specs.Asked.{Rest}
 use Rattle.counts.specs.declared.Counted.{Counted}
 use Rattle.counts.specs.declared.After.{After}
-use Rattle.counts.specs.declared.Has.{Has}
-use Rattle.counts.specs.declared.First.{First}
-use Rattle.counts.specs.declared.Polled.{Polled}
+use Rattle.counts.specs.Counts.{Has, First, Polled}
 use Rattle.over_counts.specs.Contract.{CountsOf, Agree, IsSound, Step, Load, Start, Write, Settled, HasMessage, FirstMessage, Poll}
-use Rattle.over_counts.specs.Contract.{HasNumber, FirstNumber, PolledNumber}
+use Rattle.over_counts.specs.Contract.{Number}
 
 pub counts-of-unique : (p : Pool) (r r' : List ℕ) → CountsOf p r → CountsOf p r' → r ≡ r'
 counts-of-unique p r r' h h' = h ∙ sym h'
@@ -49,11 +49,5 @@ module _ (x : Counted) (len : ℕ) where
   pub poll-unique : (r r' : Polled) → Poll x len r → Poll x len r' → r ≡ r'
   poll-unique r r' h h' = h ∙ sym h'
 
-pub has-number-unique : (r : Has) (x x' : ℕ) → HasNumber r x → HasNumber r x' → x ≡ x'
-has-number-unique r x x' h h' = h ∙ sym h'
-
-pub first-number-unique : (r : First) (x x' : ℕ) → FirstNumber r x → FirstNumber r x' → x ≡ x'
-first-number-unique r x x' h h' = h ∙ sym h'
-
-pub polled-number-unique : (r : Polled) (x x' : ℕ) → PolledNumber r x → PolledNumber r x' → x ≡ x'
-polled-number-unique r x x' h h' = h ∙ sym h'
+pub number-unique : {A : Type 0} (r : Result A Refusal) (x x' : ℕ) → Number r x → Number r x' → x ≡ x'
+number-unique r x x' h h' = h ∙ sym h'

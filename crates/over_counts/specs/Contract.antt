@@ -1,17 +1,15 @@
 -- T-06: what each public function promises of its reply, one predicate each, named as the function: its `ensures` cites it, and Unique says that one
 -- reply meets it. Definitions only. Assumes nothing.
-use Rattle.std.specs.Prelude.{◌≡◌, Bool, List, ℕ}
+use Rattle.std.specs.Prelude.{◌≡◌, Bool, List, ℕ, Result}
 use Rattle.rules.specs.declared.Action.{Action}
 use Rattle.rules.specs.declared.Pool.{Pool}
-use Rattle.file.specs.declared.Wrote.{Wrote}
-use Rattle.face.specs.declared.Rest.{Rest}
+use Rattle.rules.specs.declared.Refusal.{Refusal}
+use Rattle.file.specs.Write.{Wrote, said_number}
+use Rattle.face.specs.Asked.{Rest}
 use Rattle.counts.specs.declared.Counted.{Counted}
 use Rattle.counts.specs.declared.After.{After}
-use Rattle.counts.specs.declared.Has.{Has}
-use Rattle.counts.specs.declared.First.{First}
-use Rattle.counts.specs.declared.Polled.{Polled}
 use Rattle.counts.specs.Counts.{counts_of, agree_of, is_sound_counted, step_with, load_with, start_with, wrote_with, written_with, rest_with}
-use Rattle.counts.specs.Counts.{has_of, first_of, polled_of, has_number, first_number, polled_number}
+use Rattle.counts.specs.Counts.{Has, First, Polled, has_of, first_of, polled_of}
 
 abbrev pub CountsOf : Pool → List ℕ → Type 0
 CountsOf p r = r ≡ counts_of p
@@ -48,11 +46,5 @@ abbrev pub Poll : Counted → ℕ → Polled → Type 0
 Poll x len r = r ≡ polled_of x len
 
 -- 01's numbers
-abbrev pub HasNumber : Has → ℕ → Type 0
-HasNumber r x = x ≡ has_number r
-
-abbrev pub FirstNumber : First → ℕ → Type 0
-FirstNumber r x = x ≡ first_number r
-
-abbrev pub PolledNumber : Polled → ℕ → Type 0
-PolledNumber r x = x ≡ polled_number r
+abbrev pub Number : {A : Type 0} → Result A Refusal → ℕ → Type 0
+Number r x = x ≡ said_number r

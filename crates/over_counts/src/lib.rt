@@ -4,18 +4,16 @@
 
 ghost use Rattle.std.specs.Prelude.{◌≡◌, ◌≤◌, ◌<◌, ltb};
 ghost use Rattle.marks.specs.Marks.{gather};
-ghost use Rattle.rules.specs.Mail.{same_to};
 ghost use Rattle.rules.specs.Pool.{waiting};
-ghost use Rattle.counts.specs.Counts.{counts_after, after_by, refused_with, count_at, first_for, first_said};
+ghost use Rattle.counts.specs.Counts.{counts_after, after_by, refused_with, count_at, first_for};
 ghost use Rattle.over_counts.specs.Contract.{CountsOf, Agree, IsSound, Step, Load, Start, Write, Settled, HasMessage, FirstMessage, Poll};
-ghost use Rattle.over_counts.specs.Contract.{HasNumber, FirstNumber, PolledNumber};
+ghost use Rattle.over_counts.specs.Contract.{Number};
 ghost use Rattle.over_counts.specs.InnerWalk.{waiting_in, one_more};
 
 use counts::{After, Counted, First, Has, Polled};
 use face::Rest;
 use file::Wrote;
-use marks::Found;
-use rules::{Action, Answer, Pool, Refusal, Via};
+use rules::{Action, Pool, Refusal, Via};
 use table_type::Stepped;
 
 // How many messages wait in a pool of any content: as many as it counts, and all 256 places where it counts more.
@@ -41,35 +39,18 @@ pub fn counts_of(p: Pool) -> [u32; 64]
 {
     let n = waiting_in(p.count);
     let mut counts = [0u32; 64];
-    let mut at: usize = 0;
-    while at < n {
+    for at in 0..n {
         let m = p.places[at];
         count_one(&mut counts, m.dest as usize);
-        at += 1;
     }
     counts
-}
-
-// Are the 64 numbers the same?
-fn same(a: &[u32; 64], b: &[u32; 64]) -> bool
-    ensures { result ≡ same_to 64 a.now b.now }
-{
-    let mut i: usize = 0;
-    while i < 64 {
-        if a[i] != b[i] {
-            return false;
-        }
-        i += 1;
-    }
-    true
 }
 
 // Do the counts agree with the pool?
 pub fn agree(counts: [u32; 64], p: Pool) -> bool
     ensures { Agree counts p result }
 {
-    let mine = counts_of(p);
-    same(&counts, &mine)
+    counts == counts_of(p)
 }
 
 // Is the table valid, its list of messages one of 256 places, and do its counts agree with its pool?
@@ -89,12 +70,12 @@ pub fn is_sound(x: Counted, len: usize) -> bool
 }
 
 // The counts after a call that leaves this answer and this pool.
-fn counts_after(counts: [u32; 64], answer: Answer, p: Pool) -> [u32; 64]
+fn counts_after(counts: [u32; 64], answer: Result<(), Refusal>, p: Pool) -> [u32; 64]
     ensures { result ≡ counts_after counts answer p }
 {
     match answer {
-        Answer::Done => counts_of(p),
-        Answer::Refused(_) => counts,
+        Ok(()) => counts_of(p),
+        Err(_) => counts,
     }
 }
 
@@ -124,7 +105,7 @@ fn refused(x: Counted, why: Refusal) -> After
     ensures { result ≡ refused_with x why }
 {
     After {
-        answer: Answer::Refused(why),
+        answer: Err(why),
         counted: x,
         via: Via::Unrouted,
     }
@@ -172,7 +153,7 @@ pub fn write(x: Counted, len: usize, buf: &mut [u8]) -> Wrote
     let p = x.pool;
     let counts = x.counts;
     if !agree(counts, p) {
-        return file_write::not_written(Refusal::Invalid);
+        return Err(Refusal::Invalid);
     }
     file_write::write(t, p, len, buf)
 }
@@ -185,38 +166,23 @@ pub fn settled(x: Counted, len: usize) -> Rest
     let p = x.pool;
     let counts = x.counts;
     if !agree(counts, p) {
-        return Rest::NotAsked(Refusal::Invalid);
+        return Err(Refusal::Invalid);
     }
     face_table::settled(t, p, len)
 }
 
 // The place of the first message for node i. It stops at the first found.
-fn first_for(p: Pool, i: u32) -> Found
+fn first_for(p: Pool, i: u32) -> Option<usize>
     requires { p.count ≤ 256 }
     ensures { result ≡ first_for (waiting p) i }
 {
-    let n = p.count;
-    let mut at: usize = 0;
-    while at < n {
+    for at in 0..p.count {
         let m = p.places[at];
         if m.dest == i {
-            return Found::At(at);
+            return Some(at);
         }
-        at += 1;
     }
-    Found::Nothing
-}
-
-// What `first_for` finds, as an answer.
-fn first_said(p: Pool, i: u32) -> First
-    requires { p.count ≤ 256 }
-    ensures { result ≡ first_said (first_for (waiting p) i) }
-{
-    let found = first_for(p, i);
-    match found {
-        Found::At(place) => First::At(place),
-        Found::Nothing => First::None,
-    }
+    None
 }
 
 // Does node i have a message? It is answered from the count. 10 for an invalid table, a list without 256 places or counts that disagree with
@@ -227,12 +193,12 @@ pub fn has_message(x: Counted, len: usize, i: usize) -> Has
     let t = x.table;
     let counts = x.counts;
     if !is_sound(x, len) {
-        return Has::NotAsked(Refusal::Invalid);
+        return Err(Refusal::Invalid);
     }
     if t.n <= i {
-        return Has::NotAsked(Refusal::OutOfRange);
+        return Err(Refusal::OutOfRange);
     }
-    if 0 < counts[i] { Has::Yes } else { Has::No }
+    Ok(0 < counts[i])
 }
 
 // Where is the first message for node i? It does not look where the count is 0. The numbers are those of `has_message`.
@@ -242,15 +208,15 @@ pub fn first_message(x: Counted, len: usize, i: usize) -> First
     let t = x.table;
     let counts = x.counts;
     if !is_sound(x, len) {
-        return First::NotAsked(Refusal::Invalid);
+        return Err(Refusal::Invalid);
     }
     if t.n <= i {
-        return First::NotAsked(Refusal::OutOfRange);
+        return Err(Refusal::OutOfRange);
     }
     if counts[i] == 0 {
-        return First::None;
+        return Ok(None);
     }
-    first_said(x.pool, i as u32)
+    Ok(first_for(x.pool, i as u32))
 }
 
 // The nodes below n whose count is not 0.
@@ -259,12 +225,10 @@ fn nodes_counted(counts: &[u32; 64], n: usize) -> u64
     ensures { result ≡ gather n (λ i. ltb 0 (count_at counts.now i)) }
 {
     let mut set: u64 = 0;
-    let mut i: usize = 0;
-    while i < n {
+    for i in 0..n {
         if 0 < counts[i] {
             set = marks::added(set, i);
         }
-        i += 1;
     }
     set
 }
@@ -276,39 +240,18 @@ pub fn poll(x: Counted, len: usize) -> Polled
     let t = x.table;
     let counts = x.counts;
     if !is_sound(x, len) {
-        return Polled::NotAsked(Refusal::Invalid);
+        return Err(Refusal::Invalid);
     }
-    Polled::Nodes(nodes_counted(&counts, t.n))
+    Ok(nodes_counted(&counts, t.n))
 }
 
-// 01's number of an answer of `has_message`: 0 where it was looked at.
-pub fn has_number(r: Has) -> u32
-    ensures { HasNumber r result }
+// 01's number of an answer, as of `has_message`, `first_message` and `poll`: 0 where it was looked at.
+// No impl of From stands for it: a Result and u32 are both of other crates.
+pub fn number<T: Copy>(r: Result<T, Refusal>) -> u32
+    ensures { Number r result }
 {
     match r {
-        Has::Yes => 0,
-        Has::No => 0,
-        Has::NotAsked(why) => parts::answer_number(Answer::Refused(why)),
-    }
-}
-
-// 01's number of an answer of `first_message`: 0 where it was looked at.
-pub fn first_number(r: First) -> u32
-    ensures { FirstNumber r result }
-{
-    match r {
-        First::At(_) => 0,
-        First::None => 0,
-        First::NotAsked(why) => parts::answer_number(Answer::Refused(why)),
-    }
-}
-
-// 01's number of an answer of `poll`: 0 where it was looked at.
-pub fn polled_number(r: Polled) -> u32
-    ensures { PolledNumber r result }
-{
-    match r {
-        Polled::Nodes(_) => 0,
-        Polled::NotAsked(why) => parts::answer_number(Answer::Refused(why)),
+        Ok(_) => 0,
+        Err(why) => parts::answer_number(Err(why)),
     }
 }

@@ -3,7 +3,7 @@ use mathlib.Core.Path.{◌≡◌, sym, ◌∙◌}
 use Prim.Native.Nat.{ℕ}
 use Rattle.rules.specs.declared.Pool.{Pool}
 use Rattle.table_type.specs.declared.Table.{Table}
-use Rattle.holder.specs.declared.Holding.{Holding}
+use Rattle.holder.specs.Holder.{Holding}
 use Rattle.over_holder.specs.Contract.{HeldBy, Number}
 
 pub held-by-unique : (t : Table) (p : Pool) (len k : ℕ) (r r' : Holding) → HeldBy t p len k r → HeldBy t p len k r' → r ≡ r'

@@ -3,8 +3,7 @@
 use Rattle.std.specs.Prelude.{◌≡◌, ℕ}
 use Rattle.rules.specs.declared.Pool.{Pool}
 use Rattle.table_type.specs.declared.Table.{Table}
-use Rattle.holder.specs.declared.Holding.{Holding}
-use Rattle.holder.specs.Holder.{holding_of, holding_number}
+use Rattle.holder.specs.Holder.{Holding, holding_of, holding_number}
 
 abbrev pub HeldBy : Table → Pool → ℕ → ℕ → Holding → Type 0
 HeldBy t p len k r = r ≡ holding_of t p len k

@@ -10,67 +10,56 @@ ghost use Rattle.table_type.specs.Table.{ring_of, ids_of};
 ghost use Rattle.holder.specs.Holder.{covered_by, copies_of, held_at, holding_in};
 ghost use Rattle.over_holder.specs.Contract.{HeldBy, Number};
 
-use face::Rest;
-use holder::Holding;
-use marks::Found;
-use rules::{Answer, Node, Pool, Ring, Way};
+use holder::{Holder, Holding, Unheld};
+use rules::{Node, Pool, Roster, Status, Way};
 use table_type::Table;
 
 // The number of an answer: 0 held, 1 a key out of range, 10 an invalid table or a message list without 256 places, 15 the table is not
-// settled.
+// settled. No impl of From stands for it: a Result and u32 are both of other crates.
 pub fn number(h: Holding) -> u32
     ensures { Number h result }
 {
     match h {
-        Holding::NotAsked(why) => parts::answer_number(Answer::Refused(why)),
-        Holding::OutOfRange => 1,
-        Holding::Unsettled => 15,
-        Holding::By(_, _) => 0,
+        Err(Unheld::NotAsked(why)) => parts::answer_number(Err(why)),
+        Err(Unheld::OutOfRange) => 1,
+        Err(Unheld::Unsettled) => 15,
+        Ok(_) => 0,
     }
 }
 
 // Is the node at slot s ready, and does it cover k?
-fn covers_at(g: Ring, ids: &[u32; 64], s: usize, v: Node, k: u32) -> bool
-    requires { Listed g ids.now × (s < 64) × (k < 2 ^ g.m) }
-    ensures { result ≡ (is_ready v.status && covers_of g ids.now s (sides_of v) k) }
+#[tactic(auto, using(rules::proofs::Statuses::statuses))]
+fn covers_at(r: &Roster, s: usize, v: Node, k: u32) -> bool
+    requires { (s < 64) × (k < 2 ^ r.now.ring.m) }
+    ensures { result ≡ (is_ready v.status && covers_of r.now.ring r.now.ids s (sides_of v) k) }
 {
-    let st = v.status;
-    if parts::is_ready(st) {
-        leaf::covers(g, ids, s, parts::sides_of(v), k)
-    } else {
-        false
-    }
+    v.status == Status::Ready && leaf::covers(r, s, parts::sides_of(v), k)
 }
 
-// The first slot that is ready and covers k.
-fn covered_by(t: Table, k: u32) -> Found
+// The first slot that is ready and covers k. A table need not be listed, and this asks it; what looks at its slots takes a roster, whose type says it.
+fn covered_by(t: Table, k: u32) -> Option<usize>
     requires { Listed (ring_of t) (ids_of t) × (k < 2 ^ t.m) }
     ensures { result ≡ covered_by t k }
 {
-    let g = table_type::ring_of(t);
-    let ids = table_type::ids(t);
-    let n = t.n;
-    let mut s: usize = 0;
-    while s < n {
-        let v = t.nodes[s];
-        if covers_at(g, &ids, s, v, k) {
-            return Found::At(s);
+    let r = table_type::roster(t);
+    for s in 0..t.n {
+        if covers_at(&r, s, t.nodes[s], k) {
+            return Some(s);
         }
-        s += 1;
     }
-    Found::Nothing
+    None
 }
 
 // The neighbours of the node at slot h, other than itself.
+#[tactic(auto, unfolding(holder::specs::Holder::copies_of))]
 fn copies(t: Table, h: usize) -> u64
     requires { Listed (ring_of t) (ids_of t) × (h < 64) }
     ensures { result ≡ copies_of t h }
 {
-    let g = table_type::ring_of(t);
-    let ids = table_type::ids(t);
+    let r = table_type::roster(t);
     let v = t.nodes[h];
-    let left = leaf::seen(Way::Up, g, &ids, h, v.left);
-    let right = leaf::seen(Way::Down, g, &ids, h, v.right);
+    let left = leaf::seen(Way::Up, &r, h, v.left);
+    let right = leaf::seen(Way::Down, &r, h, v.right);
     marks::removed(marks::added(marks::of_one(left), right), h)
 }
 
@@ -81,8 +70,11 @@ fn held_at(t: Table, k: u32) -> Holding
 {
     let found = covered_by(t, k);
     match found {
-        Found::At(h) => Holding::By(h, copies(t, h)),
-        Found::Nothing => Holding::Unsettled,
+        Some(h) => Ok(Holder {
+            slot: h,
+            copies: copies(t, h),
+        }),
+        None => Err(Unheld::Unsettled),
     }
 }
 
@@ -92,12 +84,12 @@ fn looked_for(t: Table, settled: bool, k: u64) -> Holding
     ensures { result ≡ holding_in t settled k }
 {
     if k >= (1u64 << t.m) {
-        return Holding::OutOfRange;
+        return Err(Unheld::OutOfRange);
     }
     if settled {
         held_at(t, k as u32)
     } else {
-        Holding::Unsettled
+        Err(Unheld::Unsettled)
     }
 }
 
@@ -108,8 +100,7 @@ pub fn held_by(t: Table, p: Pool, len: usize, k: u64) -> Holding
 {
     let rest = face_table::settled(t, p, len);
     match rest {
-        Rest::NotAsked(why) => Holding::NotAsked(why),
-        Rest::Settled => looked_for(t, true, k),
-        Rest::Unsettled => looked_for(t, false, k),
+        Ok(settled) => looked_for(t, settled, k),
+        Err(why) => Err(Unheld::NotAsked(why)),
     }
 }

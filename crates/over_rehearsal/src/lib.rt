@@ -10,10 +10,11 @@ ghost use Rattle.over_rehearsal.specs.Contract.{Begin, Next, Number};
 ghost use Rattle.table.specs.InnerDone.{ValidDone};
 
 use rehearsal::{Checker, Handed, Reply, Verdict};
-use rules::{Action, Answer, Pool};
+use rules::{Action, Pool, Refusal};
 use table_type::{Stepped, Table};
 
 // The number of a reply: 0 for a step that was looked at, whether it was found good or bad, and 12 for a further step after an end or beyond 1,000.
+// No impl of From stands for it: Reply and u32 are both of other crates.
 pub fn number(r: Reply) -> u32
     ensures { Number r result }
 {
@@ -23,31 +24,15 @@ pub fn number(r: Reply) -> u32
     }
 }
 
-// Are they as many bytes, and each the same?
-fn same(a: &[u8], b: &[u8]) -> bool
-    ensures { result ≡ same_of a.now b.now }
-{
-    let n = a.len();
-    if b.len() != n {
-        return false;
-    }
-    let mut i: usize = 0;
-    while i < n {
-        if a[i] != b[i] {
-            return false;
-        }
-        i += 1;
-    }
-    true
-}
-
 // Is this precisely the file of the table and the messages? It is written into a buffer that has room for the longest file.
 fn gives_in(t: Table, p: Pool, stated: &[u8], file: &mut [u8]) -> bool
     requires { (valid_of t p ≡ true) × (18464 ≡ length file.old) }
     ensures { result ≡ same_of (file_of t p) stated.now }
 {
-    let w = file_write::write(t, p, 256, file);
-    same(&file[..w.count], stated)
+    match file_write::write(t, p, 256, file) {
+        Ok(count) => &file[..count] == stated,
+        Err(_) => false,
+    }
 }
 
 // The same, with a buffer of its own.
@@ -68,8 +53,8 @@ fn agrees(s: Stepped, stated: &[u8]) -> bool
     let t = s.table;
     let p = s.pool;
     match answer {
-        Answer::Done => gives(t, p, stated),
-        Answer::Refused(_) => false,
+        Ok(()) => gives(t, p, stated),
+        Err(_) => false,
     }
 }
 
@@ -78,8 +63,8 @@ fn is_open(v: Verdict, steps: usize) -> bool
     ensures { result ≡ is_open v steps }
 {
     match v {
-        Verdict::Accepted => steps < 1000,
-        Verdict::Bad(_) => false,
+        Ok(()) => steps < 1000,
+        Err(_) => false,
     }
 }
 
@@ -93,26 +78,26 @@ fn checked(c: Checker, s: Stepped, stated: &[u8]) -> Checker
         let table = s.table;
         let pool = s.pool;
         Checker {
-            verdict: Verdict::Accepted,
+            verdict: Ok(()),
             steps,
             table,
             pool,
         }
     } else {
         Checker {
-            verdict: Verdict::Bad(steps),
+            verdict: Err(steps),
             ..c
         }
     }
 }
 
 // What is said of a rehearsal by its start alone.
-fn start_verdict(answer: Answer) -> Verdict
+fn start_verdict(answer: Result<(), Refusal>) -> Verdict
     ensures { result ≡ start_verdict answer }
 {
     match answer {
-        Answer::Done => Verdict::Accepted,
-        Answer::Refused(_) => Verdict::Bad(0),
+        Ok(()) => Ok(()),
+        Err(_) => Err(0),
     }
 }
 

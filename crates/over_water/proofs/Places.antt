@@ -17,7 +17,7 @@ use Rattle.marks.proofs.Bools.{bool_cases}
 use Rattle.water.specs.declared.Record.{Record}
 use Rattle.water.specs.declared.Held.{Held}
 use Rattle.water.specs.declared.Store.{Store}
-use Rattle.water.specs.declared.Looked.TheVariants.{At, Nothing}
+use Rattle.std.specs.Prelude.{Some, None}
 use Rattle.water.specs.Water.{found_in, alike, none_held, count_of, held_of, seat_of, change_of, total_of}
 use Rattle.water.proofs.Seats.{count_most}
 use Rattle.over_water.proofs.Signed.{size-sum, fits}
@@ -70,24 +70,24 @@ module _ (s : Store) (f : Full s) (r : Record) (i : ℕ) (p : Passed (held_of s)
     passed-more e = record { seat = p.seat ∙ rw (next-held s f i l, e) (omega arith) }
 
 -- what is held of its key and month is at its seat, where that is not behind the last
-pub look-found : (hs : List Held) (r : Record) → seat_of hs r < length hs → found_in hs r ≡ At (get_or hs (seat_of hs r) none_held)
+pub look-found : (hs : List Held) (r : Record) → seat_of hs r < length hs → found_in hs r ≡ Some (get_or hs (seat_of hs r) none_held)
 unfolding seat_of found_in
 look-found [] r l = absurd (omega arith)
 look-found (h ∷ hs) r l = go (bool_cases (alike h.original r)) (look-found hs r)
   where
     go : (alike h.original r ≡ true) ⊎ (alike h.original r ≡ false)
-        → (seat_of hs r < length hs → found_in hs r ≡ At (get_or hs (seat_of hs r) none_held))
-        → found_in (h ∷ hs) r ≡ At (get_or (h ∷ hs) (seat_of (h ∷ hs) r) none_held)
+        → (seat_of hs r < length hs → found_in hs r ≡ Some (get_or hs (seat_of hs r) none_held))
+        → found_in (h ∷ hs) r ≡ Some (get_or (h ∷ hs) (seat_of (h ∷ hs) r) none_held)
     go (inl e) k = rw e
     go (inr e) k = let m : suc (seat_of hs r) < suc (length hs) = rw e at l in rw e (k (omega arith))
 
-pub look_none : (hs : List Held) (r : Record) → length hs ≤ seat_of hs r → found_in hs r ≡ Nothing
+pub look_none : (hs : List Held) (r : Record) → length hs ≤ seat_of hs r → found_in hs r ≡ None
 unfolding seat_of found_in
 look_none [] r l = refl
 look_none (h ∷ hs) r l = go (bool_cases (alike h.original r)) (look_none hs r)
   where
-    go : (alike h.original r ≡ true) ⊎ (alike h.original r ≡ false) → (length hs ≤ seat_of hs r → found_in hs r ≡ Nothing)
-        → found_in (h ∷ hs) r ≡ Nothing
+    go : (alike h.original r ≡ true) ⊎ (alike h.original r ≡ false) → (length hs ≤ seat_of hs r → found_in hs r ≡ None)
+        → found_in (h ∷ hs) r ≡ None
     go (inl e) k = let m : suc (length hs) ≤ 0 = rw e at l in absurd (omega arith)
     go (inr e) k = let m : suc (length hs) ≤ suc (seat_of hs r) = rw e at l in rw e (k (omega arith))
 

@@ -5,9 +5,10 @@ use lib.IntN.{ℤ}
 use Rattle.rules.specs.declared.Pool.{Pool}
 use Rattle.table_type.specs.declared.Table.{Table}
 use Rattle.water.specs.declared.Record.{Record}
-use Rattle.water.specs.declared.Looked.{Looked}
+use Rattle.std.specs.Prelude.{Option}
+use Rattle.water.specs.declared.Held.{Held}
 use Rattle.water.specs.declared.Store.{Store}
-use Rattle.water.specs.declared.Reply.{Reply}
+use Rattle.water.specs.Water.{Reply}
 use Rattle.water.specs.declared.Placed.{Placed}
 use Rattle.over_water.specs.Contract.{Number, Empty, Change, Place, LookUp, Sum}
 
@@ -23,7 +24,7 @@ change-unique r x x' h h' = h ∙ sym h'
 pub place-unique : (t : Table) (p : Pool) (len : ℕ) (s : Store) (r : Record) (x x' : Placed) → Place t p len s r x → Place t p len s r x' → x ≡ x'
 place-unique t p len s r x x' h h' = h ∙ sym h'
 
-pub look-up-unique : (s : Store) (key month : ℕ) (x x' : Looked) → LookUp s key month x → LookUp s key month x' → x ≡ x'
+pub look-up-unique : (s : Store) (key month : ℕ) (x x' : Option Held) → LookUp s key month x → LookUp s key month x' → x ≡ x'
 look-up-unique s key month x x' h h' = h ∙ sym h'
 
 pub sum-unique : (s : Store) (x x' : ℤ) → Sum s x → Sum s x' → x ≡ x'

@@ -8,19 +8,19 @@ ghost use Rattle.water.specs.Water.{refused_of, put_of, place_by, why_number};
 ghost use Rattle.water.specs.Water.{alike as alike_of};
 ghost use Rattle.over_water.specs.Contract.{Number, Empty, Change, Place, LookUp, Sum};
 
-use holder::Holding;
+use holder::{Holder, Holding, Unheld};
 use rules::Pool;
 use table_type::Table;
-use water::{Held, Looked, Placed, Record, Reply, Store, Why};
+use water::{Held, Placed, Record, Reply, Store, Why};
 
 // The number of a reply: 0 accepted, 10 an invalid table or a message list without 256 places, 14 a number out of range, 15 the table is
-// not settled, 16 no room for a new key and month.
+// not settled, 16 no room for a new key and month. No impl of From stands for it: a Result and u32 are both of other crates.
 pub fn number(r: Reply) -> u32
     ensures { Number r result }
 {
     match r {
-        Reply::Accepted => 0,
-        Reply::Refused(why) => why_number(why),
+        Ok(()) => 0,
+        Err(why) => why_number(why),
     }
 }
 
@@ -98,14 +98,12 @@ fn seat(s: Store, r: Record) -> usize
     ensures { result ≡ seat_of (held_of s) r }
 {
     let n = held_count(s.count);
-    let mut i: usize = 0;
-    while i < n {
+    for i in 0..n {
         let h = s.places[i];
         let q = h.original;
         if alike(q, r) {
             return i;
         }
-        i += 1;
     }
     n
 }
@@ -127,14 +125,14 @@ fn refused(s: Store, why: Why) -> Placed
     ensures { result ≡ refused_of s why }
 {
     Placed {
-        reply: Reply::Refused(why),
+        reply: Err(why),
         store: s,
     }
 }
 
 // A record in range, held at a slot, with copies at others: 16 if it has no place.
-fn put(s: Store, r: Record, holder: usize, copies: u64) -> Placed
-    ensures { result ≡ put_of s r holder copies }
+fn put(s: Store, r: Record, by: Holder) -> Placed
+    ensures { result ≡ put_of s r by.slot by.copies }
 {
     let i = seat(s, r);
     if i >= 512 {
@@ -142,32 +140,33 @@ fn put(s: Store, r: Record, holder: usize, copies: u64) -> Placed
     }
     let h = Held {
         original: r,
-        holder,
-        copies,
+        holder: by.slot,
+        copies: by.copies,
     };
     Placed {
-        reply: Reply::Accepted,
+        reply: Ok(()),
         store: kept(s, i, h),
     }
 }
 
 // A record whose key and table are looked at already.
+#[tactic(auto, unfolding(water::specs::Water::place_by))]
 fn place_by(w: Holding, s: Store, r: Record) -> Placed
     ensures { result ≡ place_by w s r }
 {
     match w {
-        Holding::NotAsked(_) => refused(s, Why::Invalid),
-        Holding::OutOfRange => refused(s, Why::OutOfRange),
-        Holding::Unsettled => {
+        Err(Unheld::NotAsked(_)) => refused(s, Why::Invalid),
+        Err(Unheld::OutOfRange) => refused(s, Why::OutOfRange),
+        Err(Unheld::Unsettled) => {
             if in_range(r) {
                 refused(s, Why::Unsettled)
             } else {
                 refused(s, Why::OutOfRange)
             }
         }
-        Holding::By(holder, copies) => {
+        Ok(by) => {
             if in_range(r) {
-                put(s, r, holder, copies)
+                put(s, r, by)
             } else {
                 refused(s, Why::OutOfRange)
             }
@@ -184,7 +183,7 @@ pub fn place(t: Table, p: Pool, len: usize, s: Store, r: Record) -> Placed
 }
 
 // What is held of a key and month.
-pub fn look_up(s: Store, key: u64, month: u32) -> Looked
+pub fn look_up(s: Store, key: u64, month: u32) -> Option<Held>
     ensures { LookUp s key month result }
 {
     let r = Record {
@@ -196,10 +195,9 @@ pub fn look_up(s: Store, key: u64, month: u32) -> Looked
     };
     let i = seat(s, r);
     if i < held_count(s.count) {
-        let h = s.places[i];
-        Looked::At(h)
+        Some(s.places[i])
     } else {
-        Looked::Nothing
+        None
     }
 }
 
@@ -209,12 +207,10 @@ pub fn sum(s: Store) -> i64
 {
     let n = held_count(s.count);
     let mut out: i64 = 0;
-    let mut i: usize = 0;
-    while i < n {
+    for i in 0..n {
         let h = s.places[i];
         let r = h.original;
         out += difference(r);
-        i += 1;
     }
     out
 }

@@ -1,47 +1,29 @@
-// Parts of nodes and messages, the tests of a status, and 01's numbers.
+// Parts of nodes and messages, the tests of a status, and 01's numbers, which stand in the types.
 #![tactic(auto)]
 
 ghost use Rattle.std.specs.Prelude.{◌≡◌, ℕ};
 ghost use Rattle.rules.specs.Numbers.{status_number, answer_number, via_number};
 ghost use Rattle.rules.specs.Nodes.{sides_of, carried_of, placed};
-ghost use Rattle.rules.specs.Plans.{is_dead, is_wait, is_ok, is_ready, is_up, with_status, with_leases, with_probing, with_sides, quiet_plan, send_by, send_plan};
+ghost use Rattle.rules.specs.Plans.{is_up, with_status, with_leases, with_probing, with_sides, quiet_plan, send_by, send_plan};
 ghost use Rattle.rules.specs.Pool.{blank};
 ghost use Rattle.rules.specs.Letters.{letter, no_sides};
 
-use marks::Found;
-use rules::{Answer, Message, Node, Plan, Refusal, Sides, Status, Via};
+use rules::{Message, Node, Plan, Refusal, Sides, Status, Via};
 
 // 01's number of a status.
 pub fn status_number(s: Status) -> u32
     ensures { result ≡ status_number s }
 {
-    match s {
-        Status::Dead => 0,
-        Status::Wait => 1,
-        Status::Ok => 2,
-        Status::Ready => 3,
-    }
+    s as u32
 }
 
 // 01's number of an answer.
-pub fn answer_number(a: Answer) -> u32
+pub fn answer_number(a: Result<(), Refusal>) -> u32
     ensures { result ≡ answer_number a }
 {
     match a {
-        Answer::Done => 0,
-        Answer::Refused(why) => match why {
-            Refusal::OutOfRange => 1,
-            Refusal::Status => 2,
-            Refusal::Waits => 3,
-            Refusal::LeafSet => 4,
-            Refusal::Partner => 5,
-            Refusal::Full => 6,
-            Refusal::Short => 7,
-            Refusal::Header => 8,
-            Refusal::Offsets => 9,
-            Refusal::Invalid => 10,
-            Refusal::NoRoom => 11,
-        },
+        Ok(()) => 0,
+        Err(why) => why as u32,
     }
 }
 
@@ -49,11 +31,7 @@ pub fn answer_number(a: Answer) -> u32
 pub fn via_number(via: Via) -> u32
     ensures { result ≡ via_number via }
 {
-    match via {
-        Via::Unrouted => 0,
-        Via::Leaf => 108,
-        Via::Routing => 114,
-    }
+    via as u32
 }
 
 pub fn sides_of(v: Node) -> Sides
@@ -99,60 +77,11 @@ pub fn blank_message() -> Message
     }
 }
 
-pub fn is_dead(s: Status) -> bool
-    ensures { result ≡ is_dead s }
-{
-    match s {
-        Status::Dead => true,
-        Status::Wait => false,
-        Status::Ok => false,
-        Status::Ready => false,
-    }
-}
-
-pub fn is_wait(s: Status) -> bool
-    ensures { result ≡ is_wait s }
-{
-    match s {
-        Status::Dead => false,
-        Status::Wait => true,
-        Status::Ok => false,
-        Status::Ready => false,
-    }
-}
-
-pub fn is_ok(s: Status) -> bool
-    ensures { result ≡ is_ok s }
-{
-    match s {
-        Status::Dead => false,
-        Status::Wait => false,
-        Status::Ok => true,
-        Status::Ready => false,
-    }
-}
-
-pub fn is_ready(s: Status) -> bool
-    ensures { result ≡ is_ready s }
-{
-    match s {
-        Status::Dead => false,
-        Status::Wait => false,
-        Status::Ok => false,
-        Status::Ready => true,
-    }
-}
-
 // Ok or ready.
 pub fn is_up(s: Status) -> bool
     ensures { result ≡ is_up s }
 {
-    match s {
-        Status::Dead => false,
-        Status::Wait => false,
-        Status::Ok => true,
-        Status::Ready => true,
-    }
+    matches!(s, Status::Ok | Status::Ready)
 }
 
 pub fn with_status(v: Node, s: Status) -> Node
@@ -229,7 +158,7 @@ pub fn quiet_plan(v: Node) -> Plan
     Plan {
         node: v,
         first: none,
-        to: Found::Nothing,
+        to: None,
         each: none,
         all: 0,
         via: Via::Unrouted,
@@ -244,7 +173,7 @@ pub fn send_by(via: Via, v: Node, m: Message, s: usize) -> Plan
     Plan {
         node: v,
         first: m,
-        to: Found::At(s),
+        to: Some(s),
         each: none,
         all: 0,
         via,

@@ -1,4 +1,5 @@
 -- The loop of `best`: members below some slot b are looked at, and rest holds those from b on. Taking the lowest of rest passes over no member. Assumes nothing.
+use Rattle.std.specs.Prelude.{Some, None}
 use mathlib.Core.Path.{◌≡◌, refl, sym, ◌∙◌, ap}
 use mathlib.Core.Logic.{◌⊎◌, inl, inr}
 use mathlib.Core.Bool.{Bool, true, false, ◌&&◌, not}
@@ -6,11 +7,9 @@ use Prim.Native.Nat.{ℕ, ◌+◌, ◌^◌, ◌<◌, ◌≤◌}
 use native.Mathlib.Omega.{arith}
 use lib.Dec.{leb, eqb}
 use borrow.Author.Tests.{le-leb, lt-leb, eq-eqb, ne_eqb, leb-true}
-use Rattle.marks.specs.Marks.{has, remove_of, lowest_of, size_of}
+use Rattle.marks.specs.Marks.{has, remove_of, lowest_of, size_of, Found}
 use Rattle.marks.proofs.Bools.{and_left, and_right, and_both, bool_false, opposed, lt-or-le, eq-or-ne}
 use Rattle.marks.proofs.Laws.{First, has-remove, lowest-found, lowest-none, has-zero, size-remove, remove-below}
-use Rattle.marks.specs.declared.Found.{Found}
-use Rattle.marks.specs.declared.Found.TheVariants.{At, Nothing}
 use Rattle.rules.specs.Pick.{better_of, best}
 use Rattle.rules_laws.proofs.Best.{best-took, best-skip}
 
@@ -26,7 +25,7 @@ and-true true = refl
 and-true false = refl
 
 module _ (ahead : ℕ → ℕ → Bool) (set : ℕ) where
-  pub look-begin : set < 2 ^ 64 → Looked ahead set Nothing set
+  pub look-begin : set < 2 ^ 64 → Looked ahead set None set
   unfolding best
   look-begin l =
       record {
@@ -39,7 +38,7 @@ module _ (ahead : ℕ → ℕ → Bool) (set : ℕ) where
 
   module _ (found : Found) (rest : ℕ) (k : Looked ahead set found rest) where
     -- no member is left: all were looked at
-    pub look-end : lowest_of rest ≡ Nothing → found ≡ best ahead (has set) 64
+    pub look-end : lowest_of rest ≡ None → found ≡ best ahead (has set) 64
     look-end e = k.same ∙ sym (best-skip ahead (has set) k.upto 64 k.high none)
       where
         none : (s : ℕ) → k.upto ≤ s → s < 64 → has set s ≡ false
@@ -47,7 +46,7 @@ module _ (ahead : ℕ → ℕ → Bool) (set : ℕ) where
             let z : rest ≡ 0 = lowest-none rest k.fits e in
             bool_false (has set s) (λ t. opposed (k.left s b ∙ and_both t (le-leb k.upto s a)) (ap (λ (r : ℕ). has r s) z ∙ has-zero s))
 
-    module _ (s : ℕ) (e : lowest_of rest ≡ At s) where
+    module _ (s : ℕ) (e : lowest_of rest ≡ Some s) where
       at : First 64 (has rest) s
       at = lowest-found rest s e
 

@@ -5,7 +5,6 @@ ghost use Rattle.std.specs.Prelude.{◌≡◌, ℕ, ◌^◌, ◌<◌, ◌≤◌}
 ghost use Rattle.rules.specs.InnerAsks.{Keyed, Below};
 ghost use Rattle.rules.specs.Pick.{ahead_of, better_of, best_of};
 
-use marks::Found;
 use rules::Way;
 
 // Does slot s come before slot b?
@@ -25,34 +24,31 @@ fn ahead(w: Way, m: u32, k: u32, ids: &[u32; 64], s: usize, b: usize) -> bool
 }
 
 // Slot s in the place of what was found before, where it comes before it.
-fn better(w: Way, m: u32, k: u32, ids: &[u32; 64], found: Found, s: usize) -> Found
+fn better(w: Way, m: u32, k: u32, ids: &[u32; 64], found: Option<usize>, s: usize) -> Option<usize>
     requires { Keyed m k ids.now × (s < 64) × Below found 64 }
     ensures { result ≡ better_of (ahead_of w (2 ^ m) k ids.now) found s }
 {
     match found {
-        Found::At(b) => {
+        Some(b) => {
             if ahead(w, m, k, ids, s, b) {
-                Found::At(s)
+                Some(s)
             } else {
-                Found::At(b)
+                Some(b)
             }
         }
-        Found::Nothing => Found::At(s),
+        None => Some(s),
     }
 }
 
-// The best slot of a set. Only its members are looked at.
-pub fn best(w: Way, m: u32, k: u32, ids: &[u32; 64], set: u64) -> Found
+// The best slot of a set. Only its members are looked at, each taken out in its turn: an iterator over marks would be a type and a contract more for this loop and
+// the step's, and no plainer.
+pub fn best(w: Way, m: u32, k: u32, ids: &[u32; 64], set: u64) -> Option<usize>
     requires { Keyed m k ids.now }
     ensures { result ≡ best_of w (2 ^ m) k ids.now set }
 {
-    let mut found = Found::Nothing;
+    let mut found = None;
     let mut rest = set;
-    'members: loop {
-        let next = marks::lowest(rest);
-        let Found::At(s) = next else {
-            break 'members;
-        };
+    while let Some(s) = marks::lowest(rest) {
         found = better(w, m, k, ids, found, s);
         rest = marks::removed(rest, s);
     }

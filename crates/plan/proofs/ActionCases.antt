@@ -1,4 +1,5 @@
 -- The plans of the actions other than Take, computed by the checker: each refusal, the lowest where two apply, and what is done. Assumes nothing.
+use Rattle.rules.specs.Shapes.{Planned}
 use mathlib.Core.Path.{◌≡◌, refl}
 use mathlib.Core.Bool.{Bool, true, false}
 use mathlib.Core.List.{List, [], ◌∷◌}
@@ -7,7 +8,6 @@ use Rattle.rules.specs.declared.Status.{Status}
 use Rattle.rules.specs.declared.Status.TheVariants.{Dead, Wait, Ok, Ready}
 use Rattle.rules.specs.declared.Node.{Node}
 use Rattle.rules.specs.declared.Message.{Message}
-use Rattle.rules.specs.declared.Planned.{Planned}
 use Rattle.rules.specs.Nodes.{placed}
 use Rattle.rules.specs.Letters.{lookup, join_request, lease_request}
 use Rattle.plan.specs.Actions.{plan_lookup, plan_join, plan_request_lease, plan_lease_expired, plan_grant_expired}

@@ -1,5 +1,6 @@
 -- The departures and repairs of T-03, computed by the checker on six nodes: each refusal, the lowest where two apply, and what is done. But for ResignNode the node is
 -- 10 in slot 0, with 40, 80, 120, 160 and 200 up the ring, in slots 1 to 5. Assumes nothing.
+use Rattle.rules.specs.Shapes.{Planned}
 use mathlib.Core.Path.{◌≡◌, refl}
 use mathlib.Core.Bool.{Bool, true, false}
 use mathlib.Core.List.{List, [], ◌∷◌}
@@ -8,7 +9,6 @@ use Rattle.rules.specs.declared.Status.{Status}
 use Rattle.rules.specs.declared.Status.TheVariants.{Dead, Wait, Ok, Ready}
 use Rattle.rules.specs.declared.Node.{Node}
 use Rattle.rules.specs.declared.Message.{Message}
-use Rattle.rules.specs.declared.Planned.{Planned}
 use Rattle.rules.specs.Nodes.{placed}
 use Rattle.rules.specs.Letters.{join_request, ls_probe}
 use Rattle.plan.specs.Leave.{plan_node_left, plan_suspect_faulty, plan_probe_time_out, plan_declare_dead, plan_ls_repair, plan_resign_node, plan_recover}

@@ -1,14 +1,14 @@
 -- Answers for the computed cases, in the small rings of rules. Definitions only. Assumes nothing.
+use Rattle.rules.specs.Shapes.{Planned}
+use Rattle.std.specs.Prelude.{Ok, Err}
 use mathlib.Core.List.{List, [], ◌∷◌}
 use Prim.Native.Nat.{ℕ}
 use Rattle.rules.specs.declared.Status.{Status}
-use Rattle.rules.specs.declared.Status.TheVariants.{Dead, Wait, Ok, Ready}
+use Rattle.rules.specs.declared.Status.TheVariants as is
 use Rattle.rules.specs.declared.Node.{Node}
 use Rattle.rules.specs.declared.Message.{Message}
-use Rattle.rules.specs.declared.Planned.{Planned}
 use Rattle.rules.specs.declared.Via.{Via}
 use Rattle.rules.specs.declared.Via.TheVariants.{Unrouted}
-use Rattle.rules.specs.declared.Planned.TheVariants.{No, Go}
 use Rattle.rules.specs.Numbers.{refusal_number}
 use Rattle.rules.specs.Nodes.{no_node}
 use Rattle.rules.specs.Plans.{mailed}
@@ -25,19 +25,19 @@ opened = tt
 
 -- the number of a plan: 0 where it is made
 abbrev pub number_of : Planned → ℕ
-number_of (No why) = refusal_number why
-number_of (Go x) = 0
+number_of (Err why) = refusal_number why
+number_of (Ok x) = 0
 
 -- the numbers at each status: dead, wait, ok, ready
 abbrev pub at_each : (Status → Planned) → List ℕ
-at_each f = number_of (f Dead) ∷ number_of (f Wait) ∷ number_of (f Ok) ∷ number_of (f Ready) ∷ []
+at_each f = number_of (f is.Dead) ∷ number_of (f is.Wait) ∷ number_of (f is.Ok) ∷ number_of (f is.Ready) ∷ []
 
 -- what a plan leaves of its node, and what it adds where nothing waits, in order
 abbrev pub made : Planned → Node × List Message
-made (No why) = (no_node, [])
-made (Go x) = (x.node, mailed x [])
+made (Err why) = (no_node, [])
+made (Ok x) = (x.node, mailed x [])
 
 -- where a plan says that the next hop came from
 abbrev pub said_by : Planned → Via
-said_by (No why) = Unrouted
-said_by (Go x) = x.via
+said_by (Err why) = Unrouted
+said_by (Ok x) = x.via

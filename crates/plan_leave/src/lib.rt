@@ -3,15 +3,13 @@
 
 ghost use Rattle.std.specs.Prelude.{◌≡◌, ◌<◌};
 ghost use Rattle.marks.specs.Marks.{has};
-ghost use Rattle.rules.specs.InnerAsks.{Listed};
 ghost use Rattle.rules.specs.Leaf.{content_of};
 ghost use Rattle.rules.specs.Nodes.{sides_of};
 ghost use Rattle.plan.specs.Leave.{plan_node_left, probing_plan, plan_suspect_faulty, timed_out, without_member, after_time_out, plan_probe_time_out};
 ghost use Rattle.plan.specs.Leave.{plan_declare_dead, lacks_side, lacks_both, ends_to_probe, plan_ls_repair, plan_resign_node, last_end, plan_recover};
 ghost use Rattle.plan.specs.Leave.{emptied as emptied_of};
 
-use marks::Found;
-use rules::{Node, Plan, Planned, Refusal, Ring, Sides, Status, Via, Way};
+use rules::{Node, Plan, Refusal, Roster, Sides, Status, Via, Way};
 
 // The node with all sets empty, but for the routing set.
 pub fn emptied(v: Node, st: Status, routing: u64) -> Node
@@ -31,14 +29,14 @@ pub fn emptied(v: Node, st: Status, routing: u64) -> Node
 }
 
 // NodeLeft(i).
-pub fn plan_node_left(v: Node) -> Planned
+#[tactic(auto, using(rules::proofs::Statuses::statuses), unfolding(plan::specs::Leave::plan_node_left))]
+pub fn plan_node_left(v: Node) -> Result<Plan, Refusal>
     ensures { result ≡ plan_node_left v }
 {
-    let st = v.status;
-    if parts::is_dead(st) {
-        return Planned::No(Refusal::Status);
+    if v.status == Status::Dead {
+        return Err(Refusal::Status);
     }
-    Planned::Go(parts::quiet_plan(emptied(v, Status::Dead, 0)))
+    Ok(parts::quiet_plan(emptied(v, Status::Dead, 0)))
 }
 
 // The nodes of a set are probed by node i.
@@ -51,7 +49,7 @@ pub fn probing_plan(i: u32, v: Node, set: u64) -> Plan
     Plan {
         node,
         first,
-        to: Found::Nothing,
+        to: None,
         each,
         all: set,
         via: Via::Unrouted,
@@ -66,19 +64,19 @@ pub fn is_member(i: usize, v: Node, j: usize) -> bool
 }
 
 // SuspectFaulty(i, j).
-pub fn plan_suspect_faulty(i: usize, v: Node, j: usize) -> Planned
+#[tactic(auto, unfolding(plan::specs::Leave::plan_suspect_faulty))]
+pub fn plan_suspect_faulty(i: usize, v: Node, j: usize) -> Result<Plan, Refusal>
     requires { i < 64 }
     ensures { result ≡ plan_suspect_faulty i v j }
 {
-    let st = v.status;
-    if !parts::is_up(st) {
-        return Planned::No(Refusal::Status);
+    if !parts::is_up(v.status) {
+        return Err(Refusal::Status);
     }
     let known = marks::is_in(v.probing, j) | marks::is_in(v.failed, j);
     if (i == j) | (!is_member(i, v, j) | known) {
-        return Planned::No(Refusal::Partner);
+        return Err(Refusal::Partner);
     }
-    Planned::Go(probing_plan(i as u32, v, marks::of_one(j)))
+    Ok(probing_plan(i as u32, v, marks::of_one(j)))
 }
 
 // The node whose probe of j has timed out: j leaves probing and lease and enters failed.
@@ -118,34 +116,34 @@ pub fn after_time_out(i: usize, v: Node, j: usize) -> Node
 }
 
 // ProbeTimeOut(i, j). The waiting probes go by `pool::without_probes`.
-pub fn plan_probe_time_out(i: usize, v: Node, j: usize) -> Planned
+#[tactic(auto, using(rules::proofs::Statuses::statuses), unfolding(plan::specs::Leave::plan_probe_time_out))]
+pub fn plan_probe_time_out(i: usize, v: Node, j: usize) -> Result<Plan, Refusal>
     ensures { result ≡ plan_probe_time_out i v j }
 {
-    let st = v.status;
-    if parts::is_dead(st) {
-        return Planned::No(Refusal::Status);
+    if v.status == Status::Dead {
+        return Err(Refusal::Status);
     }
     if (i == j) | !marks::is_in(v.probing, j) {
-        return Planned::No(Refusal::Partner);
+        return Err(Refusal::Partner);
     }
-    Planned::Go(parts::quiet_plan(after_time_out(i, v, j)))
+    Ok(parts::quiet_plan(after_time_out(i, v, j)))
 }
 
 // DeclareDead(i, j).
-pub fn plan_declare_dead(g: Ring, ids: &[u32; 64], i: usize, v: Node, j: usize) -> Planned
-    requires { Listed g ids.now × (i < 64) }
-    ensures { result ≡ plan_declare_dead g ids.now i v j }
+#[tactic(auto, unfolding(plan::specs::Leave::plan_declare_dead))]
+pub fn plan_declare_dead(r: &Roster, i: usize, v: Node, j: usize) -> Result<Plan, Refusal>
+    requires { i < 64 }
+    ensures { result ≡ plan_declare_dead r.now.ring r.now.ids i v j }
 {
-    let st = v.status;
-    if !parts::is_up(st) {
-        return Planned::No(Refusal::Status);
+    if !parts::is_up(v.status) {
+        return Err(Refusal::Status);
     }
     let there = marks::is_in(v.failed, j) & is_member(i, v, j);
-    let held = plan_lease::neighbours(g, ids, i, v, j) & marks::is_in(v.grant, j);
+    let held = plan_lease::neighbours(r, i, v, j) & marks::is_in(v.grant, j);
     if !there | held {
-        return Planned::No(Refusal::Partner);
+        return Err(Refusal::Partner);
     }
-    Planned::Go(parts::quiet_plan(without_member(v, j)))
+    Ok(parts::quiet_plan(without_member(v, j)))
 }
 
 // Is a side of the node empty?
@@ -163,13 +161,14 @@ pub fn lacks_both(v: Node) -> bool
 }
 
 // The ends of the short sides.
-fn ends_to_probe(g: Ring, ids: &[u32; 64], i: usize, s: Sides) -> u64
-    requires { Listed g ids.now × (i < 64) }
-    ensures { result ≡ ends_to_probe g ids.now i s }
+#[tactic(auto, unfolding(plan::specs::Leave::ends_to_probe))]
+fn ends_to_probe(r: &Roster, i: usize, s: Sides) -> u64
+    requires { i < 64 }
+    ensures { result ≡ ends_to_probe r.now.ring r.now.ids i s }
 {
-    let lm = marks::of_one(leaf::seen(Way::FarUp, g, ids, i, s.left));
-    let rm = marks::of_one(leaf::seen(Way::FarDown, g, ids, i, s.right));
-    let most = g.l;
+    let lm = marks::of_one(leaf::seen(Way::FarUp, r, i, s.left));
+    let rm = marks::of_one(leaf::seen(Way::FarDown, r, i, s.right));
+    let most = r.ring.l;
     let left = marks::count(s.left);
     let right = marks::count(s.right);
     if (left < most) & (right < most) {
@@ -183,76 +182,77 @@ fn ends_to_probe(g: Ring, ids: &[u32; 64], i: usize, s: Sides) -> u64
 }
 
 // LSRepair(i).
-pub fn plan_ls_repair(g: Ring, ids: &[u32; 64], i: usize, v: Node) -> Planned
-    requires { Listed g ids.now × (i < 64) }
-    ensures { result ≡ plan_ls_repair g ids.now i v }
+#[tactic(auto, using(rules::proofs::Statuses::statuses), unfolding(plan::specs::Leave::plan_ls_repair))]
+pub fn plan_ls_repair(r: &Roster, i: usize, v: Node) -> Result<Plan, Refusal>
+    requires { i < 64 }
+    ensures { result ≡ plan_ls_repair r.now.ring r.now.ids i v }
 {
-    let st = v.status;
-    if !parts::is_wait(st) {
-        return Planned::No(Refusal::Status);
+    if v.status != Status::Wait {
+        return Err(Refusal::Status);
     }
     let s = parts::sides_of(v);
-    if lacks_side(v) | leaf::complete(g, s) {
-        return Planned::No(Refusal::LeafSet);
+    if lacks_side(v) | leaf::complete(r.ring, s) {
+        return Err(Refusal::LeafSet);
     }
     if v.probing != 0 {
-        return Planned::No(Refusal::Partner);
+        return Err(Refusal::Partner);
     }
-    let ends = ends_to_probe(g, ids, i, s);
-    Planned::Go(probing_plan(i as u32, v, ends))
+    let ends = ends_to_probe(r, i, s);
+    Ok(probing_plan(i as u32, v, ends))
 }
 
 // ResignNode(i, n): `waits` says whether a JoinReply to i waits, and u is the node of n.
-pub fn plan_resign_node(waits: bool, i: usize, v: Node, n: usize, u: Node) -> Planned
+#[tactic(auto, using(rules::proofs::Statuses::statuses), unfolding(plan::specs::Leave::plan_resign_node))]
+pub fn plan_resign_node(waits: bool, i: usize, v: Node, n: usize, u: Node) -> Result<Plan, Refusal>
     requires { i < 64 }
     ensures { result ≡ plan_resign_node waits i v n u }
 {
     let st = v.status;
-    let other = u.status;
-    if !(parts::is_wait(st) & parts::is_ready(other)) {
-        return Planned::No(Refusal::Status);
+    if !((st == Status::Wait) & (u.status == Status::Ready)) {
+        return Err(Refusal::Status);
     }
     if waits {
-        return Planned::No(Refusal::Waits);
+        return Err(Refusal::Waits);
     }
     if !lacks_side(v) {
-        return Planned::No(Refusal::LeafSet);
+        return Err(Refusal::LeafSet);
     }
     if v.probing != 0 {
-        return Planned::No(Refusal::Partner);
+        return Err(Refusal::Partner);
     }
     let node = emptied(v, st, marks::of_one(i));
     let request = plan_route::join_request(i as u32, 0);
-    Planned::Go(parts::send_plan(node, request, n))
+    Ok(parts::send_plan(node, request, n))
 }
 
 // The far end of the side that is not empty.
-fn last_end(g: Ring, ids: &[u32; 64], i: usize, s: Sides) -> usize
-    requires { Listed g ids.now × (i < 64) }
-    ensures { result ≡ last_end g ids.now i s }
+#[tactic(auto, unfolding(plan::specs::Leave::last_end))]
+fn last_end(r: &Roster, i: usize, s: Sides) -> usize
+    requires { i < 64 }
+    ensures { result ≡ last_end r.now.ring r.now.ids i s }
 {
     if marks::count(s.left) == 0 {
-        leaf::seen(Way::FarDown, g, ids, i, s.right)
+        leaf::seen(Way::FarDown, r, i, s.right)
     } else {
-        leaf::seen(Way::FarUp, g, ids, i, s.left)
+        leaf::seen(Way::FarUp, r, i, s.left)
     }
 }
 
 // Recover(i): `up` says whether some node is ok or ready.
-pub fn plan_recover(up: bool, g: Ring, ids: &[u32; 64], i: usize, v: Node) -> Planned
-    requires { Listed g ids.now × (i < 64) }
-    ensures { result ≡ plan_recover up g ids.now i v }
+#[tactic(auto, using(rules::proofs::Statuses::statuses), unfolding(plan::specs::Leave::plan_recover))]
+pub fn plan_recover(up: bool, r: &Roster, i: usize, v: Node) -> Result<Plan, Refusal>
+    requires { i < 64 }
+    ensures { result ≡ plan_recover up r.now.ring r.now.ids i v }
 {
-    let st = v.status;
-    if !parts::is_wait(st) | up {
-        return Planned::No(Refusal::Status);
+    if (v.status != Status::Wait) | up {
+        return Err(Refusal::Status);
     }
     if !lacks_side(v) | lacks_both(v) {
-        return Planned::No(Refusal::LeafSet);
+        return Err(Refusal::LeafSet);
     }
     if v.probing != 0 {
-        return Planned::No(Refusal::Partner);
+        return Err(Refusal::Partner);
     }
-    let end = last_end(g, ids, i, parts::sides_of(v));
-    Planned::Go(probing_plan(i as u32, v, marks::of_one(end)))
+    let end = last_end(r, i, parts::sides_of(v));
+    Ok(probing_plan(i as u32, v, marks::of_one(end)))
 }

@@ -1,16 +1,14 @@
 // The taking of a JoinReply (kind 3), an LSProbe (kind 4) and an LSProbeReply (kind 5).
 #![tactic(auto)]
 
-ghost use Rattle.std.specs.Prelude.{◌≡◌, ℕ, ◌<◌};
-ghost use Rattle.rules.specs.InnerAsks.{Listed};
+ghost use Rattle.std.specs.Prelude.{◌≡◌, ◌<◌};
 ghost use Rattle.rules.specs.Letters.{ls_probe, ls_probe_reply};
 ghost use Rattle.rules.specs.Leaf.{content_of};
 ghost use Rattle.rules.specs.Nodes.{carried_of};
 ghost use Rattle.take.specs.Take.{join_reply_plan, plan_take_join_reply, probes2, probes_of, learnt_node, waits_empty, probe_plan_of, plan_take_probe};
 ghost use Rattle.take.specs.Take.{still_probing, status_after_reply, reply_plan_of, plan_take_probe_reply};
 
-use marks::Found;
-use rules::{Message, Node, Plan, Planned, Refusal, Ring, Sides, Status, Via};
+use rules::{Message, Node, Plan, Refusal, Ring, Roster, Sides, Status, Via};
 
 pub fn ls_probe(i: u32, s: Sides, failed: u64) -> Message
     ensures { result ≡ ls_probe i s failed }
@@ -50,7 +48,7 @@ pub fn join_reply_plan(i: u32, v: Node, routing: u64, content: u64, s: Sides) ->
     Plan {
         node,
         first,
-        to: Found::Nothing,
+        to: None,
         each,
         all: probing,
         via: Via::Unrouted,
@@ -58,42 +56,44 @@ pub fn join_reply_plan(i: u32, v: Node, routing: u64, content: u64, s: Sides) ->
 }
 
 // The taking of a JoinReply at node i.
-pub fn plan_take_join_reply(g: Ring, ids: &[u32; 64], i: usize, v: Node, m: Message) -> Planned
-    requires { Listed g ids.now × (i < g.n) }
-    ensures { result ≡ plan_take_join_reply g ids.now i v m }
+#[tactic(auto, using(rules::proofs::Statuses::statuses), unfolding(take::specs::Take::plan_take_join_reply))]
+pub fn plan_take_join_reply(r: &Roster, i: usize, v: Node, m: Message) -> Result<Plan, Refusal>
+    requires { i < r.now.ring.n }
+    ensures { result ≡ plan_take_join_reply r.now.ring r.now.ids i v m }
 {
-    let st = v.status;
-    if parts::is_dead(st) {
-        return Planned::No(Refusal::Status);
+    if v.status == Status::Dead {
+        return Err(Refusal::Status);
     }
     let own = parts::sides_of(v);
     if !leaf::empty(own) {
-        return Planned::No(Refusal::LeafSet);
+        return Err(Refusal::LeafSet);
     }
     if v.probing != 0 {
-        return Planned::No(Refusal::Partner);
+        return Err(Refusal::Partner);
     }
     let content = told(m);
-    let s = leaf::with_set(g, ids, i, own, content);
-    Planned::Go(join_reply_plan(i as u32, v, m.routing, content, s))
+    let s = leaf::with_set(r, i, own, content);
+    Ok(join_reply_plan(i as u32, v, m.routing, content, s))
 }
 
 // P2: what the message's content, without f, would bring into the leaf set s.
-fn news(g: Ring, ids: &[u32; 64], i: usize, s: Sides, f: u64, m: Message) -> u64
-    requires { Listed g ids.now × (i < g.n) }
-    ensures { result ≡ probes2 g ids.now i s f m }
+#[tactic(auto, unfolding(take::specs::Take::probes2))]
+fn news(r: &Roster, i: usize, s: Sides, f: u64, m: Message) -> u64
+    requires { i < r.now.ring.n }
+    ensures { result ≡ probes2 r.now.ring r.now.ids i s f m }
 {
-    let next = leaf::with_set(g, ids, i, s, marks::less(told(m), f));
+    let next = leaf::with_set(r, i, s, marks::less(told(m), f));
     marks::less(leaf::content(next, i), leaf::content(s, i))
 }
 
 // P: whom node i, with the leaf set s and the failed set f, is to probe.
-fn probes(g: Ring, ids: &[u32; 64], i: usize, v: Node, s: Sides, f: u64, m: Message) -> u64
-    requires { Listed g ids.now × (i < g.n) }
-    ensures { result ≡ probes_of g ids.now i v s f m }
+#[tactic(auto, unfolding(take::specs::Take::probes_of))]
+fn probes(r: &Roster, i: usize, v: Node, s: Sides, f: u64, m: Message) -> u64
+    requires { i < r.now.ring.n }
+    ensures { result ≡ probes_of r.now.ring r.now.ids i v s f m }
 {
     let p1 = marks::both(leaf::content(s, i), m.failed);
-    let p2 = news(g, ids, i, s, f, m);
+    let p2 = news(r, i, s, f, m);
     let off = marks::joined(v.probing, f);
     marks::removed(marks::less(marks::joined(p1, p2), off), i)
 }
@@ -115,22 +115,23 @@ pub fn learnt(v: Node, j: usize, s: Sides, f: u64, probing: u64, st: Status) -> 
 }
 
 // Does the node wait with an empty leaf set?
+#[tactic(auto, using(rules::proofs::Statuses::statuses))]
 pub fn waits_empty(v: Node) -> bool
     ensures { result ≡ waits_empty v }
 {
-    let st = v.status;
-    parts::is_wait(st) & leaf::empty(parts::sides_of(v))
+    (v.status == Status::Wait) & leaf::empty(parts::sides_of(v))
 }
 
-fn probe_plan(g: Ring, ids: &[u32; 64], i: usize, v: Node, m: Message) -> Plan
-    requires { Listed g ids.now × (i < g.n) }
-    ensures { result ≡ probe_plan_of g ids.now i v m }
+#[tactic(auto, unfolding(take::specs::Take::probe_plan_of))]
+fn probe_plan(r: &Roster, i: usize, v: Node, m: Message) -> Plan
+    requires { i < r.now.ring.n }
+    ensures { result ≡ probe_plan_of r.now.ring r.now.ids i v m }
 {
     let own = i as u32;
     let j = m.word as usize;
     let f = marks::removed(v.failed, j);
-    let s = leaf::with_one(g, ids, i, parts::sides_of(v), j);
-    let p = probes(g, ids, i, v, s, f, m);
+    let s = leaf::with_one(r, i, parts::sides_of(v), j);
+    let p = probes(r, i, v, s, f, m);
     let st = v.status;
     let node = learnt(v, j, s, f, marks::joined(v.probing, p), st);
     let first = ls_probe_reply(own, s, f);
@@ -138,7 +139,7 @@ fn probe_plan(g: Ring, ids: &[u32; 64], i: usize, v: Node, m: Message) -> Plan
     Plan {
         node,
         first,
-        to: Found::At(j),
+        to: Some(j),
         each,
         all: p,
         via: Via::Unrouted,
@@ -146,21 +147,21 @@ fn probe_plan(g: Ring, ids: &[u32; 64], i: usize, v: Node, m: Message) -> Plan
 }
 
 // The taking of an LSProbe at node i.
-pub fn plan_take_probe(g: Ring, ids: &[u32; 64], i: usize, v: Node, m: Message) -> Planned
-    requires { Listed g ids.now × (i < g.n) }
-    ensures { result ≡ plan_take_probe g ids.now i v m }
+#[tactic(auto, using(rules::proofs::Statuses::statuses), unfolding(take::specs::Take::plan_take_probe))]
+pub fn plan_take_probe(r: &Roster, i: usize, v: Node, m: Message) -> Result<Plan, Refusal>
+    requires { i < r.now.ring.n }
+    ensures { result ≡ plan_take_probe r.now.ring r.now.ids i v m }
 {
-    let st = v.status;
-    if parts::is_dead(st) {
-        return Planned::No(Refusal::Status);
+    if v.status == Status::Dead {
+        return Err(Refusal::Status);
     }
     if waits_empty(v) {
-        return Planned::No(Refusal::LeafSet);
+        return Err(Refusal::LeafSet);
     }
     if m.word == i as u32 {
-        return Planned::No(Refusal::Partner);
+        return Err(Refusal::Partner);
     }
-    Planned::Go(probe_plan(g, ids, i, v, m))
+    Ok(probe_plan(r, i, v, m))
 }
 
 // What is left to probe.
@@ -171,35 +172,36 @@ pub fn still(v: Node, p: u64, j: usize) -> u64
 }
 
 // A waiting node with nothing left to probe, whose sides overlap or are complete, becomes ok.
+#[tactic(auto, using(rules::proofs::Statuses::statuses), unfolding(take::specs::Take::status_after_reply))]
 pub fn status_after(g: Ring, st: Status, s: Sides, probing: u64) -> Status
     ensures { result ≡ status_after_reply g st s probing }
 {
-    if parts::is_wait(st) & ((probing == 0) & (leaf::overlap(s) | leaf::complete(g, s))) {
+    if (st == Status::Wait) & ((probing == 0) & (leaf::overlap(s) | leaf::complete(g, s))) {
         Status::Ok
     } else {
         st
     }
 }
 
-fn reply_plan(g: Ring, ids: &[u32; 64], i: usize, v: Node, m: Message) -> Plan
-    requires { Listed g ids.now × (i < g.n) }
-    ensures { result ≡ reply_plan_of g ids.now i v m }
+#[tactic(auto, unfolding(take::specs::Take::reply_plan_of))]
+fn reply_plan(r: &Roster, i: usize, v: Node, m: Message) -> Plan
+    requires { i < r.now.ring.n }
+    ensures { result ≡ reply_plan_of r.now.ring r.now.ids i v m }
 {
     let own = i as u32;
     let j = m.word as usize;
     let f = marks::removed(v.failed, j);
-    let s = leaf::with_one(g, ids, i, parts::sides_of(v), j);
-    let p = probes(g, ids, i, v, s, f, m);
+    let s = leaf::with_one(r, i, parts::sides_of(v), j);
+    let p = probes(r, i, v, s, f, m);
     let probing = still(v, p, j);
-    let old = v.status;
-    let st = status_after(g, old, s, probing);
+    let st = status_after(r.ring, v.status, s, probing);
     let node = learnt(v, j, s, f, probing, st);
     let first = parts::blank_message();
     let each = ls_probe(own, s, f);
     Plan {
         node,
         first,
-        to: Found::Nothing,
+        to: None,
         each,
         all: p,
         via: Via::Unrouted,
@@ -207,19 +209,19 @@ fn reply_plan(g: Ring, ids: &[u32; 64], i: usize, v: Node, m: Message) -> Plan
 }
 
 // The taking of an LSProbeReply at node i.
-pub fn plan_take_probe_reply(g: Ring, ids: &[u32; 64], i: usize, v: Node, m: Message) -> Planned
-    requires { Listed g ids.now × (i < g.n) }
-    ensures { result ≡ plan_take_probe_reply g ids.now i v m }
+#[tactic(auto, using(rules::proofs::Statuses::statuses), unfolding(take::specs::Take::plan_take_probe_reply))]
+pub fn plan_take_probe_reply(r: &Roster, i: usize, v: Node, m: Message) -> Result<Plan, Refusal>
+    requires { i < r.now.ring.n }
+    ensures { result ≡ plan_take_probe_reply r.now.ring r.now.ids i v m }
 {
-    let st = v.status;
-    if parts::is_dead(st) {
-        return Planned::No(Refusal::Status);
+    if v.status == Status::Dead {
+        return Err(Refusal::Status);
     }
     if waits_empty(v) {
-        return Planned::No(Refusal::LeafSet);
+        return Err(Refusal::LeafSet);
     }
     if (m.word == i as u32) | !marks::is_in(v.probing, m.word as usize) {
-        return Planned::No(Refusal::Partner);
+        return Err(Refusal::Partner);
     }
-    Planned::Go(reply_plan(g, ids, i, v, m))
+    Ok(reply_plan(r, i, v, m))
 }

@@ -1,13 +1,12 @@
 // Lookups and joins: the actions Lookup and Join, the delivering and forwarding of a Lookup (kind 1), and the taking of a JoinRequest (kind 2).
 #![tactic(auto)]
 
-ghost use Rattle.std.specs.Prelude.{◌≡◌, ℕ, ◌^◌, ◌<◌, ◌≤◌};
-ghost use Rattle.rules.specs.InnerAsks.{Listed};
+ghost use Rattle.std.specs.Prelude.{◌≡◌, ◌^◌, ◌<◌, ◌≤◌};
 ghost use Rattle.rules.specs.Letters.{lookup, lookup_after, join_request, join_reply, no_legal_route};
 ghost use Rattle.plan.specs.Actions.{plan_lookup, plan_join};
 ghost use Rattle.take.specs.Take.{forward_plan, plan_deliver, plan_forward, plan_take_join_request};
 
-use rules::{Hop, Message, Node, Plan, Planned, Refusal, Ring, Sides, Status};
+use rules::{Hop, Message, Node, Plan, Refusal, Roster, Sides, Status};
 
 pub fn lookup_of(k: u32) -> Message
     ensures { result ≡ lookup k }
@@ -42,32 +41,32 @@ pub fn join_reply(routing: u64, owner: u32, s: Sides) -> Message
 }
 
 // Lookup(i, k): `waits` says whether that Lookup waits.
-pub fn plan_lookup(waits: bool, i: usize, k: u32, v: Node) -> Planned
+#[tactic(auto, unfolding(plan::specs::Actions::plan_lookup))]
+pub fn plan_lookup(waits: bool, i: usize, k: u32, v: Node) -> Result<Plan, Refusal>
     ensures { result ≡ plan_lookup waits i k v }
 {
     if waits {
-        return Planned::No(Refusal::Waits);
+        return Err(Refusal::Waits);
     }
-    Planned::Go(parts::send_plan(v, lookup_of(k), i))
+    Ok(parts::send_plan(v, lookup_of(k), i))
 }
 
 // Join(i, seed): `waits` says whether a JoinRequest of i waits, and u is the seed's node.
-pub fn plan_join(waits: bool, i: u32, v: Node, seed: usize, u: Node) -> Planned
+#[tactic(auto, using(rules::proofs::Statuses::statuses), unfolding(plan::specs::Actions::plan_join))]
+pub fn plan_join(waits: bool, i: u32, v: Node, seed: usize, u: Node) -> Result<Plan, Refusal>
     ensures { result ≡ plan_join waits i v seed u }
 {
-    let s = v.status;
-    let other = u.status;
-    if !(parts::is_dead(s) & parts::is_ready(other)) {
-        return Planned::No(Refusal::Status);
+    if !((v.status == Status::Dead) & (u.status == Status::Ready)) {
+        return Err(Refusal::Status);
     }
     if waits {
-        return Planned::No(Refusal::Waits);
+        return Err(Refusal::Waits);
     }
     if !leaf::empty(parts::sides_of(v)) {
-        return Planned::No(Refusal::LeafSet);
+        return Err(Refusal::LeafSet);
     }
     let next = parts::with_status(v, Status::Wait);
-    Planned::Go(parts::send_plan(next, join_request(i, 0), seed))
+    Ok(parts::send_plan(next, join_request(i, 0), seed))
 }
 
 // A message to the next hop, saying where it came from, or NoLegalRoute of k to i itself.
@@ -81,78 +80,76 @@ pub fn forward(next: Hop, v: Node, m: Message, k: u32, i: usize) -> Plan
 }
 
 // Deliver: a message of this kind, with key k where it is a Lookup, at node i.
-pub fn plan_deliver(kind: u32, g: Ring, ids: &[u32; 64], i: usize, v: Node, k: u32) -> Planned
-    requires { Listed g ids.now × (i < 64) × (kind ≡ 1 → k < 2 ^ g.m) }
-    ensures { result ≡ plan_deliver kind g ids.now i v k }
+#[tactic(auto, using(rules::proofs::Statuses::statuses), unfolding(take::specs::Take::plan_deliver))]
+pub fn plan_deliver(kind: u32, r: &Roster, i: usize, v: Node, k: u32) -> Result<Plan, Refusal>
+    requires { (i < 64) × (kind ≡ 1 → k < 2 ^ r.now.ring.m) }
+    ensures { result ≡ plan_deliver kind r.now.ring r.now.ids i v k }
 {
     if !(kind == 1) {
-        return Planned::No(Refusal::Partner);
+        return Err(Refusal::Partner);
     }
-    let s = v.status;
-    if !parts::is_ready(s) {
-        return Planned::No(Refusal::Status);
+    if v.status != Status::Ready {
+        return Err(Refusal::Status);
     }
-    if !leaf::covers(g, ids, i, parts::sides_of(v), k) {
-        return Planned::No(Refusal::Partner);
+    if !leaf::covers(r, i, parts::sides_of(v), k) {
+        return Err(Refusal::Partner);
     }
-    Planned::Go(parts::quiet_plan(v))
+    Ok(parts::quiet_plan(v))
 }
 
 // Forward: the same, to the next hop, with one hop more than it had.
+#[tactic(auto, using(rules::proofs::Statuses::statuses), unfolding(take::specs::Take::plan_forward))]
 pub fn plan_forward(
     kind: u32,
-    g: Ring,
-    ids: &[u32; 64],
+    r: &Roster,
     dead: u64,
     i: usize,
     v: Node,
     k: u32,
     hops: u32,
-) -> Planned
-    requires { Listed g ids.now × (i < 64) × (kind ≡ 1 → k < 2 ^ g.m) × (hops ≤ 64) }
-    ensures { result ≡ plan_forward kind g ids.now dead i v k hops }
+) -> Result<Plan, Refusal>
+    requires { (i < 64) × (kind ≡ 1 → k < 2 ^ r.now.ring.m) × (hops ≤ 64) }
+    ensures { result ≡ plan_forward kind r.now.ring r.now.ids dead i v k hops }
 {
     if !(kind == 1) {
-        return Planned::No(Refusal::Partner);
+        return Err(Refusal::Partner);
     }
-    let s = v.status;
-    if !parts::is_ready(s) {
-        return Planned::No(Refusal::Status);
+    if v.status != Status::Ready {
+        return Err(Refusal::Status);
     }
-    if leaf::covers(g, ids, i, parts::sides_of(v), k) {
-        return Planned::No(Refusal::Partner);
+    if leaf::covers(r, i, parts::sides_of(v), k) {
+        return Err(Refusal::Partner);
     }
-    let next = hop::next_hop(g, ids, dead, i, v, k);
-    Planned::Go(forward(next, v, lookup_after(hops + 1, k), k, i))
+    let next = hop::next_hop(r, dead, i, v, k);
+    Ok(forward(next, v, lookup_after(hops + 1, k), k, i))
 }
 
 // The taking of a JoinRequest of node j at node i.
+#[tactic(auto, using(rules::proofs::Statuses::statuses), unfolding(take::specs::Take::plan_take_join_request))]
 pub fn plan_take_join_request(
-    g: Ring,
-    ids: &[u32; 64],
+    r: &Roster,
     dead: u64,
     i: usize,
     v: Node,
     j: u32,
     routing: u64,
-) -> Planned
-    requires { Listed g ids.now × (i < 64) × (j < 64) }
-    ensures { result ≡ plan_take_join_request g ids.now dead i v j routing }
+) -> Result<Plan, Refusal>
+    requires { (i < 64) × (j < 64) }
+    ensures { result ≡ plan_take_join_request r.now.ring r.now.ids dead i v j routing }
 {
-    let s = v.status;
-    if !parts::is_ready(s) {
-        return Planned::No(Refusal::Status);
+    if v.status != Status::Ready {
+        return Err(Refusal::Status);
     }
     let own = parts::sides_of(v);
     let from = j as usize;
     if marks::is_in(leaf::content(own, i), from) {
-        return Planned::No(Refusal::Partner);
+        return Err(Refusal::Partner);
     }
-    let k = ids[from];
-    if leaf::covers(g, ids, i, own, k) {
-        return Planned::Go(parts::send_plan(v, join_reply(routing, i as u32, own), from));
+    let k = r.ids[from];
+    if leaf::covers(r, i, own, k) {
+        return Ok(parts::send_plan(v, join_reply(routing, i as u32, own), from));
     }
-    let next = hop::next_hop(g, ids, dead, i, v, k);
+    let next = hop::next_hop(r, dead, i, v, k);
     let m = join_request(j, marks::joined(routing, v.routing));
-    Planned::Go(forward(next, v, m, k, i))
+    Ok(forward(next, v, m, k, i))
 }

@@ -11,7 +11,6 @@ ghost use Rattle.pool_laws.specs.InnerSending.{left_of, left_count, place_of, sl
 ghost use Rattle.pool_laws.specs.InnerSending.{new_to, news_of, sends_of, first_new, room_of};
 ghost use Rattle.pool_laws.specs.InnerMix.{mix_of, bucket_of};
 
-use marks::Found;
 use pool_laws::New;
 use rules::{Message, Plan, Pool};
 
@@ -36,15 +35,7 @@ fn fields(m: Message) -> [u64; 9]
 pub fn alike(a: Message, b: Message) -> bool
     ensures { result ≡ alike_of a b }
 {
-    (a.dest == b.dest)
-        & (a.kind == b.kind)
-        & (a.word == b.word)
-        & (a.flag == b.flag)
-        & (a.owner == b.owner)
-        & (a.routing == b.routing)
-        & (a.left == b.left)
-        & (a.right == b.right)
-        & (a.failed == b.failed)
+    Message { hops: b.hops, ..a } == b
 }
 
 // How many of n messages are left once place `gone` is away.
@@ -62,8 +53,9 @@ pub fn place_of(gone: usize, at: usize) -> usize
     if at < gone { at } else { at + 1 }
 }
 
-// The first message that equals m, in pool order, of those left once place `gone` is away.
-fn first_equal(p: Pool, gone: usize, m: Message) -> Found
+// The first message that equals m, in pool order, of those left once place `gone` is away. 01 names this form: a loop over places and fields, left by label, the
+// place yielded by break (docs/DECISIONS.md, "01's code places").
+fn first_equal(p: Pool, gone: usize, m: Message) -> Option<usize>
     requires { p.count ≤ 256 }
     ensures { result ≡ first_equal (left_of p gone) m }
 {
@@ -72,20 +64,17 @@ fn first_equal(p: Pool, gone: usize, m: Message) -> Found
     let mut at: usize = 0;
     let found = 'places: loop {
         if n <= at {
-            break 'places Found::Nothing;
+            break 'places None;
         }
         let place = place_of(gone, at);
-        let q = p.places[place];
-        let a = fields(q);
-        let mut f: usize = 0;
-        'fields: while f < 9 {
+        let a = fields(p.places[place]);
+        for f in 0..9 {
             if a[f] != b[f] {
                 at += 1;
                 continue 'places;
             }
-            f += 1;
         }
-        break 'places Found::At(at);
+        break 'places Some(at);
     };
     found
 }
@@ -97,8 +86,8 @@ pub fn waits(p: Pool, gone: usize, m: Message) -> bool
 {
     let at = first_equal(p, gone, m);
     match at {
-        Found::At(_) => true,
-        Found::Nothing => false,
+        Some(_) => true,
+        None => false,
     }
 }
 
@@ -107,16 +96,9 @@ pub fn join_waits(p: Pool, i: u32) -> bool
     requires { p.count ≤ 256 }
     ensures { result ≡ join_waits (waiting p) i }
 {
-    let n = p.count;
-    let mut at: usize = 0;
-    while at < n {
-        let q = p.places[at];
-        if (q.kind == 2) & (q.word == i) {
-            return true;
-        }
-        at += 1;
-    }
-    false
+    p.places[..p.count]
+        .iter()
+        .any(|q| (q.kind == 2) & (q.word == i))
 }
 
 // Does a JoinReply to node i wait?
@@ -124,16 +106,9 @@ pub fn reply_waits(p: Pool, i: u32) -> bool
     requires { p.count ≤ 256 }
     ensures { result ≡ reply_waits (waiting p) i }
 {
-    let n = p.count;
-    let mut at: usize = 0;
-    while at < n {
-        let q = p.places[at];
-        if (q.kind == 3) & (q.dest == i) {
-            return true;
-        }
-        at += 1;
-    }
-    false
+    p.places[..p.count]
+        .iter()
+        .any(|q| (q.kind == 3) & (q.dest == i))
 }
 
 // Is m an LSProbe from i to j?
@@ -148,18 +123,15 @@ pub fn without_probes(p: Pool, i: u32, j: u32) -> Pool
     requires { p.count ≤ 256 }
     ensures { result ≡ laid (without_probes (waiting p) i j) }
 {
-    let n = p.count;
     let none = parts::blank_message();
     let mut places = [none; 256];
     let mut count: usize = 0;
-    let mut at: usize = 0;
-    while at < n {
+    for at in 0..p.count {
         let m = p.places[at];
         if !is_probe_from(i, j, m) {
             places[count] = m;
             count += 1;
         }
-        at += 1;
     }
     Pool { count, places }
 }
@@ -199,35 +171,30 @@ fn held(p: Pool, gone: usize, m: Message) -> u64
     requires { p.count ≤ 256 }
     ensures { result ≡ held_of m (left_of p gone) }
 {
-    let n = left_count(p.count, gone);
     let mut set: u64 = 0;
-    let mut at: usize = 0;
-    while at < n {
-        let place = place_of(gone, at);
-        let q = p.places[place];
-        set = held_with(set, q, m);
-        at += 1;
+    for at in 0..left_count(p.count, gone) {
+        set = held_with(set, p.places[place_of(gone, at)], m);
     }
     set
 }
 
 // The slot to which m is new, if it goes to one and no equal is left.
-fn new_one(p: Pool, gone: usize, m: Message, to: Found) -> Found
+fn new_one(p: Pool, gone: usize, m: Message, to: Option<usize>) -> Option<usize>
     requires { (p.count ≤ 256) × (slotted to ≡ true) }
     ensures { result ≡ new_to m to (left_of p gone) }
 {
-    let Found::At(s) = to else {
-        return Found::Nothing;
+    let Some(s) = to else {
+        return None;
     };
     if waits(p, gone, parts::to_slot(m, s as u32)) {
-        Found::Nothing
+        None
     } else {
-        Found::At(s)
+        Some(s)
     }
 }
 
 // The slots of a set to which m is new, where `first` is new to the slot `one`, if there is one.
-fn new_all(p: Pool, gone: usize, first: Message, one: Found, m: Message, set: u64) -> u64
+fn new_all(p: Pool, gone: usize, first: Message, one: Option<usize>, m: Message, set: u64) -> u64
     requires { (p.count ≤ 256) × (slotted one ≡ true) }
     ensures { result ≡ without set (held_of m (left_of p gone ++ copy_to first one)) }
 {
@@ -235,7 +202,7 @@ fn new_all(p: Pool, gone: usize, first: Message, one: Found, m: Message, set: u6
         return 0;
     }
     let have = held(p, gone, m);
-    let Found::At(s) = one else {
+    let Some(s) = one else {
         return marks::less(set, have);
     };
     let q = parts::to_slot(first, s as u32);
@@ -248,8 +215,8 @@ pub fn sends(plan: Plan) -> bool
 {
     let to = plan.to;
     match to {
-        Found::At(_) => true,
-        Found::Nothing => plan.all != 0,
+        Some(_) => true,
+        None => plan.all != 0,
     }
 }
 
@@ -280,8 +247,8 @@ pub fn room(n: usize, gone: usize, new: New) -> bool
 {
     let one = new.one;
     let more: usize = match one {
-        Found::At(_) => 1,
-        Found::Nothing => 0,
+        Some(_) => 1,
+        None => 0,
     };
     left_count(n, gone) + (more + marks::count(new.all) as usize) <= 256
 }

@@ -1,5 +1,7 @@
 -- When two messages are equal, and whether an equal one waits. Two messages are alike exactly if their nine fields are equal, so alike is
 -- an equivalence; an equal waits in two lists that follow each other exactly if one waits in either. Assumes nothing.
+use Rattle.marks.specs.Marks.{Found}
+use Rattle.std.specs.Prelude.{Some, None}
 use mathlib.Core.Path.{◌≡◌, refl, sym, ◌∙◌, ap}
 use mathlib.Core.Bool.{Bool, true, false, cond, ◌&&◌, ◌||◌, or_assoc, or-false}
 use mathlib.Core.List.{List, [], ◌∷◌, ◌++◌}
@@ -9,8 +11,6 @@ use borrow.Author.Tests.{eq-eqb, eqb-true}
 use lib.Dec.{eqb}
 use lib.ListN.{get_or, length}
 use lib.Seq.{ext_get_or}
-use Rattle.marks.specs.declared.Found.{Found}
-use Rattle.marks.specs.declared.Found.TheVariants.{At, Nothing}
 use Rattle.marks.proofs.Laws.{each, all_of}
 use Rattle.marks.proofs.Bools.{clash, bool_false, bool_same, and_both, or-fails, or-fails-left, or-fails-right}
 use Rattle.rules.specs.declared.Message.{Message}
@@ -46,26 +46,26 @@ alike-dest a b e = ap (λ (r : List ℕ). get_or r 0 0) (alike_same a b e)
 -- ---- the first equal one
 
 first-from : (m : Message) (xs : List Message) (p s : ℕ) → s < length xs → alike (get_or xs s blank) m ≡ true
-    → ((t : ℕ) → t < s → alike (get_or xs t blank) m ≡ false) → first_from m xs p ≡ At (p + s)
+    → ((t : ℕ) → t < s → alike (get_or xs t blank) m ≡ false) → first_from m xs p ≡ Some (p + s)
 unfolding first_from
 first-from m [] p s h e f = absurd (omega arith)
-first-from m (x ∷ xs) p zero h e f = rw e (ap At (omega arith))
+first-from m (x ∷ xs) p zero h e f = rw e (ap Some (omega arith))
 first-from m (x ∷ xs) p (suc s) h e f =
-    rw (f 0 (omega arith)) (first-from m xs (p + 1) s (omega arith) e (λ t l. f (suc t) (omega arith)) ∙ ap At (omega arith))
+    rw (f 0 (omega arith)) (first-from m xs (p + 1) s (omega arith) e (λ t l. f (suc t) (omega arith)) ∙ ap Some (omega arith))
 
 pub first-equal-at : (xs : List Message) (m : Message) (s : ℕ) → s < length xs → alike (get_or xs s blank) m ≡ true
-    → ((t : ℕ) → t < s → alike (get_or xs t blank) m ≡ false) → first_equal xs m ≡ At s
+    → ((t : ℕ) → t < s → alike (get_or xs t blank) m ≡ false) → first_equal xs m ≡ Some s
 unfolding first_equal
-first-equal-at xs m s h e f = first-from m xs 0 s h e f ∙ ap At (omega arith)
+first-equal-at xs m s h e f = first-from m xs 0 s h e f ∙ ap Some (omega arith)
 
 none_from : (m : Message) (xs : List Message) (p : ℕ)
-    → ((t : ℕ) → t < length xs → alike (get_or xs t blank) m ≡ false) → first_from m xs p ≡ Nothing
+    → ((t : ℕ) → t < length xs → alike (get_or xs t blank) m ≡ false) → first_from m xs p ≡ None
 unfolding first_from
 none_from m [] p f = refl
 none_from m (x ∷ xs) p f = rw (f 0 (omega arith)) (none_from m xs (p + 1) (λ t l. f (suc t) (omega arith)))
 
 pub first-equal-none : (xs : List Message) (m : Message)
-    → ((t : ℕ) → t < length xs → alike (get_or xs t blank) m ≡ false) → first_equal xs m ≡ Nothing
+    → ((t : ℕ) → t < length xs → alike (get_or xs t blank) m ≡ false) → first_equal xs m ≡ None
 unfolding first_equal
 first-equal-none xs m f = none_from m xs 0 f
 
@@ -77,7 +77,7 @@ found_from m [] p q = refl
 found_from m (x ∷ xs) p q = go (alike x m) (found_from m xs (p + 1) (q + 1))
   where
     go : (b : Bool) → is_found (first_from m xs (p + 1)) ≡ is_found (first_from m xs (q + 1))
-        → is_found (cond b (At p) (first_from m xs (p + 1))) ≡ is_found (cond b (At q) (first_from m xs (q + 1)))
+        → is_found (cond b (Some p) (first_from m xs (p + 1))) ≡ is_found (cond b (Some q) (first_from m xs (q + 1)))
     go true e = refl
     go false e = e
 
@@ -89,7 +89,7 @@ pub waits-cons : (x : Message) (xs : List Message) (m : Message) → waits (x �
 unfolding waits first_equal first_from
 waits-cons x xs m = go (alike x m)
   where
-    go : (b : Bool) → is_found (cond b (At 0) (first_from m xs 1)) ≡ (b || is_found (first_from m xs 0))
+    go : (b : Bool) → is_found (cond b (Some 0) (first_from m xs 1)) ≡ (b || is_found (first_from m xs 0))
     go true = refl
     go false = found_from m xs 1 0
 
@@ -123,11 +123,11 @@ no-join-waits (x ∷ xs) m i k w e =
 
 -- ---- adding
 
-pub added-at : (xs : List Message) (m : Message) (p : ℕ) → first_equal xs m ≡ At p → added xs m ≡ xs
+pub added-at : (xs : List Message) (m : Message) (p : ℕ) → first_equal xs m ≡ Some p → added xs m ≡ xs
 unfolding added
 added-at xs m p e = rw e
 
-pub added-nothing : (xs : List Message) (m : Message) → first_equal xs m ≡ Nothing → added xs m ≡ xs ++ (m ∷ [])
+pub added-nothing : (xs : List Message) (m : Message) → first_equal xs m ≡ None → added xs m ≡ xs ++ (m ∷ [])
 unfolding added
 added-nothing xs m e = rw e
 
@@ -136,5 +136,5 @@ unfolding waits
 added_is xs m = go (first_equal xs m) refl
   where
     go : (r : Found) → first_equal xs m ≡ r → added xs m ≡ cond (is_found r) xs (xs ++ (m ∷ []))
-    go (At p) e = added-at xs m p e
-    go Nothing e = added-nothing xs m e
+    go (Some p) e = added-at xs m p e
+    go None e = added-nothing xs m e

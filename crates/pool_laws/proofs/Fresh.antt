@@ -1,13 +1,12 @@
 -- The plan's new messages, as the functions come by them, and what makes the pool after it of what is left. Assumes nothing.
+use Rattle.std.specs.Prelude.{Some, None}
 use mathlib.Core.Path.{◌≡◌, refl, sym, ◌∙◌, ap, ap₂}
 use mathlib.Core.Bool.{true, false, not}
 use mathlib.Core.List.{List, ◌++◌, append-nil}
 use Prim.Native.Nat.{ℕ, ◌+◌, ◌<◌, ◌≤◌}
 use native.Mathlib.Omega.{arith}
 use borrow.Author.Tests.{eqb-true, ltb-true, leb-true, not-false}
-use Rattle.marks.specs.declared.Found.{Found}
-use Rattle.marks.specs.declared.Found.TheVariants.{At, Nothing}
-use Rattle.marks.specs.Marks.{has, without}
+use Rattle.marks.specs.Marks.{has, without, Found}
 use Rattle.marks.proofs.Laws.{empty, has-zero, has-without, without-below}
 use Rattle.marks.proofs.Bools.{clash, and-fails-left}
 use Rattle.rules.specs.declared.Message.{Message}
@@ -23,19 +22,19 @@ use Rattle.pool_laws.specs.InnerSending.{new_to, new_one, new_all, news_of, one_
 use Rattle.pool_laws.proofs.Sending.{held-last}
 use Rattle.pool_laws.proofs.NewOnes.{new-slotted, mailed-news}
 
-pub slot-low : (to : Found) (s : ℕ) → to ≡ At s → slotted to ≡ true → s < 64
+pub slot-low : (to : Found) (s : ℕ) → to ≡ Some s → slotted to ≡ true → s < 64
 slot-low to s e d = ltb-true s 64 (ap slotted (sym e) ∙ d)
 
 -- ---- the first message
 
 module _ (m : Message) (to : Found) (ys : List Message) where
-  pub to-nowhere : to ≡ Nothing → Nothing ≡ new_to m to ys
+  pub to-nowhere : to ≡ None → None ≡ new_to m to ys
   to-nowhere e = rw e
 
-  pub to-equal : (s : ℕ) → to ≡ At s → waits ys (placed m s) ≡ true → Nothing ≡ new_to m to ys
+  pub to-equal : (s : ℕ) → to ≡ Some s → waits ys (placed m s) ≡ true → None ≡ new_to m to ys
   to-equal s e w = rw (e, w)
 
-  pub to-new : (s : ℕ) → to ≡ At s → waits ys (placed m s) ≡ false → At s ≡ new_to m to ys
+  pub to-new : (s : ℕ) → to ≡ Some s → waits ys (placed m s) ≡ false → Some s ≡ new_to m to ys
   to-new s e w = rw (e, w)
 
 -- ---- the others
@@ -47,12 +46,12 @@ module _ (ys : List Message) (first : Message) (one : Found) (m : Message) (set 
   pub all_none : set ≡ 0 → 0 ≡ without set (held_of m (ys ++ copy_to first one))
   all_none e = rw e (sym (without-none _))
 
-  pub all-alone : (have r : ℕ) → have ≡ held_of m ys → one ≡ Nothing → r ≡ without set have
+  pub all-alone : (have r : ℕ) → have ≡ held_of m ys → one ≡ None → r ≡ without set have
       → r ≡ without set (held_of m (ys ++ copy_to first one))
   all-alone have r h e k =
       k ∙ ap (without set) (h ∙ ap (held_of m) (sym (ap (λ (o : Found). ys ++ copy_to first o) e ∙ append-nil ys)))
 
-  pub all_after : (s have more r : ℕ) (q : Message) → have ≡ held_of m ys → one ≡ At s → q ≡ placed first s → more ≡ held_with m have q
+  pub all_after : (s have more r : ℕ) (q : Message) → have ≡ held_of m ys → one ≡ Some s → q ≡ placed first s → more ≡ held_with m have q
       → r ≡ without set more → r ≡ without set (held_of m (ys ++ copy_to first one))
   all_after s have more r q h e d w k =
       k
@@ -70,20 +69,20 @@ unfolding new_one new_all
 news-are x ys one all e f = rw (f, e)
 
 -- of a plan that sends one message, and of one that sends none: what is new is told without looking, where no equal is left
-to_none : (to : Found) (all : ℕ) → sends_to to all ≡ false → to ≡ Nothing
-to_none (At s) all e = absurd (clash e)
-to_none Nothing all e = refl
+to_none : (to : Found) (all : ℕ) → sends_to to all ≡ false → to ≡ None
+to_none (Some s) all e = absurd (clash e)
+to_none None all e = refl
 
 all-zero : (to : Found) (all : ℕ) → sends_to to all ≡ false → all ≡ 0
-all-zero (At s) all e = absurd (clash e)
-all-zero Nothing all e = eqb-true all 0 (not-false _ e)
+all-zero (Some s) all e = absurd (clash e)
+all-zero None all e = eqb-true all 0 (not-false _ e)
 
 pub news-quiet : (x : Plan) (ys : List Message) → sends_of x ≡ false → first_new x ≡ news_of x ys
 news-quiet x ys e =
     let n = to_none x.to x.all e in
     news-are x ys x.to 0 (n ∙ to-nowhere x.first x.to ys n) (all_none ys x.first x.to x.each x.all (all-zero x.to x.all e))
 
-pub news-one : (x : Plan) (ys : List Message) (s : ℕ) → x.to ≡ At s → x.all ≡ 0 → waits ys (placed x.first s) ≡ false → first_new x ≡ news_of x ys
+pub news-one : (x : Plan) (ys : List Message) (s : ℕ) → x.to ≡ Some s → x.all ≡ 0 → waits ys (placed x.first s) ≡ false → first_new x ≡ news_of x ys
 news-one x ys s e z w =
     news-are x ys x.to 0 (e ∙ to-new x.first x.to ys s e w) (all_none ys x.first x.to x.each x.all z)
 
@@ -96,7 +95,7 @@ module _ (p : Pool) (gone : ℕ) (x : Plan) (w : New) (r : Roomy p gone x w) whe
   pub new-fit : (k : ℕ) → k ≡ left_count p.count gone → k + new_count w ≤ 256
   new-fit k e = omega (arith, leb-true (left_count p.count gone + new_count w) 256 r.room)
 
-  pub one-fits : (k s : ℕ) → k ≡ left_count p.count gone → w.one ≡ At s → k < 256
+  pub one-fits : (k s : ℕ) → k ≡ left_count p.count gone → w.one ≡ Some s → k < 256
   one-fits k s e f = let d : one_or_none w.one ≡ 1 = ap one_or_none f in omega (arith, new-fit k e)
 
   pub after_is : (ys : List Message) (t : Pool) → ys ≡ left_of p gone ++ copy_to x.first w.one → t ≡ laid (ys ++ copies x.each w.all)

@@ -1,6 +1,7 @@
 -- The loops that write places. Removing: the places below `at` are those of what is left, and those from it on are as they were (Closed).
 -- Filling: what is written, followed by the copies that are still to come, is what is to wait (Filling). Blanks: of the places below `at`,
 -- those past the count are blank (Blanked). Assumes nothing.
+use Rattle.std.specs.Prelude.{Some, None}
 use mathlib.Core.Path.{◌≡◌, refl, sym, ◌∙◌, ap, ap₂}
 use mathlib.Core.List.{List, [], ◌∷◌, ◌++◌, append-nil, append_assoc}
 use Prim.Native.Nat.{ℕ, ◌+◌, ◌-◌, ◌<◌, ◌≤◌}
@@ -10,9 +11,7 @@ use native.Mathlib.Omega.{arith}
 use borrow.Author.Tests.{lt-ltb, le-ltb}
 use lib.ListN.{length, length-set, get_or, take, set, replicate, replicate-append-replicate}
 use lib.Seq.{length-take-le, take_all, take-suc-set, get_or-take, get_or-set_same, get_or-set_other, append_snoc, ext_get_or}
-use Rattle.marks.specs.declared.Found.{Found}
-use Rattle.marks.specs.declared.Found.TheVariants.{At, Nothing}
-use Rattle.marks.specs.Marks.{remove_of, lowest_of, size_of}
+use Rattle.marks.specs.Marks.{remove_of, lowest_of, size_of, Found}
 use Rattle.marks.proofs.Laws.{lowest-found, size-remove}
 use Rattle.rules.specs.declared.Message.{Message}
 use Rattle.rules.specs.declared.Pool.{Pool}
@@ -101,7 +100,7 @@ pub record Put (k : ℕ) (zs : List Message) (m : Message) (to : Found) (n : ℕ
 
 module _ (k : ℕ) (zs : List Message) (m : Message) (to : Found) (p : Pool) (l : length p.places ≡ 256) (d : take k p.places ≡ zs)
     (n : ℕ) (q : Pool) where
-  pub put_one : (s : ℕ) (z : Message) → k < 256 → to ≡ At s → z ≡ placed m s → n ≡ k + 1 → q ≡ wrote p k z → Put k zs m to n q
+  pub put_one : (s : ℕ) (z : Message) → k < 256 → to ≡ Some s → z ≡ placed m s → n ≡ k + 1 → q ≡ wrote p k z → Put k zs m to n q
   put_one s z h e f c w =
       rw (w, c, f, e, ← d)
       record {
@@ -110,7 +109,7 @@ module _ (k : ℕ) (zs : List Message) (m : Message) (to : Found) (p : Pool) (l 
         head = front p.places k (placed m s) (omega arith);
       }
 
-  pub put-none : to ≡ Nothing → n ≡ k → q ≡ p → Put k zs m to n q
+  pub put-none : to ≡ None → n ≡ k → q ≡ p → Put k zs m to n q
   put-none e c w = rw (w, c, e) record { count-is = omega arith; long = l; head = d ∙ sym (append-nil zs) }
 
 pub record Filling (m : Message) (all : List Message) (rest n : ℕ) (q : Pool) : Type 0 where
@@ -122,14 +121,14 @@ pub filling-none : (m : Message) (rest n : ℕ) (q : Pool) → n + size_of rest 
     → Filling m (take n q.places ++ copies m rest) rest n q
 filling-none m rest n q h l = record { room = h; long = l; left = refl }
 
-pub fewer : (rest s : ℕ) → lowest_of rest ≡ At s → size_of (remove_of rest s) + 1 ≡ size_of rest
+pub fewer : (rest s : ℕ) → lowest_of rest ≡ Some s → size_of (remove_of rest s) + 1 ≡ size_of rest
 fewer rest s e = let i = lowest-found rest s e in size-remove rest s i.below i.holds
 
 -- a copy that is to come has its place
-pub filling-low : (m : Message) (all : List Message) (rest n : ℕ) (q : Pool) (s : ℕ) → lowest_of rest ≡ At s → Filling m all rest n q → n < 256
+pub filling-low : (m : Message) (all : List Message) (rest n : ℕ) (q : Pool) (s : ℕ) → lowest_of rest ≡ Some s → Filling m all rest n q → n < 256
 filling-low m all rest n q s e k = omega (arith, k.room, fewer rest s e)
 
-pub filling-more : (m : Message) (all : List Message) (rest n : ℕ) (q : Pool) (s : ℕ) → lowest_of rest ≡ At s → Filling m all rest n q
+pub filling-more : (m : Message) (all : List Message) (rest n : ℕ) (q : Pool) (s : ℕ) → lowest_of rest ≡ Some s → Filling m all rest n q
     → Filling m all (remove_of rest s) (n + 1) (wrote q n (placed m s))
 filling-more m all rest n q s e k =
     let z = placed m s in
@@ -142,7 +141,7 @@ filling-more m all rest n q s e k =
           ∙ ap (λ (l : List Message). take n q.places ++ l) (sym (copies-more m rest s e)) ∙ k.left;
     }
 
-pub filling-end : (m : Message) (all : List Message) (rest n : ℕ) (q : Pool) → lowest_of rest ≡ Nothing → Filling m all rest n q
+pub filling-end : (m : Message) (all : List Message) (rest n : ℕ) (q : Pool) → lowest_of rest ≡ None → Filling m all rest n q
     → take n q.places ≡ all
 filling-end m all rest n q e k =
     sym (append-nil (take n q.places)) ∙ ap (λ (l : List Message). take n q.places ++ l) (sym (copies-end m rest e)) ∙ k.left

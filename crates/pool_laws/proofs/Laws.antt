@@ -1,6 +1,7 @@
 -- What adding, removing and sending keep, for every property of messages: that all have it (All), and that no two are equal (Apart). What
 -- Equal, Laid, Sends and News say of the pool is passed on, so that a user names this file alone. By induction on the list. Assumes
 -- nothing.
+use Rattle.std.specs.Prelude.{Some, None}
 use mathlib.Core.Path.{◌≡◌, refl, sym, ◌∙◌, ap}
 use mathlib.Core.Logic.{◌⊎◌, inl, inr, ⊎_elim, ◌↔◌}
 use mathlib.Core.Bool.{Bool, true, false, cond, ◌||◌, not}
@@ -10,9 +11,7 @@ use native.Mathlib.Omega.{arith}
 use borrow.Author.Tests.{not-true}
 use lib.ListN.{get_or, length, length-append}
 use lib.Seq.{append_snoc}
-use Rattle.marks.specs.declared.Found.{Found}
-use Rattle.marks.specs.declared.Found.TheVariants.{At, Nothing}
-use Rattle.marks.specs.Marks.{has, size_of, without, all_to}
+use Rattle.marks.specs.Marks.{has, size_of, without, all_to, Found}
 use Rattle.marks.proofs.Laws.{each, all_of, size_mono, has-without}
 use Rattle.marks.proofs.Bools.{and_left, or-fails-left, or-fails-right, false-not}
 use Rattle.rules.specs.declared.Message.{Message}
@@ -108,14 +107,14 @@ module _ {P : Message → Type 0} where
       → All P (sent m set xs)
   all-sent m set f h = all-sent-to m set 64 (omega arith) f h
 
-  pub all-added-to : {xs : List Message} (to : Found) (m : Message) → ((s : ℕ) → to ≡ At s → P (placed m s)) → All P xs
+  pub all-added-to : {xs : List Message} (to : Found) (m : Message) → ((s : ℕ) → to ≡ Some s → P (placed m s)) → All P xs
       → All P (added_to to m xs)
-  all-added-to (At s) m f h = all-added (placed m s) (f s refl) h
-  all-added-to Nothing m f h = h
+  all-added-to (Some s) m f h = all-added (placed m s) (f s refl) h
+  all-added-to None m f h = h
 
 -- what a plan adds has the property, each for its slot
 pub record Fine (P : Message → Type 0) (x : Plan) : Type 0 where
-  pub one : (s : ℕ) → x.to ≡ At s → P (placed x.first s)
+  pub one : (s : ℕ) → x.to ≡ Some s → P (placed x.first s)
   pub rest : (s : ℕ) → s < 64 → has x.all s ≡ true → P (placed x.each s)
 
 pub all-mailed : {P : Message → Type 0} {ys : List Message} {x : Plan} → Fine P x → All P ys → All P (mailed x ys)
@@ -191,8 +190,8 @@ pub apart-sent : {xs : List Message} (m : Message) (set : ℕ) → Apart xs → 
 apart-sent m set h = apart-sent-to m set 64 h
 
 pub apart-added-to : {xs : List Message} (to : Found) (m : Message) → Apart xs → Apart (added_to to m xs)
-apart-added-to (At s) m h = apart-added (placed m s) h
-apart-added-to Nothing m h = h
+apart-added-to (Some s) m h = apart-added (placed m s) h
+apart-added-to None m h = h
 
 pub apart-mailed : {ys : List Message} (x : Plan) → Apart ys → Apart (mailed x ys)
 unfolding mailed
@@ -208,9 +207,9 @@ added-cases xs m = rw (added_is xs m) (go (waits xs m))
     go false = inr refl
 
 pub added-to-cases : (to : Found) (m : Message) (xs : List Message)
-    → (added_to to m xs ≡ xs) ⊎ ((s : ℕ) × (to ≡ At s) × (added_to to m xs ≡ xs ++ (placed m s ∷ [])))
-added-to-cases (At s) m xs = ⊎_elim (λ e. inl e) (λ e. inr (s, refl, e)) (added-cases xs (placed m s))
-added-to-cases Nothing m xs = inl refl
+    → (added_to to m xs ≡ xs) ⊎ ((s : ℕ) × (to ≡ Some s) × (added_to to m xs ≡ xs ++ (placed m s ∷ [])))
+added-to-cases (Some s) m xs = ⊎_elim (λ e. inl e) (λ e. inr (s, refl, e)) (added-cases xs (placed m s))
+added-to-cases None m xs = inl refl
 
 pub mailed-is : (x : Plan) (ys : List Message)
     → mailed x ys ≡ added_to x.to x.first ys ++ copies x.each (without x.all (held_of x.each (added_to x.to x.first ys)))
@@ -227,7 +226,7 @@ mailed-after x ys = go (added-to-cases x.to x.first ys)
     new : List Message
     new = copies x.each (without x.all (held_of x.each first))
 
-    go : (first ≡ ys) ⊎ ((s : ℕ) × (x.to ≡ At s) × (first ≡ ys ++ (placed x.first s ∷ [])))
+    go : (first ≡ ys) ⊎ ((s : ℕ) × (x.to ≡ Some s) × (first ≡ ys ++ (placed x.first s ∷ [])))
         → (zs : List Message) × (mailed x ys ≡ ys ++ zs)
     go (inl e) = (new, mailed-is x ys ∙ ap (λ (l : List Message). l ++ new) e)
     go (inr e) =
@@ -258,8 +257,8 @@ sent-length m set xs =
 
 pub added-to-length : (to : Found) (m : Message) (xs : List Message)
     → (length xs ≤ length (added_to to m xs)) × (length (added_to to m xs) ≤ length xs + 1)
-added-to-length (At s) m xs = added-length xs (placed m s)
-added-to-length Nothing m xs = (omega arith, omega arith)
+added-to-length (Some s) m xs = added-length xs (placed m s)
+added-to-length None m xs = (omega arith, omega arith)
 
 pub mailed-length : (x : Plan) (ys : List Message)
     → (length ys ≤ length (mailed x ys)) × (length (mailed x ys) ≤ length ys + 1 + size_of x.all)

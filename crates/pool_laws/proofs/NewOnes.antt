@@ -1,5 +1,7 @@
 -- The new messages of a plan: what waits after it is what was left, then the new first message, then the new copies. So their number says
 -- whether the pool has room for all. Assumes nothing.
+use Rattle.marks.specs.Marks.{Found}
+use Rattle.std.specs.Prelude.{Some, None}
 use mathlib.Core.Path.{◌≡◌, refl, sym, ◌∙◌, ap}
 use mathlib.Core.Bool.{Bool, true, false, cond}
 use mathlib.Core.List.{List, [], ◌∷◌, ◌++◌, append-nil}
@@ -7,8 +9,6 @@ use Prim.Native.Nat.{ℕ, ◌+◌}
 use native.Mathlib.Omega.{arith}
 use lib.Dec.{leb}
 use lib.ListN.{length, length-append}
-use Rattle.marks.specs.declared.Found.{Found}
-use Rattle.marks.specs.declared.Found.TheVariants.{At, Nothing}
 use Rattle.rules.specs.declared.Message.{Message}
 use Rattle.rules.specs.declared.Pool.{Pool}
 use Rattle.rules.specs.declared.Plan.{Plan}
@@ -24,24 +24,24 @@ use Rattle.pool_laws.proofs.Sending.{sent_is, copies_length}
 -- ---- the first message
 
 pub new-slotted : (m : Message) (to : Found) (ys : List Message) → slotted to ≡ true → slotted (new_to m to ys) ≡ true
-new-slotted m (At s) ys e = go (waits ys (placed m s))
+new-slotted m (Some s) ys e = go (waits ys (placed m s))
   where
-    go : (b : Bool) → slotted (cond b Nothing (At s)) ≡ true
+    go : (b : Bool) → slotted (cond b None (Some s)) ≡ true
     go true = refl
     go false = e
-new-slotted m Nothing ys e = refl
+new-slotted m None ys e = refl
 
 pub added-to-is : (to : Found) (m : Message) (ys : List Message) → added_to to m ys ≡ ys ++ copy_to m (new_to m to ys)
-added-to-is (At s) m ys = added_is ys (placed m s) ∙ go (waits ys (placed m s))
+added-to-is (Some s) m ys = added_is ys (placed m s) ∙ go (waits ys (placed m s))
   where
-    go : (b : Bool) → cond b ys (ys ++ (placed m s ∷ [])) ≡ ys ++ copy_to m (cond b Nothing (At s))
+    go : (b : Bool) → cond b ys (ys ++ (placed m s ∷ [])) ≡ ys ++ copy_to m (cond b None (Some s))
     go true = sym (append-nil ys)
     go false = refl
-added-to-is Nothing m ys = sym (append-nil ys)
+added-to-is None m ys = sym (append-nil ys)
 
 copy-length : (m : Message) (to : Found) → length (copy_to m to) ≡ one_or_none to
-copy-length m (At s) = refl
-copy-length m Nothing = refl
+copy-length m (Some s) = refl
+copy-length m None = refl
 
 -- ---- all of them
 

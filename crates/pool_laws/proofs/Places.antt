@@ -1,21 +1,21 @@
 -- The loops over places. A pool by value has 256 of them, so what waits has the pool's count, and what is left stands at its places; a
 -- search that passed the messages before `at` ends as the definition says. Assumes nothing.
+use Rattle.std.specs.Prelude.{Some, None}
 use mathlib.Core.Path.{◌≡◌, refl, sym, ◌∙◌, ap}
 use mathlib.Core.Bool.{Bool, true, false, ◌&&◌, ◌||◌}
 use mathlib.Core.List.{List, [], ◌∷◌, ◌++◌}
-use Prim.Native.Nat.{ℕ, zero, suc, ◌+◌, ◌<◌, ◌≤◌}
+use Prim.Native.Nat.{ℕ, ◌+◌, ◌<◌, ◌≤◌}
 use native.Mathlib.Numerals.{add-one}
 use native.Mathlib.Omega.{arith}
 use borrow.Author.Count.{below_more}
 use borrow.Author.Tests.{eq-eqb, ne_eqb}
 use lib.Dec.{eqb}
 use lib.ListN.{length, get_or, take}
-use lib.Seq.{length-take-le, get_or-take, take-suc}
+use lib.Seq.{take-suc}
+use Rattle.std.specs.List.{list_any}
 use mir.Val.{Val}
 use denote.Laws.{Is}
-use Rattle.marks.specs.declared.Found.TheVariants.{At, Nothing}
 use Rattle.marks.specs.Marks.{all_to}
-use Rattle.marks.proofs.Bools.{or_left, or_right, or-fails}
 use Rattle.marks.proofs.Laws.{more, fails}
 use Rattle.rules.specs.declared.Message.{Message}
 use Rattle.rules.specs.declared.Pool.{Pool}
@@ -80,11 +80,11 @@ module _ (m : Message) (b : List ℕ) (xs : List Message) (e : b ≡ fields_of m
   unfolding alike
   there i = ap (λ (r : List ℕ). same_to 9 (fields_of (get_or xs i blank)) r) (sym e)
 
-  pub missed : (at : ℕ) → length xs ≤ at → Passed b xs at → first_equal xs m ≡ Nothing
+  pub missed : (at : ℕ) → length xs ≤ at → Passed b xs at → first_equal xs m ≡ None
   missed at h k = first-equal-none xs m (λ t l. there t ∙ k.differ t (omega arith))
 
   pub met : (at f : ℕ) (a : List ℕ) → at < length xs → Passed b xs at → a ≡ fields_of (get_or xs at blank) → f ≡ 9 → Same f a b
-      → first_equal xs m ≡ At at
+      → first_equal xs m ≡ Some at
   met at f a h k q nine s =
       first-equal-at xs m at h
       (there at ∙ ap (λ (r : List ℕ). same_to 9 r b) (sym q) ∙ ap (λ (i : ℕ). same_to i a b) (sym nine) ∙ s.so)
@@ -92,57 +92,12 @@ module _ (m : Message) (b : List ℕ) (xs : List Message) (e : b ≡ fields_of m
 
 -- ---- whether a message waits that passes a test
 
-abbrev pub is_join : ℕ → Message → Bool
-is_join i x = eqb x.kind 2 && eqb x.word i
-
-abbrev pub is_reply_to : ℕ → Message → Bool
-is_reply_to i x = eqb x.kind 3 && eqb x.dest i
-
--- some message passes
-unfoldable pub some_of : (Message → Bool) → List Message → Bool
-some_of f [] = false
-some_of f (x ∷ xs) = f x || some_of f xs
-
-pub join-some : (xs : List Message) (i : ℕ) → join_waits xs i ≡ some_of (is_join i) xs
-unfolding join_waits some_of
+pub join-some : (xs : List Message) (i : ℕ) → join_waits xs i ≡ list_any (λ x. eqb x.kind 2 && eqb x.word i) xs
+unfolding join_waits
 join-some [] i = refl
-join-some (x ∷ xs) i = ap (λ (b : Bool). is_join i x || b) (join-some xs i)
+join-some (x ∷ xs) i = ap (λ (b : Bool). (eqb x.kind 2 && eqb x.word i) || b) (join-some xs i)
 
-pub reply-some : (xs : List Message) (i : ℕ) → reply_waits xs i ≡ some_of (is_reply_to i) xs
-unfolding reply_waits some_of
+pub reply-some : (xs : List Message) (i : ℕ) → reply_waits xs i ≡ list_any (λ x. eqb x.kind 3 && eqb x.dest i) xs
+unfolding reply_waits
 reply-some [] i = refl
-reply-some (x ∷ xs) i = ap (λ (b : Bool). is_reply_to i x || b) (reply-some xs i)
-
-some_at : (f : Message → Bool) (xs : List Message) (s : ℕ) → s < length xs → f (get_or xs s blank) ≡ true → some_of f xs ≡ true
-unfolding some_of
-some_at f [] s h e = absurd (omega arith)
-some_at f (x ∷ xs) zero h e = or_left (some_of f xs) e
-some_at f (x ∷ xs) (suc s) h e = or_right (f x) (some_at f xs s (omega arith) e)
-
-some-none : (f : Message → Bool) (xs : List Message) → ((s : ℕ) → s < length xs → f (get_or xs s blank) ≡ false) → some_of f xs ≡ false
-unfolding some_of
-some-none f [] g = refl
-some-none f (x ∷ xs) g = or-fails (g 0 (omega arith)) (some-none f xs (λ s h. g (suc s) (omega arith)))
-
--- none of the places below `at` passes
-pub record Unasked (f : Message → Bool) (places : List Message) (at : ℕ) : Type 0 where
-  pub none : (k : ℕ) → k < at → f (get_or places k blank) ≡ false
-
-pub unasked-none : (f : Message → Bool) (places : List Message) → Unasked f places 0
-unasked-none f places = record { none = λ k h. absurd (omega arith) }
-
-pub unasked-more : (f : Message → Bool) (places : List Message) (at : ℕ) → f (get_or places at blank) ≡ false → Unasked f places at
-    → Unasked f places (at + 1)
-unasked-more f places at e k = record { none = below_more _ _ k.none e }
-
-module _ (f : Message → Bool) (places : List Message) (n : ℕ) (long : length places ≡ 256) (low : n ≤ 256) where
-  pub unasked-end : (at : ℕ) → n ≤ at → Unasked f places at → some_of f (take n places) ≡ false
-  unasked-end at h k =
-      let l = length-take-le n places (omega arith) in
-      some-none f (take n places)
-      (λ s d. ap f (get_or-take n places s blank (omega (arith, l))) ∙ k.none s (omega (arith, l)))
-
-  pub asked : (at : ℕ) → at < n → f (get_or places at blank) ≡ true → some_of f (take n places) ≡ true
-  asked at h e =
-      some_at f (take n places) at (omega (arith, length-take-le n places (omega arith)))
-      (ap f (get_or-take n places at blank h) ∙ e)
+reply-some (x ∷ xs) i = ap (λ (b : Bool). (eqb x.kind 3 && eqb x.dest i) || b) (reply-some xs i)

@@ -1,5 +1,6 @@
 -- Sending to a set of slots, at once: what is added is a copy for each slot of the set to which no equal waits, in rising order, for
 -- copies with different destinations are never equal. Assumes nothing.
+use Rattle.std.specs.Prelude.{Some, None}
 use mathlib.Core.Path.{◌≡◌, refl, sym, ◌∙◌, ap}
 use mathlib.Core.Logic.{◌⊎◌, inl, inr}
 use mathlib.Core.Bool.{Bool, true, false, cond, ◌&&◌, ◌||◌, not, or-false, and-true}
@@ -10,7 +11,6 @@ use native.Mathlib.Omega.{arith}
 use borrow.Author.Tests.{eq-eqb, ne_eqb, eqb-true}
 use lib.Dec.{eqb}
 use lib.ListN.{length, length-append}
-use Rattle.marks.specs.declared.Found.TheVariants.{At, Nothing}
 use Rattle.marks.specs.Marks.{has, tally, size_of, without, add_of, remove_of, lowest_of}
 use Rattle.marks.proofs.Laws.{has-zero, has-gather, gather-same, gather_none, has-without, has-remove, First, lowest-found, first-none}
 use Rattle.marks.proofs.Bools.{opposed, bool_false, bool_same, and-fails-left, and-fails-right, true-not}
@@ -127,7 +127,7 @@ unfolding copies_to
 copies-none m set zero f = refl
 copies-none m set (suc n) f = rw (copies-none m set n (λ s h. f s (omega arith)), f n (omega arith))
 
-pub copies-end : (m : Message) (set : ℕ) → lowest_of set ≡ Nothing → copies m set ≡ []
+pub copies-end : (m : Message) (set : ℕ) → lowest_of set ≡ None → copies m set ≡ []
 unfolding lowest_of
 copies-end m set e = copies-none m set 64 (first-none 64 (has set) e)
 
@@ -153,7 +153,7 @@ copies-from m set s (suc n) i l h = go (λ k. copies-from m set s n i k (omega a
         rw (none, gone, here, last) (ap (λ (t : ℕ). placed m t ∷ []) (sym e))
     go f (inr k) = rw (rest, ne_eqb n s (omega arith), and-true (has set n), f k)
 
-pub copies-more : (m : Message) (set s : ℕ) → lowest_of set ≡ At s → copies m set ≡ placed m s ∷ copies m (remove_of set s)
+pub copies-more : (m : Message) (set s : ℕ) → lowest_of set ≡ Some s → copies m set ≡ placed m s ∷ copies m (remove_of set s)
 copies-more m set s e = let i = lowest-found set s e in copies-from m set s 64 i i.below (omega arith)
 
 -- ---- how many

@@ -1,9 +1,7 @@
 -- What a step leaves of the pool, and which of its plan's messages are new. "Once place `gone` is away": where gone is at or above the
 -- count, none is away. Definitions only; their laws are in Laid, Sends and News. Assumes nothing.
-use Rattle.std.specs.Prelude.{◌≡◌, Bool, true, cond, not, List, [], ◌∷◌, ◌++◌, ℕ, zero, suc, ◌+◌, ◌-◌, ◌≤◌, eqb, leb, ltb}
-use Rattle.marks.specs.Marks.{has, gather, add_of, without, size_of}
-use Rattle.marks.specs.declared.Found.{Found}
-use Rattle.marks.specs.declared.Found.TheVariants.{At, Nothing}
+use Rattle.std.specs.Prelude.{◌≡◌, Bool, true, cond, not, List, [], ◌∷◌, ◌++◌, ℕ, zero, suc, ◌+◌, ◌-◌, ◌≤◌, eqb, leb, ltb, Some, None}
+use Rattle.marks.specs.Marks.{has, gather, add_of, without, size_of, Found}
 use Rattle.rules.specs.declared.Message.{Message}
 use Rattle.rules.specs.declared.Pool.{Pool}
 use Rattle.rules.specs.declared.Plan.{Plan}
@@ -30,8 +28,8 @@ place_of gone at = cond (ltb at gone) at (at + 1)
 
 -- a slot is one of the 64 that marks stand for
 abbrev pub slotted : Found → Bool
-slotted (At s) = ltb s 64
-slotted Nothing = true
+slotted (Some s) = ltb s 64
+slotted None = true
 
 -- the slots to which an equal of m waits
 unfoldable pub held_of : Message → List Message → ℕ
@@ -43,8 +41,8 @@ held_with m set q = cond (alike q (placed m q.dest)) (add_of set q.dest) set
 
 -- m for a slot, if there is one
 abbrev pub copy_to : Message → Found → List Message
-copy_to m (At s) = placed m s ∷ []
-copy_to m Nothing = []
+copy_to m (Some s) = placed m s ∷ []
+copy_to m None = []
 
 -- m for each slot below n of a set, in rising order
 unfoldable pub copies_to : Message → ℕ → ℕ → List Message
@@ -58,8 +56,8 @@ copies m set = copies_to m set 64
 
 -- the slot to which m is new, if it goes to one: none where an equal is left
 abbrev pub new_to : Message → Found → List Message → Found
-new_to m (At s) ys = cond (waits ys (placed m s)) Nothing (At s)
-new_to m Nothing ys = Nothing
+new_to m (Some s) ys = cond (waits ys (placed m s)) None (Some s)
+new_to m None ys = None
 
 -- the first message of the plan, as a list: none if an equal is left
 unfoldable pub new_one : Plan → List Message → List Message
@@ -75,8 +73,8 @@ news_of x ys = record { one = new_to x.first x.to ys; all = new_all x ys }
 
 -- a plan sends something
 abbrev pub sends_to : Found → ℕ → Bool
-sends_to (At s) all = true
-sends_to Nothing all = not (eqb all 0)
+sends_to (Some s) all = true
+sends_to None all = not (eqb all 0)
 
 abbrev pub sends_of : Plan → Bool
 sends_of x = sends_to x.to x.all
@@ -88,8 +86,8 @@ first_new x = record { one = x.to; all = 0 }
 -- ---- how many there are after the step
 
 abbrev pub one_or_none : Found → ℕ
-one_or_none (At s) = 1
-one_or_none Nothing = 0
+one_or_none (Some s) = 1
+one_or_none None = 0
 
 -- how many messages are new
 abbrev pub new_count : New → ℕ

@@ -30,7 +30,7 @@ use Rattle.file.specs.Format.{file_of}
 use Rattle.file.specs.Load.{header_fits, offsets_fit, statuses_fit, file_table, part_pool, file_pool, load_of}
 use Rattle.face.specs.Calls.{loaded_of}
 use Rattle.rehearsal.specs.declared.Checker.{Checker}
-use Rattle.rehearsal.specs.declared.Verdict.TheVariants.{Accepted, Bad}
+use Rattle.std.specs.Prelude.{Ok, Err}
 use Rattle.rehearsal.specs.declared.Reply.TheVariants.{LookedAt, Over}
 use Rattle.rehearsal.specs.Rehearsal.{Claim, agrees_with, verdict_from, verdict_of, begin_of, is_open, checked_of, handed_of, reply_number}
 use Rattle.rehearsal.specs.Claims.{checker_of}
@@ -82,19 +82,19 @@ bytes = word 2 ++ word 0 ++ word 0 ++ word 0 ++ word 32 ++ word 32 ++ word 32 ++
 
 -- a checker that has found three steps good, and one that has found the fourth bad; their pool says that a message waits
 abbrev three : Checker
-three = record { verdict = Accepted; steps = 3; table = no_table; pool = record { count = 1; places = [] } }
+three = record { verdict = Ok tt; steps = 3; table = no_table; pool = record { count = 1; places = [] } }
 
 abbrev ended : Checker
-ended = record { verdict = Bad 4; steps = 3; table = no_table; pool = laid [] }
+ended = record { verdict = Err 4; steps = 3; table = no_table; pool = laid [] }
 
 pub record Cases : Type 0 where
   -- a whole rehearsal, good; possibly none; the first or second step bad, the second refused: that Lookup waits
-  pub good : verdict_of quiet (looks (looking 200) ∷ delivers quiet ∷ []) ≡ Accepted
-  pub none : verdict_of quiet [] ≡ Accepted
-  pub no_start : verdict_of [] (looks (looking 200) ∷ delivers quiet ∷ []) ≡ Bad 0
-  pub byte-changed : verdict_of quiet (looks (looking 201) ∷ delivers quiet ∷ []) ≡ Bad 1
-  pub refused : verdict_of quiet (looks (looking 200) ∷ looks (looking 200) ∷ []) ≡ Bad 2
-  pub singly : (checker_of quiet (looks (looking 200) ∷ delivers quiet ∷ [])).verdict ≡ Accepted
+  pub good : verdict_of quiet (looks (looking 200) ∷ delivers quiet ∷ []) ≡ Ok tt
+  pub none : verdict_of quiet [] ≡ Ok tt
+  pub no_start : verdict_of [] (looks (looking 200) ∷ delivers quiet ∷ []) ≡ Err 0
+  pub byte-changed : verdict_of quiet (looks (looking 201) ∷ delivers quiet ∷ []) ≡ Err 1
+  pub refused : verdict_of quiet (looks (looking 200) ∷ looks (looking 200) ∷ []) ≡ Err 2
+  pub singly : (checker_of quiet (looks (looking 200) ∷ delivers quiet ∷ [])).verdict ≡ Ok tt
   -- precisely the stated file: the last byte, a byte more, a byte less
   pub same_bytes : agrees_with done bytes ≡ true
   pub last_byte : agrees_with done (take 31 bytes ++ (1 ∷ [])) ≡ false
@@ -102,21 +102,21 @@ pub record Cases : Type 0 where
   pub byte-less : agrees_with done (take 31 bytes) ≡ false
   pub not_done : agrees_with undone bytes ≡ false
   -- the start
-  pub begins : (begin_of []).verdict ≡ Bad 0
+  pub begins : (begin_of []).verdict ≡ Err 0
   pub begins-at-0 : (begin_of []).steps ≡ 0
   -- a good step: one more, on the table and with the messages after it
   pub one_more_lem : (checked_of three done bytes).steps ≡ 4
   pub table-after : (checked_of three done bytes).table.m ≡ 2
   pub pool-after : (checked_of three done bytes).pool.count ≡ 0
   -- a bad one: its number is the next, and the rest stays
-  pub bad-number : (checked_of three done []).verdict ≡ Bad 4
+  pub bad-number : (checked_of three done []).verdict ≡ Err 4
   pub bad-not-counted : (checked_of three done []).steps ≡ 3
   pub bad-table : (checked_of three done []).table.m ≡ 0
   -- 12 after an end or beyond 1,000, and the checker stays as it is
-  pub thousandth : is_open Accepted 999 ≡ true
-  pub beyond : is_open Accepted 1000 ≡ false
+  pub thousandth : is_open (Ok tt) 999 ≡ true
+  pub beyond : is_open (Ok tt) 1000 ≡ false
   pub after-end : reply_number (handed_of ended (Take 0) []).reply ≡ 12
-  pub after-end-verdict : (handed_of ended (Take 0) []).checker.verdict ≡ Bad 4
+  pub after-end-verdict : (handed_of ended (Take 0) []).checker.verdict ≡ Err 4
   pub after-end-steps : (handed_of ended (Take 0) []).checker.steps ≡ 3
   pub going_on : reply_number (handed_of three (Take 0) []).reply ≡ 0
   -- the numbers

@@ -12,8 +12,8 @@ use Rattle.rules.specs.declared.Action.{Action}
 use Rattle.rules.specs.declared.Pool.{Pool}
 use Rattle.table_type.specs.declared.Table.{Table}
 use Rattle.step.specs.Step.{step_of}
-use Rattle.rehearsal.specs.declared.Verdict.{Verdict}
-use Rattle.rehearsal.specs.declared.Verdict.TheVariants.{Accepted, Bad}
+use Rattle.rehearsal.specs.Rehearsal.{Verdict}
+use Rattle.std.specs.Prelude.{Ok, Err}
 use Rattle.rehearsal.specs.declared.Checker.{Checker}
 use Rattle.rehearsal.specs.declared.Handed.{Handed}
 use Rattle.rehearsal.specs.declared.Reply.TheVariants.{LookedAt, Over}
@@ -32,7 +32,7 @@ module _ (c : Checker) (a : Action) (file : List ℕ) where
   unfolding handed_of
   shut-stays e = rw e
 
-pub ended-shut : (c : Checker) (k : ℕ) → c.verdict ≡ Bad k → is_open c.verdict c.steps ≡ false
+pub ended-shut : (c : Checker) (k : ℕ) → c.verdict ≡ Err k → is_open c.verdict c.steps ≡ false
 ended-shut c k e = rw e
 
 pub over-keeps : OverKeeps
@@ -53,9 +53,9 @@ over-always c a file = go c.verdict refl (lt-or-le c.steps most_steps)
 
     go : (v : Verdict) → c.verdict ≡ v → (c.steps < most_steps) ⊎ (most_steps ≤ c.steps)
         → (reply_number (handed_of c a file).reply ≡ 12) ↔ (Ended c.verdict ⊎ (most_steps ≤ c.steps))
-    go (Bad k) e any = (λ n. inl (k, e), λ h. over (ended-shut c k e))
-    go Accepted e (inr l) = (λ n. inr l, λ h. over (rw e (le-ltb c.steps most_steps l)))
-    go Accepted e (inl l) =
+    go (Err k) e any = (λ n. inl (k, e), λ h. over (ended-shut c k e))
+    go (Ok x) e (inr l) = (λ n. inr l, λ h. over (rw e (le-ltb c.steps most_steps l)))
+    go (Ok x) e (inl l) =
         let zero : reply_number (handed_of c a file).reply ≡ 0 =
         ap (λ (h : Handed). reply_number h.reply) (open-takes c a file (rw e (lt-ltb c.steps most_steps l)))
         in (
@@ -73,10 +73,10 @@ end_stays c k (x ∷ xs) e =
 
 -- the checker that has found k steps good, and the one that then met a bad one
 abbrev pub good : ℕ → Table → Pool → Checker
-good k t p = record { verdict = Accepted; steps = k; table = t; pool = p }
+good k t p = record { verdict = Ok tt; steps = k; table = t; pool = p }
 
 abbrev pub bad : ℕ → Table → Pool → Checker
-bad k t p = record { verdict = Bad (suc k); steps = k; table = t; pool = p }
+bad k t p = record { verdict = Err (suc k); steps = k; table = t; pool = p }
 
 module _ (k : ℕ) (t : Table) (p : Pool) (x : Claim) where
   pub full-stays : most_steps ≤ k → handed_of (good k t p) x.action x.file ≡ record { reply = Over; checker = good k t p }

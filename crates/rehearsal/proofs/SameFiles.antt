@@ -1,5 +1,7 @@
 -- What the tests of a claim tell: two files pass `same` exactly if they are equal, and a step passes `agrees_with` exactly if it is done and
 -- its file is the stated one. Assumes nothing.
+use Rattle.rules.specs.Shapes.{Answer}
+use Rattle.std.specs.Prelude.{Ok, Err}
 use mathlib.Core.Path.{◌≡◌, refl, sym, ap, ap₂}
 use mathlib.Core.Bool.{Bool, true, false}
 use mathlib.Core.List.{List, [], ◌∷◌}
@@ -8,8 +10,6 @@ use Prim.Native.Nat.{ℕ}
 use borrow.Author.Tests.{eqb-true, eq-eqb}
 use lib.Dec.{eqb}
 use Rattle.marks.proofs.Bools.{clash, bool_cases, bool_false, opposed, and_left, and_right, and_both}
-use Rattle.rules.specs.declared.Answer.{Answer}
-use Rattle.rules.specs.declared.Answer.TheVariants.{Done, Refused}
 use Rattle.rules.specs.declared.Pool.{Pool}
 use Rattle.table_type.specs.declared.Table.{Table}
 use Rattle.file.specs.Format.{file_of}
@@ -31,9 +31,9 @@ same-equal (x ∷ xs) (y ∷ ys) e =
 pub same-exactly : (xs ys : List ℕ) → (same xs ys ≡ true) ↔ (xs ≡ ys)
 same-exactly xs ys = (same-equal xs ys, λ e. rw e (same_self ys))
 
-done-told : (w : Answer) → is_done w ≡ true → w ≡ Done
-done-told Done e = refl
-done-told (Refused why) e = absurd (clash (sym e))
+done-told : (w : Answer) → is_done w ≡ true → w ≡ Ok tt
+done-told (Ok tt) e = refl
+done-told (Err why) e = absurd (clash (sym e))
 
 module _ (t : Table) (p : Pool) (c : Claim) where
   pub agrees-exactly : (agrees_with (made t p c) c.file ≡ true) ↔ Agrees t p c

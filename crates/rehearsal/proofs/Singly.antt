@@ -1,6 +1,7 @@
 -- A rehearsal handed over singly. While all is good a claim is looked at as the whole rehearsal would look at it, up to the most steps. By
 -- going through the claims: what the checker says, how many steps it has counted, and that its table is what the file stated last holds
 -- (`After`). Assumes nothing: Held is what the machine's types hold of every value.
+use Rattle.rules.specs.Shapes.{Answer}
 use mathlib.Core.Path.{◌≡◌, refl, sym, ◌∙◌, ap}
 use mathlib.Core.List.{List, [], ◌∷◌}
 use mathlib.Core.Logic.{◌⊎◌, inl, inr}
@@ -8,8 +9,6 @@ use Prim.Native.Nat.{ℕ, zero, suc, ◌+◌}
 use native.Mathlib.Omega.{arith}
 use lib.ListN.{length, take}
 use lib.Seq.{take_all}
-use Rattle.rules.specs.declared.Answer.{Answer}
-use Rattle.rules.specs.declared.Answer.TheVariants.{Done, Refused}
 use Rattle.rules.specs.declared.Pool.{Pool}
 use Rattle.rules.specs.Numbers.{answer_number}
 use Rattle.rules.specs.Pool.{laid}
@@ -23,7 +22,7 @@ use Rattle.file.proofs.Exactly.{load-makes}
 use Rattle.file.proofs.Theorems.{load-of-file}
 use Rattle.face.proofs.Laid.{step-neat, not_done}
 use Rattle.face.specs.Calls.{loaded_of, next_of}
-use Rattle.rehearsal.specs.declared.Verdict.TheVariants.{Accepted, Bad}
+use Rattle.std.specs.Prelude.{Ok, Err}
 use Rattle.rehearsal.specs.declared.Checker.{Checker}
 use Rattle.rehearsal.specs.Rehearsal.{Claim, most_steps, verdict_from, verdict_of, begin_of}
 use Rattle.rehearsal.specs.Claims.{Loads, made, Agrees, handed_over, checker_of, last_file, SinglyWhole, SinglyFirst, LastTable, OnLastFile}
@@ -49,8 +48,8 @@ claim-tells t p x a held =
 -- messages p, and `file` was stated last
 pub record After (file : List ℕ) (k : ℕ) (t : Table) (p : Pool) (cs : List Claim) (c : Checker) : Type 0 where
   pub verdict : c.verdict ≡ verdict_from (suc k) t p cs
-  pub steps : c.verdict ≡ Accepted → c.steps ≡ k + length cs
-  pub last : c.verdict ≡ Accepted → Tells file t p → Tells (last_file file cs) c.table c.pool
+  pub steps : c.verdict ≡ Ok tt → c.steps ≡ k + length cs
+  pub last : c.verdict ≡ Ok tt → Tells file t p → Tells (last_file file cs) c.table c.pool
 
 after_none : (file : List ℕ) (k : ℕ) (t : Table) (p : Pool) → After file k t p [] (good k t p)
 unfolding verdict_from
@@ -65,7 +64,7 @@ module _ (file : List ℕ) (k : ℕ) (t : Table) (p : Pool) (x : Claim) (cs : Li
         last = λ v h. r.last v (claim-tells t p x a);
       }
 
-  after-bad : (Agrees t p x → ⊥) → c.verdict ≡ Bad (suc k) → After file k t p (x ∷ cs) c
+  after-bad : (Agrees t p x → ⊥) → c.verdict ≡ Err (suc k) → After file k t p (x ∷ cs) c
   after-bad n v =
       record {
         verdict = v ∙ sym (ends_there (suc k) t p x cs n);
@@ -102,18 +101,18 @@ start-tells start e held =
 abbrev pub Handing : List ℕ → List Claim → Type 0
 Handing start cs =
     (Loads start × After start 0 (loaded_of start).table (loaded_of start).pool (take most_steps cs) (checker_of start cs))
-    ⊎ ((Loads start → ⊥) × ((checker_of start cs).verdict ≡ Bad 0))
+    ⊎ ((Loads start → ⊥) × ((checker_of start cs).verdict ≡ Err 0))
 
 pub handing : (start : List ℕ) (cs : List Claim) → Handing start cs
 unfolding begin_of
 handing start cs = go (loaded_of start).answer refl
   where
     go : (w : Answer) → (loaded_of start).answer ≡ w → Handing start cs
-    go Done e =
+    go (Ok tt) e =
         let begun : begin_of start ≡ good 0 (loaded_of start).table (loaded_of start).pool = rw e in
         inl (e, rw begun (after cs most_steps 0 start (loaded_of start).table (loaded_of start).pool refl))
-    go (Refused why) e =
-        let begun : (begin_of start).verdict ≡ Bad 0 = rw e in
+    go (Err why) e =
+        let begun : (begin_of start).verdict ≡ Err 0 = rw e in
         inr (not_done e, ap (λ (c : Checker). c.verdict) (end_stays (begin_of start) 0 cs begun) ∙ begun)
 
 pub singly-first : SinglyFirst

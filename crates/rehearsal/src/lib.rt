@@ -5,11 +5,7 @@ use rules::Pool;
 use table_type::Table;
 
 // What is said of the start and of the steps that were looked at: accepted so far, or the number of the first bad step, 0 for the start.
-#[derive(Clone, Copy)]
-pub enum Verdict {
-    Accepted,
-    Bad(usize),
-}
+pub type Verdict = Result<(), usize>;
 
 // The verdict, how many steps were found good, and the table and the messages after the last of them: those of the start where there is none, and of no
 // table where the start does not load.
@@ -21,14 +17,14 @@ pub struct Checker {
     pub pool: Pool,
 }
 
-// A step is looked at, or it is refused: the check has ended, or 1,000 steps were looked at.
+// A step is looked at, or it is refused: the check has ended, or 1,000 steps were looked at. Two names without a value: no Result says more.
 #[derive(Clone, Copy)]
 pub enum Reply {
     LookedAt,
     Over,
 }
 
-// The reply to a step that was handed over, and the checker after it.
+// The reply to a step that was handed over, and the checker after it: a refusal leaves the checker too, so that it stands beside the reply.
 #[derive(Clone, Copy)]
 pub struct Handed {
     pub reply: Reply,

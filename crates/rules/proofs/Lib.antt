@@ -6,3 +6,4 @@ pub mod MailCases
 pub mod FitsCases
 pub mod NumberCases
 pub mod WaitCases
+pub mod Statuses

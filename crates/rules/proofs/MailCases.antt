@@ -1,11 +1,11 @@
 -- The waiting messages computed by the checker: which are equal, which is the first equal, adding, removing, sending, and the places. Assumes nothing.
+use Rattle.marks.specs.Marks.{Found}
+use Rattle.std.specs.Prelude.{Some, None}
 use mathlib.Core.Path.{◌≡◌, refl}
 use mathlib.Core.Bool.{true, false}
 use mathlib.Core.List.{[], ◌∷◌}
 use Prim.Native.Nat.{ℕ}
 use lib.ListN.{length, get_or}
-use Rattle.marks.specs.declared.Found.{Found}
-use Rattle.marks.specs.declared.Found.TheVariants.{At, Nothing}
 use Rattle.rules.specs.declared.Status.TheVariants.{Ok}
 use Rattle.rules.specs.declared.Message.{Message}
 use Rattle.rules.specs.declared.Pool.{Pool}
@@ -97,7 +97,7 @@ pub record Waiting : Type 0 where
   -- no two messages are equal
   pub different : (all_different (a ∷ b ∷ c ∷ []) ≡ true) × (all_different (a ∷ b ∷ a ∷ []) ≡ false) × (all_different (a ∷ b ∷ b ∷ []) ≡ false)
   -- the first waiting message equal to it, in pool order
-  pub first : (first_equal (a ∷ b ∷ b ∷ []) b ≡ At 1) × (first_equal (a ∷ b ∷ a ∷ []) a ≡ At 0) × (first_equal (a ∷ b ∷ []) c ≡ Nothing)
+  pub first : (first_equal (a ∷ b ∷ b ∷ []) b ≡ Some 1) × (first_equal (a ∷ b ∷ a ∷ []) a ≡ Some 0) × (first_equal (a ∷ b ∷ []) c ≡ None)
   -- adds nothing if there is one, else goes to the end
   pub not-added : added (a ∷ b ∷ []) a ≡ a ∷ b ∷ []
   -- T-07: the earlier message with its own number stays, the smaller or the larger
@@ -111,9 +111,9 @@ pub record Waiting : Type 0 where
   pub to-the-ends : sent probe 9223372036854775809 [] ≡ placed probe 0 ∷ placed probe 63 ∷ []
   pub not-twice : sent probe 22 (placed probe 2 ∷ []) ≡ placed probe 2 ∷ placed probe 1 ∷ placed probe 4 ∷ []
   -- the one message before those to each slot
-  pub first-then-each : mailed (plan (At 5) 6) (a ∷ []) ≡ a ∷ placed reply 5 ∷ placed probe 1 ∷ placed probe 2 ∷ []
-  pub each-alone : mailed (plan Nothing 6) (a ∷ []) ≡ a ∷ placed probe 1 ∷ placed probe 2 ∷ []
-  pub one-alone : mailed (plan (At 0) 0) (a ∷ []) ≡ a ∷ placed reply 0 ∷ []
+  pub first-then-each : mailed (plan (Some 5) 6) (a ∷ []) ≡ a ∷ placed reply 5 ∷ placed probe 1 ∷ placed probe 2 ∷ []
+  pub each-alone : mailed (plan None 6) (a ∷ []) ≡ a ∷ placed probe 1 ∷ placed probe 2 ∷ []
+  pub one-alone : mailed (plan (Some 0) 0) (a ∷ []) ≡ a ∷ placed reply 0 ∷ []
 
 pub waiting-messages : Waiting
 unfolding opened

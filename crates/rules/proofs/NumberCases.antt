@@ -1,11 +1,11 @@
 -- 01's limits and numbers, the tests of a status, T-01's letters, and the fields of each message, one by one. Assumes nothing.
+use Rattle.std.specs.Prelude.{Ok, Err}
 use mathlib.Core.Path.{◌≡◌, refl}
 use mathlib.Core.List.{List, [], ◌∷◌}
 use Prim.Native.Nat.{ℕ}
 use Rattle.rules.specs.declared.Sides.{Sides}
 use Rattle.rules.specs.declared.Status.TheVariants as status
 use Rattle.rules.specs.declared.Refusal.TheVariants as no
-use Rattle.rules.specs.declared.Answer.TheVariants.{Done, Refused}
 use Rattle.rules.specs.declared.Message.{Message}
 use Rattle.rules.specs.declared.Via.TheVariants as via
 use Rattle.rules.specs.Limits.{m_low, m_high, l_low, l_high, nodes_high, messages_high}
@@ -23,29 +23,29 @@ pub record Numbers : Type 0 where
   -- status (0 dead, 1 wait, 2 ok, 3 ready)
   pub statuses : status_number status.Dead ∷ status_number status.Wait ∷ status_number status.Ok ∷ status_number status.Ready ∷ []
       ≡ 0 ∷ 1 ∷ 2 ∷ 3 ∷ []
-  pub done : answer_number Done ≡ 0
+  pub done : answer_number (Ok tt) ≡ 0
   -- slot, place or key out of range
-  pub out_of_range : answer_number (Refused no.OutOfRange) ≡ 1
+  pub out_of_range : answer_number (Err no.OutOfRange) ≡ 1
   -- status forbids it
-  pub by-status : answer_number (Refused no.Status) ≡ 2
+  pub by-status : answer_number (Err no.Status) ≡ 2
   -- the same request already waits
-  pub waits : answer_number (Refused no.Waits) ≡ 3
+  pub waits : answer_number (Err no.Waits) ≡ 3
   -- leaf set empty, not empty or incomplete, as named
-  pub leaf-set : answer_number (Refused no.LeafSet) ≡ 4
+  pub leaf-set : answer_number (Err no.LeafSet) ≡ 4
   -- sender or partner not allowed
-  pub partner : answer_number (Refused no.Partner) ≡ 5
+  pub partner : answer_number (Err no.Partner) ≡ 5
   -- the pool after the step would exceed 256
-  pub full : answer_number (Refused no.Full) ≡ 6
+  pub full : answer_number (Err no.Full) ≡ 6
   -- file shorter than 32 bytes
-  pub short : answer_number (Refused no.Short) ≡ 7
+  pub short : answer_number (Err no.Short) ≡ 7
   -- M, L, n or message count out of range, or last header word not 0
-  pub header : answer_number (Refused no.Header) ≡ 8
+  pub header : answer_number (Err no.Header) ≡ 8
   -- an offset, the total or the real length disagrees with the counts
-  pub offsets : answer_number (Refused no.Offsets) ≡ 9
+  pub offsets : answer_number (Err no.Offsets) ≡ 9
   -- a table, record or start list breaks validity; A empty; message list without 256 places
-  pub invalid : answer_number (Refused no.Invalid) ≡ 10
+  pub invalid : answer_number (Err no.Invalid) ≡ 10
   -- write buffer too small
-  pub no_room_lem : answer_number (Refused no.NoRoom) ≡ 11
+  pub no_room_lem : answer_number (Err no.NoRoom) ≡ 11
   -- none, `l` and `r`
   pub vias : via_number via.Unrouted ∷ via_number via.Leaf ∷ via_number via.Routing ∷ [] ≡ 0 ∷ 108 ∷ 114 ∷ []
 

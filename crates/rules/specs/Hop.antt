@@ -1,10 +1,8 @@
 -- The next hop for a key k at node i, and where it came from (T-01). Definitions only, each under 01's or 02's sentence; dead is the set of the dead nodes.
 -- Their laws are in crate rules. Assumes nothing.
-use Rattle.std.specs.Prelude.{Bool, cond, ◌&&◌, ◌||◌, ◌^◌, leb}
+use Rattle.std.specs.Prelude.{Bool, cond, ◌&&◌, ◌||◌, ◌^◌, leb, Some, None}
 use Rattle.ring.specs.Distance.{fall_of, nearer}
-use Rattle.marks.specs.Marks.{has, union, without}
-use Rattle.marks.specs.declared.Found.{Found}
-use Rattle.marks.specs.declared.Found.TheVariants.{At, Nothing}
+use Rattle.marks.specs.Marks.{has, union, without, Found}
 use Rattle.rules.specs.Names.{Slot, Marks, Ids, Key}
 use Rattle.rules.specs.declared.Way.TheVariants.{Near}
 use Rattle.rules.specs.Pick.{id_at, ahead_of, best, best_of}
@@ -42,12 +40,12 @@ nearer_than_owner g ids i k s = nearer (2 ^ g.m) k (id_at ids s) (id_at ids i)
 
 -- a node that was found, where it is nearer than i
 abbrev pub to_nearer : Ring → Ids → Slot → Key → Found → Hop
-to_nearer g ids i k (At h) = cond (nearer_than_owner g ids i k h) (To h) NoRoute
-to_nearer g ids i k Nothing = NoRoute
+to_nearer g ids i k (Some h) = cond (nearer_than_owner g ids i k h) (To h) NoRoute
+to_nearer g ids i k None = NoRoute
 
 abbrev pub to_found : Found → Hop
-to_found (At h) = To h
-to_found Nothing = NoRoute
+to_found (Some h) = To h
+to_found None = NoRoute
 
 -- the nearest leaf candidate; no legal route where none is nearer than i
 unfoldable pub leaf_hop : Ring → Ids → Marks → Slot → Node → Key → Hop

@@ -1,7 +1,6 @@
 -- What the functions over ids ask of their callers; all of it follows from a valid table. Assumes nothing.
-use Rattle.std.specs.Prelude.{List, ℕ, suc, ◌^◌, ◌<◌, ◌≤◌}
-use Rattle.marks.specs.declared.Found.{Found}
-use Rattle.marks.specs.declared.Found.TheVariants.{At, Nothing}
+use Rattle.marks.specs.Marks.{Found}
+use Rattle.std.specs.Prelude.{List, ℕ, suc, ◌^◌, ◌<◌, ◌≤◌, Some, None}
 use Rattle.rules.specs.declared.Ring.{Ring}
 use Rattle.rules.specs.Pick.{id_at}
 
@@ -31,5 +30,5 @@ pub record Listed (g : Ring) (ids : List ℕ) : Type 0 where
 
 -- what was found is a slot below n
 abbrev pub Below : Found → ℕ → Type 0
-Below (At b) n = b < n
-Below Nothing n = Unit {0}
+Below (Some b) n = b < n
+Below None n = Unit {0}

@@ -1,10 +1,8 @@
 -- Leaf sets: content, neighbours, ends, adding, overlap, complete, empty, cover. Definitions only, each under 01's sentence; i is the owner's slot,
 -- ids are the ids by slot. Their laws are in crate rules. Assumes nothing.
-use Rattle.std.specs.Prelude.{Bool, cond, ◌&&◌, ◌||◌, not, ℕ, ◌^◌, eqb}
+use Rattle.std.specs.Prelude.{Bool, cond, ◌&&◌, ◌||◌, not, ℕ, ◌^◌, eqb, Some, None}
 use Rattle.ring.specs.Distance.{fall_of, covers_key}
-use Rattle.marks.specs.Marks.{has, union, meet, add_of, single, size_of}
-use Rattle.marks.specs.declared.Found.{Found}
-use Rattle.marks.specs.declared.Found.TheVariants.{At, Nothing}
+use Rattle.marks.specs.Marks.{has, union, meet, add_of, single, size_of, Found}
 use Rattle.rules.specs.Names.{Slot, Marks, Ids, Key}
 use Rattle.rules.specs.declared.Way.{Way}
 use Rattle.rules.specs.declared.Way.TheVariants.{Up, Down, FarUp, FarDown}
@@ -14,8 +12,8 @@ use Rattle.rules.specs.declared.Sides.{Sides}
 use Rattle.rules.specs.Closest.{closest}
 
 abbrev pub or_owner : Found → Slot → Slot
-or_owner (At s) i = s
-or_owner Nothing i = i
+or_owner (Some s) i = s
+or_owner None i = i
 
 -- content = left, right and i
 unfoldable pub content_of : Sides → Slot → Marks

@@ -13,3 +13,4 @@ pub mod Letters
 pub mod Plans
 pub mod InnerAsks
 pub mod InnerSteps
+pub mod Shapes

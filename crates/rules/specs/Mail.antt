@@ -1,9 +1,7 @@
 -- The waiting messages as a list, oldest first: equality, adding, removing, sending, and which wait. Definitions only, each under its sentence of 01 or of a request;
 -- their laws are in crate pool. Assumes nothing.
-use Rattle.std.specs.Prelude.{Bool, cond, not, true, false, ◌&&◌, ◌||◌, List, [], ◌∷◌, ◌++◌, ℕ, zero, suc, ◌+◌, eqb, get_or, take, drop, length}
-use Rattle.marks.specs.Marks.{has, all_to}
-use Rattle.marks.specs.declared.Found.{Found}
-use Rattle.marks.specs.declared.Found.TheVariants.{At, Nothing}
+use Rattle.std.specs.Prelude.{Bool, cond, not, true, false, ◌&&◌, ◌||◌, List, [], ◌∷◌, ◌++◌, ℕ, zero, suc, ◌+◌, eqb, get_or, take, drop, length, Some, None}
+use Rattle.marks.specs.Marks.{has, all_to, Found}
 use Rattle.rules.specs.Names.{Slot, Marks, Place}
 use Rattle.rules.specs.declared.Message.{Message}
 use Rattle.rules.specs.Nodes.{placed}
@@ -27,16 +25,16 @@ all_different xs = all_to (length xs) (λ j. all_to j (λ i. not (alike (get_or 
 
 -- the first message equal to m, in pool order, where the list starts at place p
 unfoldable pub first_from : Message → List Message → Place → Found
-first_from m [] p = Nothing
-first_from m (x ∷ xs) p = cond (alike x m) (At p) (first_from m xs (p + 1))
+first_from m [] p = None
+first_from m (x ∷ xs) p = cond (alike x m) (Some p) (first_from m xs (p + 1))
 
 -- the first waiting message equal to it, in pool order
 unfoldable pub first_equal : List Message → Message → Found
 first_equal xs m = first_from m xs 0
 
 abbrev pub added_at : Found → List Message → Message → List Message
-added_at (At p) xs m = xs
-added_at Nothing xs m = xs ++ (m ∷ [])
+added_at (Some p) xs m = xs
+added_at None xs m = xs ++ (m ∷ [])
 
 -- adding first looks for the first waiting message equal to it, and adds nothing if there is one, else goes to the end
 unfoldable pub added : List Message → Message → List Message
@@ -56,8 +54,8 @@ sent m set xs = sent_to m set 64 xs
 
 -- an equal message waits
 abbrev pub is_found : Found → Bool
-is_found (At p) = true
-is_found Nothing = false
+is_found (Some p) = true
+is_found None = false
 
 unfoldable pub waits : List Message → Message → Bool
 waits xs m = is_found (first_equal xs m)

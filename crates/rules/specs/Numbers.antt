@@ -1,11 +1,10 @@
 -- 01's numbers: of a status, and of the answers; T-01's letters, as bytes. Assumes nothing.
-use Rattle.std.specs.Prelude.{ℕ}
+use Rattle.rules.specs.Shapes.{Answer}
+use Rattle.std.specs.Prelude.{ℕ, Ok, Err}
 use Rattle.rules.specs.declared.Status.{Status}
 use Rattle.rules.specs.declared.Status.TheVariants as status
 use Rattle.rules.specs.declared.Refusal.{Refusal}
 use Rattle.rules.specs.declared.Refusal.TheVariants as no
-use Rattle.rules.specs.declared.Answer.{Answer}
-use Rattle.rules.specs.declared.Answer.TheVariants.{Done, Refused}
 use Rattle.rules.specs.declared.Via.{Via}
 use Rattle.rules.specs.declared.Via.TheVariants as via
 
@@ -39,8 +38,8 @@ refusal_number no.NoRoom = 11
 
 -- 0 done
 abbrev pub answer_number : Answer → ℕ
-answer_number Done = 0
-answer_number (Refused why) = refusal_number why
+answer_number (Ok tt) = 0
+answer_number (Err why) = refusal_number why
 
 -- T-01: one letter for each routing, `l` or `r`; 0 where there is none
 abbrev pub via_number : Via → ℕ

@@ -1,9 +1,7 @@
 -- The best slot of a set: nearest to a key, or of least or greatest Fall. Definitions only; their laws are in crate rules. Assumes nothing.
-use Rattle.std.specs.Prelude.{Bool, cond, ℕ, zero, suc, ltb, get_or}
+use Rattle.std.specs.Prelude.{Bool, cond, ℕ, zero, suc, ltb, get_or, Some, None}
 use Rattle.ring.specs.Distance.{fall_of, nearer}
-use Rattle.marks.specs.Marks.{has}
-use Rattle.marks.specs.declared.Found.{Found}
-use Rattle.marks.specs.declared.Found.TheVariants.{At, Nothing}
+use Rattle.marks.specs.Marks.{has, Found}
 use Rattle.rules.specs.Names.{Slot, Marks, Id, Ids, Key}
 use Rattle.rules.specs.declared.Way.{Way}
 use Rattle.rules.specs.declared.Way.TheVariants.{Near, Up, Down, FarUp, FarDown}
@@ -21,12 +19,12 @@ ahead_of FarDown N k ids s b = ltb (fall_of N k (id_at ids b)) (fall_of N k (id_
 
 -- slot s in the place of what was found before, where it comes before it
 abbrev pub better_of : (Slot → Slot → Bool) → Found → Slot → Found
-better_of ahead (At b) s = cond (ahead s b) (At s) (At b)
-better_of ahead Nothing s = At s
+better_of ahead (Some b) s = cond (ahead s b) (Some s) (Some b)
+better_of ahead None s = Some s
 
 -- of the slots below n that pass a test, the one that comes before all others
 unfoldable pub best : (Slot → Slot → Bool) → (Slot → Bool) → ℕ → Found
-best ahead ok zero = Nothing
+best ahead ok zero = None
 best ahead ok (suc n) = cond (ok n) (better_of ahead (best ahead ok n) n) (best ahead ok n)
 
 -- the best node of a set

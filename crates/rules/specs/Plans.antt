@@ -1,7 +1,6 @@
 -- What plans are made of: tests of a status, a node with some fields changed, and the messages that a plan adds. Assumes nothing.
-use Rattle.std.specs.Prelude.{Bool, true, false, List}
-use Rattle.marks.specs.declared.Found.{Found}
-use Rattle.marks.specs.declared.Found.TheVariants.{At, Nothing}
+use Rattle.marks.specs.Marks.{Found}
+use Rattle.std.specs.Prelude.{Bool, true, false, List, Some, None}
 use Rattle.rules.specs.Names.{Slot, Marks}
 use Rattle.rules.specs.declared.Status.{Status}
 use Rattle.rules.specs.Numbers.{by_status}
@@ -57,11 +56,11 @@ with_sides v s st =
 
 -- the node, and nothing added
 abbrev pub quiet_plan : Node → Plan
-quiet_plan v = record { node = v; first = blank; to = Nothing; each = blank; all = 0; via = Unrouted }
+quiet_plan v = record { node = v; first = blank; to = None; each = blank; all = 0; via = Unrouted }
 
 -- T-01: the node, and one message to one slot, said to go there by `via`
 abbrev pub send_by : Via → Node → Message → Slot → Plan
-send_by via v m s = record { node = v; first = m; to = At s; each = blank; all = 0; via = via }
+send_by via v m s = record { node = v; first = m; to = Some s; each = blank; all = 0; via = via }
 
 -- the same, where nothing is routed
 abbrev pub send_plan : Node → Message → Slot → Plan
@@ -69,8 +68,8 @@ send_plan v m s = send_by Unrouted v m s
 
 -- a message to a slot, if there is one
 abbrev pub added_to : Found → Message → List Message → List Message
-added_to (At s) m ys = added ys (placed m s)
-added_to Nothing m ys = ys
+added_to (Some s) m ys = added ys (placed m s)
+added_to None m ys = ys
 
 -- what waits after the plan, where ys waited before it
 unfoldable pub mailed : Plan → List Message → List Message

@@ -1,7 +1,8 @@
 -- What `best` finds. The idea: each way of coming first is the order of a number, the score (`ahead-score`), so the best slot is one that
 -- passes and has the least score (`best-is`). By induction on how many slots were looked at: `Best` holds of what was found so far. Of the
 -- slots of small score the best is the best of all, if that has a small score (`best-kept`). Assumes nothing.
-use mathlib.Core.Path.{◌≡◌, refl, sym, ◌∙◌, ap}
+use Rattle.std.specs.Prelude.{Some, None}
+use mathlib.Core.Path.{◌≡◌, refl, sym, ◌∙◌, ap, subst}
 use mathlib.Core.Logic.{◌⊎◌, inl, inr, ⊎_elim}
 use mathlib.Core.Bool.{Bool, true, false, cond, ◌&&◌}
 use mathlib.Core.List.{List}
@@ -15,10 +16,8 @@ use Rattle.ring.specs.Distance.{fall_of}
 use Rattle.ring.proofs.Falls.{fall-lt}
 use Rattle.ring.proofs.Order.{nearer-rank}
 use Rattle.ring.specs.InnerRank.{rank}
-use Rattle.marks.specs.Marks.{has}
+use Rattle.marks.specs.Marks.{has, Found}
 use Rattle.marks.proofs.Bools.{opposed, bool_same, lt-or-le, eq-or-ne}
-use Rattle.marks.specs.declared.Found.{Found}
-use Rattle.marks.specs.declared.Found.TheVariants.{At, Nothing}
 use Rattle.rules.specs.declared.Ring.{Ring}
 use Rattle.rules.specs.declared.Way.{Way}
 use Rattle.rules.specs.declared.Way.TheVariants.{Near, Up, Down, FarUp, FarDown}
@@ -53,8 +52,8 @@ ahead-score FarDown N k ids s b hk hs hb = less-left N _ _ (fall-lt N k (id_at i
 
 -- a slot that passes was found, or none passes
 abbrev pub Finds : (ℕ → Bool) → ℕ → Found → Type 0
-Finds ok n (At h) = (h < n) × (ok h ≡ true)
-Finds ok n Nothing = (t : ℕ) → t < n → ok t ≡ false
+Finds ok n (Some h) = (h < n) × (ok h ≡ true)
+Finds ok n None = (t : ℕ) → t < n → ok t ≡ false
 
 -- s < n + 1 is s = n or s < n
 last_or : {s n : ℕ} → s < suc n → (s ≡ n) ⊎ (s < n)
@@ -86,7 +85,7 @@ module _ (ahead : ℕ → ℕ → Bool) (ok : ℕ → Bool) where
       go rest (inl l) = let d : b ≡ suc c = omega arith in rw d
       go rest (inr l) = rw (e c l (omega arith)) (rest l)
 
-  pub best_none : (n : ℕ) → ((s : ℕ) → s < n → ok s ≡ false) → best ahead ok n ≡ Nothing
+  pub best_none : (n : ℕ) → ((s : ℕ) → s < n → ok s ≡ false) → best ahead ok n ≡ None
   unfolding best
   best_none n e = best-skip 0 n (omega arith) (λ s p q. e s q)
 
@@ -96,33 +95,37 @@ module _ (ahead : ℕ → ℕ → Bool) (ok : ℕ → Bool) where
   best-finds zero = λ t h. absurd (omega arith)
   best-finds (suc n) = go (ok n) refl (best ahead ok n) (best-finds n)
     where
-      other : ok n ≡ true → (b : ℕ) → Finds ok n (At b) → (t : Bool) → Finds ok (suc n) (cond t (At n) (At b))
+      other : ok n ≡ true → (b : ℕ) → Finds ok n (Some b) → (t : Bool) → Finds ok (suc n) (cond t (Some n) (Some b))
       other e b i true = (omega arith, e)
       other e b i false = (omega arith, i.1)
 
       go : (t : Bool) → ok n ≡ t → (g : Found) → Finds ok n g → Finds ok (suc n) (cond t (better_of ahead g n) g)
-      go true e (At b) i = other e b i (ahead n b)
-      go true e Nothing i = (omega arith, e)
-      go false e (At b) i = (omega arith, i.1)
-      go false e Nothing i = all-below ok n i e
+      go true e (Some b) i = other e b i (ahead n b)
+      go true e None i = (omega arith, e)
+      go false e (Some b) i = (omega arith, i.1)
+      go false e None i = all-below ok n i e
 
   pub best-below : (n : ℕ) → Below (best ahead ok n) n
   best-below n = go (best ahead ok n) (best-finds n)
     where
       go : (g : Found) → Finds ok n g → Below g n
-      go (At b) i = i.0
-      go Nothing i = tt
+      go (Some b) i = i.0
+      go None i = tt
 
-  pub best-some : (n s : ℕ) → s < n → ok s ≡ true → (h : ℕ) × (best ahead ok n ≡ At h)
+  -- a node that is found is a slot
+  pub best_low : (h : ℕ) → best ahead ok 64 ≡ Some h → h < 64
+  best_low h e = subst (λ (f : Found). Below f 64) e (best-below 64)
+
+  pub best-some : (n s : ℕ) → s < n → ok s ≡ true → (h : ℕ) × (best ahead ok n ≡ Some h)
   best-some n s l p = go (best ahead ok n) (best-finds n)
     where
-      go : (g : Found) → Finds ok n g → (h : ℕ) × (g ≡ At h)
-      go (At h) i = (h, refl)
-      go Nothing i = absurd (opposed p (i s l))
+      go : (g : Found) → Finds ok n g → (h : ℕ) × (g ≡ Some h)
+      go (Some h) i = (h, refl)
+      go None i = absurd (opposed p (i s l))
 
 pub below-le : (g : Found) (n m : ℕ) → n ≤ m → Below g n → Below g m
-below-le (At b) n m l h = omega arith
-below-le Nothing n m l h = tt
+below-le (Some b) n m l h = omega arith
+below-le None n m l h = tt
 
 -- tests that agree on the slots below n find the same
 pub best-same : (ahead : ℕ → ℕ → Bool) (f g : ℕ → Bool) (n : ℕ) → ((s : ℕ) → s < n → f s ≡ g s) → best ahead f n ≡ best ahead g n
@@ -140,13 +143,13 @@ pub record Leads (ok : ℕ → Bool) (f : ℕ → ℕ) (n h : ℕ) : Type 0 wher
 
 -- such a slot was found, or none passes
 abbrev pub Best : (ℕ → Bool) → (ℕ → ℕ) → ℕ → Found → Type 0
-Best ok f n (At h) = Leads ok f n h
-Best ok f n Nothing = (t : ℕ) → t < n → ok t ≡ false
+Best ok f n (Some h) = Leads ok f n h
+Best ok f n None = (t : ℕ) → t < n → ok t ≡ false
 
 -- what was found, where it passes a second test
 abbrev pub kept_of : (ℕ → Bool) → Found → Found
-kept_of p (At h) = cond (p h) (At h) Nothing
-kept_of p Nothing = Nothing
+kept_of p (Some h) = cond (p h) (Some h) None
+kept_of p None = None
 
 -- the order is the order of scores, on the slots below n
 abbrev pub Scored : (ℕ → ℕ → Bool) → (ℕ → ℕ) → ℕ → Type 0
@@ -163,17 +166,17 @@ still ok f n h l p rest last = record { below = l; holds = p; least = λ t k q. 
 
 module _ (ahead : ℕ → ℕ → Bool) (ok : ℕ → Bool) (f : ℕ → ℕ) where
   passed : (n : ℕ) (g : Found) → ok n ≡ false → Best ok f n g → Best ok f (suc n) g
-  passed n (At b) e i = still ok f n b (omega arith) i.holds i.least (λ q. absurd (opposed q e))
-  passed n Nothing e i = all-below ok n i e
+  passed n (Some b) e i = still ok f n b (omega arith) i.holds i.least (λ q. absurd (opposed q e))
+  passed n None e i = all-below ok n i e
 
   taken : (n : ℕ) (g : Found) → ok n ≡ true → ((b : ℕ) → b < n → ahead n b ≡ ltb (f n) (f b)) → Best ok f n g
       → Best ok f (suc n) (better_of ahead g n)
-  taken n (At b) e r i = rw (r b i.below) (go (ltb (f n) (f b)) refl)
+  taken n (Some b) e r i = rw (r b i.below) (go (ltb (f n) (f b)) refl)
     where
-      go : (t : Bool) → ltb (f n) (f b) ≡ t → Best ok f (suc n) (cond t (At n) (At b))
+      go : (t : Bool) → ltb (f n) (f b) ≡ t → Best ok f (suc n) (cond t (Some n) (Some b))
       go true q = still ok f n n (omega arith) e (λ t k p. omega (arith, i.least t k p, ltb-true (f n) (f b) q)) (λ p. omega arith)
       go false q = still ok f n b (omega arith) i.holds i.least (λ p. ltb-false (f n) (f b) q)
-  taken n Nothing e r i = still ok f n n (omega arith) e (λ t k p. absurd (opposed p (i t k))) (λ p. omega arith)
+  taken n None e r i = still ok f n n (omega arith) e (λ t k p. absurd (opposed p (i t k))) (λ p. omega arith)
 
   pub best-is : (n : ℕ) → Scored ahead f n → Best ok f n (best ahead ok n)
   unfolding best
@@ -185,17 +188,17 @@ module _ (ahead : ℕ → ℕ → Bool) (ok : ℕ → Bool) (f : ℕ → ℕ) wh
       go true e i = taken n (best ahead ok n) e (λ b h. r n b (omega arith) (omega arith)) i
       go false e i = passed n (best ahead ok n) e i
 
-  pub best-leads : (n h : ℕ) → Scored ahead f n → best ahead ok n ≡ At h → Leads ok f n h
+  pub best-leads : (n h : ℕ) → Scored ahead f n → best ahead ok n ≡ Some h → Leads ok f n h
   best-leads n h r e = rw e at (best-is n r)
 
   -- a slot that passes, of smaller score than every other
   pub best-unique : (n h : ℕ) → Scored ahead f n → h < n → ok h ≡ true
-      → ((t : ℕ) → t < n → ok t ≡ true → (t ≡ h → ⊥) → f h < f t) → best ahead ok n ≡ At h
+      → ((t : ℕ) → t < n → ok t ≡ true → (t ≡ h → ⊥) → f h < f t) → best ahead ok n ≡ Some h
   best-unique n h r l p first = go (best ahead ok n) (best-is n r)
     where
-      go : (g : Found) → Best ok f n g → g ≡ At h
-      go (At b) i = ⊎_elim (λ d. ap At d) (λ d. absurd (omega (arith, i.least h l p, first b i.below i.holds d))) (eq-or-ne b h)
-      go Nothing i = absurd (opposed p (i h l))
+      go : (g : Found) → Best ok f n g → g ≡ Some h
+      go (Some b) i = ⊎_elim (λ d. ap Some d) (λ d. absurd (omega (arith, i.least h l p, first b i.below i.holds d))) (eq-or-ne b h)
+      go None i = absurd (opposed p (i h l))
 
   -- of those of score below c the best is the best of all, where its score is
   pub best-kept : (near : ℕ → Bool) (c n : ℕ) → Scored ahead f n → ((s : ℕ) → s < n → near s ≡ ltb (f s) c)
@@ -216,7 +219,7 @@ module _ (ahead : ℕ → ℕ → Bool) (ok : ℕ → Bool) (f : ℕ → ℕ) wh
       order b h = r n b (omega arith) (omega arith)
 
       turn : (b : ℕ) → b < n → (x y a : Bool) → near n ≡ x → near b ≡ y → ahead n b ≡ a
-          → cond x (better_of ahead (cond y (At b) Nothing) n) (cond y (At b) Nothing) ≡ kept_of near (cond a (At n) (At b))
+          → cond x (better_of ahead (cond y (Some b) None) n) (cond y (Some b) None) ≡ kept_of near (cond a (Some n) (Some b))
       turn b h true true true e d o = simp (e, o)
       turn b h true true false e d o = simp (d, o)
       turn b h true false true e d o = simp e
@@ -232,8 +235,8 @@ module _ (ahead : ℕ → ℕ → Bool) (ok : ℕ → Bool) (f : ℕ → ℕ) wh
           → cond (t && near n) (better_of ahead (best ahead (λ s. ok s && near s) n) n) (best ahead (λ s. ok s && near s) n)
           ≡ kept_of near (cond t (better_of ahead g n) g)
       go false g h e = e
-      go true (At b) h e = rw e (turn b h (near n) (near b) (ahead n b) refl refl refl)
-      go true Nothing h e = rw e
+      go true (Some b) h e = rw e (turn b h (near n) (near b) (ahead n b) refl refl refl)
+      go true None h e = rw e
 
 -- ---- the best node of a set
 

@@ -2,6 +2,7 @@
 -- nearer than i, is the nearest of those that are (`next_hop-is`). So a hop goes to another node that is nearer, alive and not failed
 -- (`hop-to`), and there is none exactly where no candidate is nearer than i (`hop-none`, `none-hop`). All this for any ids, i and k.
 -- Assumes nothing.
+use Rattle.std.specs.Prelude.{Some, None}
 use mathlib.Core.Path.{◌≡◌, refl, sym, ◌∙◌, ap}
 use mathlib.Core.Logic.{◌⊎◌, inl, inr, ⊎_elim}
 use mathlib.Core.Bool.{Bool, true, false, cond, ◌&&◌, ◌||◌, not, or-false}
@@ -12,11 +13,9 @@ use borrow.Author.Tests.{le-ltb, ltb-true, not-true}
 use Rattle.ring.specs.Distance.{nearer}
 use Rattle.ring.proofs.Order.{nearer-rank, nearer-irreflexive}
 use Rattle.ring.specs.InnerRank.{rank}
-use Rattle.marks.specs.Marks.{has, union, without, listed}
+use Rattle.marks.specs.Marks.{has, union, without, listed, Found}
 use Rattle.marks.proofs.Bools.{bool_cases, and_left, and_right, and_both, and-fails-left, and-fails-right, or_cases}
 use Rattle.marks.proofs.Laws.{has-union, has-without, listed_has}
-use Rattle.marks.specs.declared.Found.{Found}
-use Rattle.marks.specs.declared.Found.TheVariants.{At, Nothing}
 use Rattle.rules.specs.declared.Way.TheVariants.{Near}
 use Rattle.rules.specs.declared.Ring.{Ring}
 use Rattle.rules.specs.declared.Node.{Node}
@@ -127,13 +126,13 @@ module _ (g : Ring) (ids : List ℕ) (dead i : ℕ) (v : Node) where
         rw (best-kept ahead (has set) score (nearer_than_owner g ids i k) (score i) 64 (near-scored (2 ^ g.m) k ids 64)
         (λ s h. nearer-rank (2 ^ g.m) k (id_at ids s) (id_at ids i))) (go (best ahead (has set) 64))
       where
-        turn : (h : ℕ) (t : Bool) → cond t (To h) NoRoute ≡ to_found (cond t (At h) Nothing)
+        turn : (h : ℕ) (t : Bool) → cond t (To h) NoRoute ≡ to_found (cond t (Some h) None)
         turn h true = refl
         turn h false = refl
 
         go : (r : Found) → to_nearer g ids i k r ≡ to_found (kept_of (nearer_than_owner g ids i k) r)
-        go (At h) = turn h (nearer_than_owner g ids i k h)
-        go Nothing = refl
+        go (Some h) = turn h (nearer_than_owner g ids i k h)
+        go None = refl
 
     -- the nearest of the candidates that are nearer than i
     pub next_hop-is : next_hop g ids dead i v k
@@ -174,8 +173,8 @@ module _ (g : Ring) (ids : List ℕ) (dead i : ℕ) (v : Node) where
         turn b l false p q = absurd (no-hop q)
 
         go : (r : Found) → Best (has all) score 64 r → to_nearer g ids i k r ≡ To h → Hops g ids dead i v k h
-        go (At b) l q = turn b l (nearer_than_owner g ids i k b) refl q
-        go Nothing l q = absurd (no-hop q)
+        go (Some b) l q = turn b l (nearer_than_owner g ids i k b) refl q
+        go None l q = absurd (no-hop q)
 
     -- it comes nearer to the key
     pub hop-falls : (h : ℕ) → next_hop g ids dead i v k ≡ To h → rank (2 ^ g.m) k (id_at ids h) < rank (2 ^ g.m) k (id_at ids i)
@@ -204,7 +203,7 @@ module _ (g : Ring) (ids : List ℕ) (dead i : ℕ) (v : Node) where
         → next_hop g ids dead i v k ≡ To h
     hop-unique h l c p first = next_hop-nearest ∙ ap (to_nearer g ids i k) found ∙ rw p
       where
-        found : best ahead (has all) 64 ≡ At h
+        found : best ahead (has all) 64 ≡ Some h
         found =
             best-unique ahead (has all) score 64 h (near-scored (2 ^ g.m) k ids 64) l c
             (λ s q d o. nearer-lt (2 ^ g.m) k (id_at ids h) (id_at ids s) (first s q d o))
@@ -216,8 +215,8 @@ module _ (g : Ring) (ids : List ℕ) (dead i : ℕ) (v : Node) where
     hop-none e s h c = go (best ahead closer_one 64) (best-finds ahead closer_one 64) (sym next_hop-is ∙ e)
       where
         go : (r : Found) → Finds closer_one 64 r → to_found r ≡ NoRoute → nearer_than_owner g ids i k s ≡ false
-        go (At b) l q = absurd (no-hop (sym q))
-        go Nothing l q = rw c at (l s h)
+        go (Some b) l q = absurd (no-hop (sym q))
+        go None l q = rw c at (l s h)
 
     pub none-hop : ((s : ℕ) → s < 64 → has (candidates_of g ids dead i v) s ≡ true → nearer_than_owner g ids i k s ≡ false)
         → next_hop g ids dead i v k ≡ NoRoute

@@ -1,6 +1,7 @@
 -- Leaf sets. The idea: each side of a leaf set with D added is the closest of the side joined with D, so a law of adding is a law of the
 -- closest, for the way up and for the way down; no two ways are equal, so a side holds at most L. A neighbour leads its side (`seen-in`),
 -- and what leads a set leads its closest. Assumes nothing.
+use Rattle.std.specs.Prelude.{Some, None}
 use mathlib.Core.Path.{◌≡◌, refl, sym, ◌∙◌, ap, ap₂}
 use mathlib.Core.Logic.{◌⊎◌, inl, inr, ⊎_elim}
 use mathlib.Core.List.{List}
@@ -11,12 +12,10 @@ use borrow.Author.Tests.{eq-eqb, ne_eqb, eqb-true, eqb-false, le-leb, leb-true, 
 use lib.Dec.{leb, eqb}
 use Rattle.ring.proofs.Falls.{fall-lt}
 use Rattle.marks.proofs.Bools.{opposed, bool_same, bool_false, and_left, and_right, and_both, or_left, or_right, or_cases, false-not}
-use Rattle.marks.specs.Marks.{has, tally, union, meet, remove_of, single, size_of, listed}
+use Rattle.marks.specs.Marks.{has, tally, union, meet, remove_of, single, size_of, listed, Found}
 use Rattle.marks.proofs.Laws.{ext, has-zero, has-union, has-add, has-remove, has_meet, add-below, meet_below, member, member-pos, empty}
 use Rattle.marks.proofs.Laws.{gather-same, tally-mono, tally-more}
 use Rattle.marks.proofs.Laws.{listed_has, listed-lt, listed-zero, listed-union, listed-add, listed-remove, listed-every}
-use Rattle.marks.specs.declared.Found.{Found}
-use Rattle.marks.specs.declared.Found.TheVariants.{At, Nothing}
 use Rattle.rules.specs.declared.Way.{Way}
 use Rattle.rules.specs.declared.Way.TheVariants.{Up, Down, FarUp, FarDown}
 use Rattle.rules.specs.declared.Ring.{Ring}
@@ -241,8 +240,8 @@ module _ (w : Way) (g : Ring) (ids : List ℕ) (i set : ℕ) where
   seen-listed n e h = go (best_of w (2 ^ g.m) (id_at ids i) ids set) (best-finds (ahead_of w (2 ^ g.m) (id_at ids i) ids) (has set) 64)
     where
       go : (r : Found) → Finds (has set) 64 r → or_owner r i < n
-      go (At b) p = listed_has n set b e p.0 p.1
-      go Nothing p = h
+      go (Some b) p = listed_has n set b e p.0 p.1
+      go None p = h
 
   pub seen_low : i < 64 → seen_from w g ids i set < 64
   seen_low h = seen-listed 64 (listed-every 64 set (omega arith)) h
@@ -261,8 +260,8 @@ module _ {g : Ring} {ids : List ℕ} (v : Listed g ids) (i : ℕ) (h64 : i < 64)
       go : (r : Found) → Best (has set) (score_at w (2 ^ g.m) (id_at ids i) ids) 64 r
           → (((t : ℕ) → t < 64 → has set t ≡ false) × (or_owner r i ≡ i))
           ⊎ Leads (has set) (score_at w (2 ^ g.m) (id_at ids i) ids) 64 (or_owner r i)
-      go (At b) p = inr p
-      go Nothing p = inl (p, refl)
+      go (Some b) p = inr p
+      go None p = inl (p, refl)
 
   -- where t is a member: the best is a member, and t does not come before it
   module _ (t : ℕ) (ht : t < 64) (p : has set t ≡ true) where
@@ -347,10 +346,10 @@ module _ {g : Ring} {ids : List ℕ} (v : Listed g ids) (one : 1 ≤ g.l) (i : �
       inner t p = sym (same t (closest-in score g.n g.l ok t p)) ∙ closest-passes score g.n g.l ok t p
 
       go : (r : Found) → Best (has set) score 64 r → best_of w (2 ^ g.m) (id_at ids i) ids near ≡ r
-      go Nothing none =
+      go None none =
           best_none (ahead_of w (2 ^ g.m) (id_at ids i) ids) (has near) 64
           (λ t k. bool_false (has near t) (λ p. opposed (inner t p) (none t k)))
-      go (At h) lead =
+      go (Some h) lead =
           best-unique (ahead_of w (2 ^ g.m) (id_at ids i) ids) (has near) score 64 h (keyed-scored key w) lead.below
           (closest-least score g.n g.l ok one h low (same h low ∙ lead.holds)
           (λ t k p. lead.least t (omega (arith, v.n-high)) (sym (same t k) ∙ p))) first

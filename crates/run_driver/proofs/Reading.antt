@@ -1,21 +1,13 @@
--- The kind of a request, and the ids of a start, word by word. Assumes nothing.
+-- The ids of a start, word by word. Assumes nothing.
 use mathlib.Core.Path.{◌≡◌, refl, ◌∙◌, ap}
 use mathlib.Core.List.{List, [], ◌∷◌, ◌++◌}
 use Prim.Native.Nat.{ℕ, zero, suc, ◌+◌, ◌*◌, ◌<◌}
 use native.Mathlib.Numerals.{add-one}
 use native.Mathlib.Omega.{arith}
-use lib.ListN.{length, get_or, take, drop, set, replicate, length-set}
+use lib.ListN.{length, take, drop, set, replicate, length-set}
 use lib.Seq.{take-suc, take-set-le, drop-drop, get_or-set_same}
 use Rattle.words.specs.Bytes.{number_of, decode}
 use Rattle.run_driver.specs.Requests.{ids_in}
-
-pub no_kind : (bs : List ℕ) → length bs ≡ 0 → 255 ≡ get_or bs 0 255
-no_kind [] h = refl
-no_kind (b ∷ bs) h = absurd (omega arith)
-
-pub some-kind : (bs : List ℕ) → 0 < length bs → get_or bs 0 0 ≡ get_or bs 0 255
-some-kind [] h = absurd (omega arith)
-some-kind (b ∷ bs) h = refl
 
 words_more : (n : ℕ) (bs : List ℕ) → decode (replicate (suc n) 4) bs ≡ decode (replicate n 4) bs ++ (number_of (take 4 (drop (4 * n) bs)) ∷ [])
 unfolding decode

@@ -1,7 +1,7 @@
 -- A result that is written from the start of the buffer on is said, and so is 11 where there is no room for it. Assumes nothing.
-use mathlib.Core.Path.{◌≡◌, ap₂}
-use mathlib.Core.List.{List, [], ◌∷◌, ◌++◌}
-use Prim.Native.Nat.{ℕ, ◌/◌, ◌%◌, ◌<◌}
+use mathlib.Core.Path.{◌≡◌}
+use mathlib.Core.List.{List, ◌∷◌, ◌++◌}
+use Prim.Native.Nat.{ℕ, ◌<◌}
 use native.Mathlib.Nat.{zero-add}
 use native.Mathlib.Omega.{arith}
 use borrow.Author.Tests.{lt-ltb, le-ltb}
@@ -35,18 +35,3 @@ two_size x y = rw (length-append, bytes-length, bytes-length)
 
 pub three-size : (x y z : ℕ) → length (bytes_of 4 x ++ (bytes_of 8 y ++ bytes_of 8 z)) ≡ 20
 three-size x y z = rw (length-append, length-append, bytes-length, bytes-length, bytes-length)
-
--- ---- the head of a reply
-
-word_bytes : (x : ℕ) → x % 256 ∷ x / 256 % 256 ∷ x / 65536 % 256 ∷ x / 16777216 % 256 ∷ [] ≡ bytes_of 4 x
-unfolding bytes_of
-word_bytes x =
-    let e : x / 65536 ≡ x / 256 / 256 = omega arith in
-    let f : x / 16777216 ≡ x / 256 / 256 / 256 = omega arith in
-    rw (e, f)
-
-pub head_bytes : (n x : ℕ)
-    → n % 256 ∷ n / 256 % 256 ∷ n / 65536 % 256 ∷ n / 16777216 % 256 ∷
-    x % 256 ∷ x / 256 % 256 ∷ x / 65536 % 256 ∷ x / 16777216 % 256 ∷ []
-    ≡ bytes_of 4 n ++ bytes_of 4 x
-head_bytes n x = ap₂ ◌++◌ (word_bytes n) (word_bytes x)

@@ -1,45 +1,23 @@
 -- What each request says, put together of what its calls say: a number alone, a result that a call wrote, and the cases of the definitions.
 -- Assumes nothing.
 use mathlib.Core.Path.{◌≡◌, refl, ◌∙◌, ap}
-use mathlib.Core.Bool.{Bool, true, false, cond}
-use mathlib.Core.List.{List, ◌∷◌}
-use Prim.Native.Nat.{ℕ, ◌+◌, ◌-◌, ◌*◌, ◌/◌, ◌%◌, ◌<◌, ◌≤◌}
+use mathlib.Core.List.{List}
+use Prim.Native.Nat.{ℕ, ◌-◌, ◌%◌, ◌<◌, ◌≤◌}
 use native.Mathlib.Omega.{arith}
-use borrow.Author.Tests.{lt-ltb, le-ltb, ltb-true, ltb-false, eq-eqb, ne_eqb}
-use lib.Dec.{ltb}
+use borrow.Author.Tests.{lt-ltb, le-ltb, eq-eqb, ne_eqb}
 use lib.ListN.{length, take, drop, length-drop}
 use lib.Seq.{take_all}
-use Rattle.words.specs.Bytes.{bytes_of}
-use Rattle.face.specs.declared.Rest.{Rest}
-use Rattle.counts.specs.declared.First.{First}
-use Rattle.rehearsal.specs.declared.Verdict.{Verdict}
-use Rattle.file.specs.declared.Wrote.{Wrote}
-use Rattle.face.specs.Calls.{begun_of, wrote_by, left_by}
+use Rattle.face.specs.Calls.{begun_of}
 use Rattle.face_c.specs.Words.{asked_of, step_word, via_word, step_left}
 use Rattle.run_driver.specs.declared.told.Reply.{Reply}
 use Rattle.run_driver.specs.declared.told.Led.{Led}
 use Rattle.run_driver.specs.Requests.{word_at, action_in, id_count, ids_in}
-use Rattle.run_driver.specs.Replies.{Says, LeadsTo, numbered, no_result, no_request, reply_by, reply_in, led_in, result_of}
-use Rattle.run_driver.specs.Replies.{rest_said, first_said, verdict_said}
+use Rattle.run_driver.specs.Replies.{Says, LeadsTo, numbered, no_result, no_request, reply_in, led_in}
 use Rattle.run_driver.specs.Kinds.{step_said, step_via_said, begun_said, start_said}
 
 -- a number alone
 pub alone : {n : ℕ} {out : List ℕ} {r : Reply} → r ≡ numbered n → Says (no_result n out) r out
 alone e = record { reply-is = e; left_is = refl }
-
--- what is said of a thing is said of one that is the same
-pub rest-said : (out : List ℕ) {x y : Rest} {new : List ℕ} {r : Reply} → y ≡ x → Says (rest_said x out) r new → Says (rest_said y out) r new
-rest-said out e s = rw e s
-
-pub first_said_lem : (out : List ℕ) {x y : First} {new : List ℕ} {r : Reply} → y ≡ x → Says (first_said x out) r new → Says (first_said y out) r new
-first_said_lem out e s = rw e s
-
-pub verdict-said : (out : List ℕ) {x y : Verdict} {new : List ℕ} {r : Reply} → y ≡ x → Says (verdict_said x out) r new → Says (verdict_said y out) r new
-verdict-said out e s = rw e s
-
-pub word-said : (f : ℕ) (out : List ℕ) {x y : ℕ} {new : List ℕ} {r : Reply} → x ≡ y → Says (result_of (f ∷ bytes_of 4 x) out) r new
-    → Says (result_of (f ∷ bytes_of 4 y) out) r new
-word-said f out e s = rw e at s
 
 -- from a place to the end is all that is left behind it
 pub part-whole : (bs : List ℕ) (at : ℕ) → take (length bs - at) (drop at bs) ≡ drop at bs
@@ -48,9 +26,6 @@ part-whole bs at = take_all (length bs - at) (drop at bs) (rw length-drop (omega
 -- what a call wrote, as a word or as it is
 pub packed : {x y : ℕ} {r : Reply} {new left : List ℕ} → r ≡ reply_in x → x ≡ y → new ≡ left → Says (record { reply = reply_in y; left = left }) r new
 packed e f g = record { reply-is = e ∙ ap reply_in f; left_is = g }
-
-pub wrote : {w v : Wrote} {r : Reply} {new left : List ℕ} → r ≡ reply_by w → w ≡ v → new ≡ left → Says (record { reply = reply_by v; left = left }) r new
-wrote e f g = record { reply-is = e ∙ ap reply_by f; left_is = g }
 
 pub action-is : (rest : List ℕ) {a b c : ℕ} → a ≡ word_at 0 rest → b ≡ word_at 8 rest → c ≡ word_at 16 rest → asked_of a b c ≡ action_in rest
 unfolding action_in
@@ -79,26 +54,11 @@ module _ (rest out : List ℕ) where
   step-via-says h p q s d e f g =
       rw (le-ltb (length rest) 24 h, ← (action-is rest p q s), ← d) (record { led-is = e ∙ ap led_in f; left_is = g })
 
-  pub start-wrote : (ids : List ℕ) {m l a : ℕ} {new : List ℕ} {w : Wrote} {r : Reply} → m ≡ word_at 0 rest → l ≡ word_at 8 rest → a ≡ word_at 16 rest
-      → r ≡ reply_by w → w ≡ wrote_by (begun_of m l a ids) out → new ≡ left_by (begun_of m l a ids) out
-      → Says (begun_said (begun_of (word_at 0 rest) (word_at 8 rest) (word_at 16 rest) ids) out) r new
-  start-wrote ids p q s e f g = rw (← p, ← q, ← s) (wrote e f g)
-
   pub start-short : length rest < 24 → {r : Reply} → r ≡ numbered no_request → Says (start_said rest out) r out
   unfolding start_said
   start-short h e = rw (lt-ltb (length rest) 24 h) (alone e)
 
   module _ (h : 24 ≤ length rest) where
-    -- the ids that are looked at are there
-    pub count_fits : {n : ℕ} → n ≡ id_count rest → (n ≤ 65) × (24 + 4 * n ≤ length rest)
-    count_fits e = rw e (go (ltb ((length rest - 24) / 4) 65) refl)
-      where
-        go : (b : Bool) → ltb ((length rest - 24) / 4) 65 ≡ b
-            → let n = cond b ((length rest - 24) / 4) 65 in
-            (n ≤ 65) × (24 + 4 * n ≤ length rest)
-        go true t = (omega (arith, ltb-true ((length rest - 24) / 4) 65 t), omega arith)
-        go false t = (omega arith, omega (arith, ltb-false ((length rest - 24) / 4) 65 t))
-
     pub start-odd : (length rest % 4 ≡ 0 → ⊥) → {r : Reply} → r ≡ numbered no_request → Says (start_said rest out) r out
     unfolding start_said
     start-odd d e = rw (le-ltb (length rest) 24 h, ne_eqb (length rest % 4) 0 d) (alone e)

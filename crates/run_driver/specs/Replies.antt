@@ -1,14 +1,11 @@
 -- Beside 01: a reply: a number, and the bytes of a result, which stand first in a buffer. Definitions only, each under docs/DRIVER.md's words. Assumes nothing.
-use Rattle.std.specs.Prelude.{◌≡◌, cond, List, [], ◌∷◌, ◌++◌, ℕ, ◌/◌, ◌%◌, ltb, length, drop}
+use Rattle.std.specs.Prelude.{◌≡◌, cond, List, [], ◌∷◌, ◌++◌, ℕ, ◌/◌, ◌%◌, ltb, length, drop, true, false, Ok, Err, Some, None}
 use Rattle.words.specs.Bytes.{bytes_of}
-use Rattle.rules.specs.Numbers.{refusal_number, answer_number}
-use Rattle.file.specs.declared.Wrote.{Wrote}
-use Rattle.face.specs.declared.Rest.{Rest}
-use Rattle.face.specs.declared.Rest.TheVariants.{Settled, Unsettled, NotAsked}
-use Rattle.counts.specs.declared.First.{First}
-use Rattle.counts.specs.declared.First.TheVariants as first
-use Rattle.rehearsal.specs.declared.Verdict.{Verdict}
-use Rattle.rehearsal.specs.declared.Verdict.TheVariants.{Accepted, Bad}
+use Rattle.rules.specs.Numbers.{refusal_number}
+use Rattle.file.specs.Write.{Wrote, said_number, count_of}
+use Rattle.face.specs.Asked.{Rest}
+use Rattle.counts.specs.Counts.{First}
+use Rattle.rehearsal.specs.Rehearsal.{Verdict}
 use Rattle.run_driver.specs.declared.told.Reply.{Reply}
 use Rattle.run_driver.specs.declared.told.Led.{Led}
 
@@ -35,7 +32,7 @@ no_request = 4294967295
 
 -- what a call of the table file wrote
 abbrev pub reply_by : Wrote → Reply
-reply_by w = record { number = answer_number w.answer; count = w.count }
+reply_by w = record { number = said_number w; count = count_of w }
 
 -- the same as one word: the number in its low 32 bits
 abbrev pub reply_in : ℕ → Reply
@@ -61,17 +58,17 @@ result_of bs out = cond (ltb (length out) (length bs)) (no_result 11 out)
 
 -- one byte, 0 or 1
 abbrev pub rest_said : Rest → List ℕ → Said
-rest_said Settled out = result_of (1 ∷ []) out
-rest_said Unsettled out = result_of (0 ∷ []) out
-rest_said (NotAsked why) out = no_result (refusal_number why) out
+rest_said (Ok true) out = result_of (1 ∷ []) out
+rest_said (Ok false) out = result_of (0 ∷ []) out
+rest_said (Err why) out = no_result (refusal_number why) out
 
 -- one byte, 1 if it has a message and 0 if not; where it is 1, then a 32-bit word, the place of its first
 abbrev pub first_said : First → List ℕ → Said
-first_said (first.At place) out = result_of (1 ∷ bytes_of 4 (place % 4294967296)) out
-first_said first.None out = result_of (0 ∷ []) out
-first_said (first.NotAsked why) out = no_result (refusal_number why) out
+first_said (Ok (Some place)) out = result_of (1 ∷ bytes_of 4 (place % 4294967296)) out
+first_said (Ok None) out = result_of (0 ∷ []) out
+first_said (Err why) out = no_result (refusal_number why) out
 
 -- one byte, 1 for accepted and 0 for not; where it is 0, then a 32-bit word, the number of the first bad step
 abbrev pub verdict_said : Verdict → List ℕ → Said
-verdict_said Accepted out = result_of (1 ∷ []) out
-verdict_said (Bad k) out = result_of (0 ∷ bytes_of 4 (k % 4294967296)) out
+verdict_said (Ok x) out = result_of (1 ∷ []) out
+verdict_said (Err k) out = result_of (0 ∷ bytes_of 4 (k % 4294967296)) out

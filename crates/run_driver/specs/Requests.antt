@@ -1,7 +1,7 @@
 -- Beside 01: what a request says: its kind, its arguments, and what is made of them. Definitions only, each under docs/DRIVER.md's words. Assumes nothing.
-use Rattle.std.specs.Prelude.{cond, List, ℕ, ◌-◌, ◌/◌, ltb, length, take, drop, get_or, replicate}
+use Rattle.std.specs.Prelude.{cond, List, ℕ, ◌-◌, ◌/◌, ltb, length, take, drop, get_or, replicate, Option}
 use Rattle.words.specs.Bytes.{number_of, decode}
-use Rattle.face_c.specs.declared.Asked.{Asked}
+use Rattle.rules.specs.declared.Action.{Action}
 use Rattle.face_c.specs.Words.{asked_of}
 use Rattle.water.specs.declared.Record.{Record}
 
@@ -14,7 +14,7 @@ abbrev pub word_at : ℕ → List ℕ → ℕ
 word_at at rest = number_of (take 8 (drop at rest))
 
 -- action, two words
-unfoldable pub action_in : List ℕ → Asked
+unfoldable pub action_in : List ℕ → Option Action
 action_in rest = asked_of (word_at 0 rest) (word_at 8 rest) (word_at 16 rest)
 
 -- a record's fields have 32 bits, so a larger word is the largest field, which is out of range too

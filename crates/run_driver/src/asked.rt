@@ -2,33 +2,27 @@
 ghost use Rattle.std.specs.Prelude.{◌≡◌, ◌+◌, ◌*◌, ◌≤◌, length, take};
 ghost use Rattle.run_driver.specs.Requests.{kind_of, action_in, field_of, record_in, id_count, ids_in};
 
-use face_c::Asked;
+use rules::Action;
 use water::Record;
-
-fn wide(x: u8) -> u64
-    ensures { result ≡ x }
-{
-    x as u64
-}
 
 // The kind of a request; 255, which is none, where it has no byte.
 pub fn kind_of(request: &[u8]) -> u64
     ensures { result ≡ kind_of request.now }
 {
-    if request.len() == 0 {
-        return 255;
+    match request {
+        [kind, ..] => u64::from(*kind),
+        [] => 255,
     }
-    wide(request[0])
 }
 
 // The action of a request, with its two words.
-pub fn action_in(rest: &[u8]) -> Asked
+pub fn action_in(rest: &[u8]) -> Option<Action>
     requires { 24 ≤ length rest.now }
     ensures { result ≡ action_in rest.now }
 {
-    let action = words::read64(rest, 0);
-    let x = words::read64(rest, 8);
-    let y = words::read64(rest, 16);
+    let action = words::read::<u64>(rest, 0);
+    let x = words::read::<u64>(rest, 8);
+    let y = words::read::<u64>(rest, 16);
     face_c::action_of(action, x, y)
 }
 
@@ -36,7 +30,7 @@ pub fn action_in(rest: &[u8]) -> Asked
 fn field(x: u64) -> u32
     ensures { result ≡ field_of x }
 {
-    if x < 4294967296 { x as u32 } else { 4294967295 }
+    u32::try_from(x).unwrap_or(u32::MAX)
 }
 
 // The record of a request.
@@ -44,11 +38,11 @@ pub fn record_in(rest: &[u8]) -> Record
     requires { 40 ≤ length rest.now }
     ensures { result ≡ record_in rest.now }
 {
-    let key = words::read64(rest, 0);
-    let month = field(words::read64(rest, 8));
-    let rain = field(words::read64(rest, 16));
-    let evapotranspiration = field(words::read64(rest, 24));
-    let runoff = field(words::read64(rest, 32));
+    let key = words::read::<u64>(rest, 0);
+    let month = field(words::read::<u64>(rest, 8));
+    let rain = field(words::read::<u64>(rest, 16));
+    let evapotranspiration = field(words::read::<u64>(rest, 24));
+    let runoff = field(words::read::<u64>(rest, 32));
     Record {
         key,
         month,
@@ -63,20 +57,17 @@ pub fn id_count(rest: &[u8]) -> usize
     requires { 24 ≤ length rest.now }
     ensures { result ≡ id_count rest.now }
 {
-    let n = (rest.len() - 24) / 4;
-    if n < 65 { n } else { 65 }
+    ((rest.len() - 24) / 4).min(65)
 }
 
-// The first n ids of a start.
+// The first n ids of a start, in fixed memory: n is known to be at most 65, and the places behind them are not read.
 pub fn ids_in(rest: &[u8], n: usize) -> [u32; 65]
     requires { (n ≤ 65) × (24 + 4 * n ≤ length rest.now) }
     ensures { (65 ≡ length result) × (take n result ≡ ids_in n rest.now) }
 {
     let mut ids = [0u32; 65];
-    let mut i: usize = 0;
-    while i < n {
-        ids[i] = words::read32(rest, 24 + 4 * i);
-        i += 1;
+    for i in 0..n {
+        ids[i] = words::read(rest, 24 + 4 * i);
     }
     ids
 }

@@ -1,7 +1,6 @@
 // Requests of a rehearsal, whose checker is held between them.
 use super::told::Reply;
 use super::{asked, told};
-use face_c::Asked;
 use rehearsal::{Checker, Handed};
 
 // A reply, and the checker after it.
@@ -39,8 +38,8 @@ pub fn next_step(c: Checker, rest: &[u8], out: &mut [u8]) -> Heard {
         return unmoved(c, told::malformed());
     }
     match asked::action_in(rest) {
-        Asked::Is(a) => told_of(over_rehearsal::next(c, a, &rest[24..]), out),
-        Asked::None => unmoved(c, told::malformed()),
+        Some(a) => told_of(over_rehearsal::next(c, a, &rest[24..]), out),
+        None => unmoved(c, told::malformed()),
     }
 }
 

@@ -12,30 +12,10 @@ mod waiting; // kind 10
 mod records; // kinds 7 to 9
 
 use rehearsal::Checker;
+use std::io;
 use std::io::Read;
 use told::{Led, Reply};
 use water::Store;
-
-// Whether there is more to serve, and the checker.
-#[derive(Clone, Copy)]
-struct Served {
-    more: bool,
-    checker: Checker,
-}
-
-// Whether there is more to serve, and the records.
-#[derive(Clone, Copy)]
-struct Stored {
-    more: bool,
-    store: Store,
-}
-
-// The end of the input, or a request of so many bytes.
-#[derive(Clone, Copy)]
-enum Came {
-    End,
-    Request(usize),
-}
 
 // The reply to a request of another kind.
 fn reply_to(request: &[u8], out: &mut [u8]) -> Reply {
@@ -54,96 +34,67 @@ fn reply_to(request: &[u8], out: &mut [u8]) -> Reply {
     }
 }
 
-// Sends the length of a reply and its number: whether it could.
-fn send_head(rt: &impl Print, number: u32, count: usize) -> bool {
+// Sends the length of a reply and its number.
+fn send_head(rt: &impl Print, number: u32, count: usize) -> io::Result<()> {
     let head = told::head_of((count % 1048576 + 4) as u32, number);
-    rt.write_all(&head).is_ok()
+    rt.write_all(&head)
 }
 
-// Sends the first bytes: whether it could.
-fn send_bytes(rt: &impl Print, out: &[u8], n: usize) -> bool {
-    if n > out.len() {
-        return false;
+// Sends the first bytes.
+fn send_bytes(rt: &impl Print, out: &[u8], n: usize) -> io::Result<()> {
+    match out.get(..n) {
+        Some(bytes) => rt.write_all(bytes),
+        None => Err(io::ErrorKind::InvalidInput.into()),
     }
-    rt.write_all(&out[..n]).is_ok()
 }
 
-// Sends a reply: whether it could.
-fn send(rt: &impl Print, r: Reply, out: &[u8]) -> bool {
+// Sends a reply.
+fn send(rt: &impl Print, r: Reply, out: &[u8]) -> io::Result<()> {
     if r.number != 0 {
         return send_head(rt, r.number, 0);
     }
-    if !send_head(rt, 0, r.count) {
-        return false;
-    }
+    send_head(rt, 0, r.count)?;
     send_bytes(rt, out, r.count)
 }
 
-// Sends a reply with the byte before its result: whether it could.
-fn send_led(rt: &impl Print, l: Led, out: &[u8]) -> bool {
+// Sends a reply with the byte before its result.
+fn send_led(rt: &impl Print, l: Led, out: &[u8]) -> io::Result<()> {
     let r = l.reply;
     if r.number != 0 {
         return send_head(rt, r.number, 0);
     }
-    if !send_head(rt, 0, r.count % 1048576 + 1) {
-        return false;
-    }
+    send_head(rt, 0, r.count % 1048576 + 1)?;
     let lead = [(l.lead % 256) as u8];
-    if rt.write_all(&lead).is_err() {
-        return false;
-    }
+    rt.write_all(&lead)?;
     send_bytes(rt, out, r.count)
 }
 
-// Reads the next bytes: whether there were so many.
-fn fill(rt: &impl Input, body: &mut [u8], n: usize) -> bool {
-    if n > body.len() {
-        return false;
-    }
-    rt.reader().read_exact(&mut body[..n]).is_ok()
-}
-
-// Reads past the next bytes: whether there were so many.
-fn skip(rt: &impl Input, body: &mut [u8], n: usize) -> bool {
+// Reads past the next bytes. The loop counts the bytes left, a buffer at a time, and no index.
+fn skip(rt: &impl Input, body: &mut [u8], n: usize) -> io::Result<()> {
     let most = body.len();
     if most == 0 {
-        return false;
+        return Err(io::ErrorKind::InvalidInput.into());
     }
     let mut left = n;
     while left > most {
-        if !fill(rt, body, most) {
-            return false;
-        }
+        rt.reader().read_exact(body)?;
         left -= most;
     }
-    fill(rt, body, left)
+    rt.reader().read_exact(&mut body[..left])
 }
 
-// Reads the next request. One that is too long is read past, and counts as an empty one, which is none either.
-fn receive(rt: &impl Input, body: &mut [u8]) -> Came {
+// Reads the next request: how long it is, or none at the end of the input. One that is too long is read past, and counts as an empty one, which is
+// none either.
+fn receive(rt: &impl Input, body: &mut [u8]) -> Option<usize> {
     let mut head = [0u8; 4];
-    if rt.reader().read_exact(&mut head).is_err() {
-        return Came::End;
-    }
-    let n = words::read32(&head, 0) as usize;
+    rt.reader().read_exact(&mut head).ok()?;
+    let n = words::read::<u32>(&head, 0) as usize;
     if n > body.len() {
-        if skip(rt, body, n) {
-            return Came::Request(0);
-        }
-        return Came::End;
+        skip(rt, body, n).ok()?;
+        return Some(0);
     }
-    if fill(rt, body, n) {
-        return Came::Request(n);
-    }
-    Came::End
-}
-
-// The kind of the request in the buffer; 255, which is none, where it has no byte.
-fn kind_in(body: &[u8], n: usize) -> u64 {
-    if n > body.len() {
-        return 255;
-    }
-    asked::kind_of(&body[..n])
+    rt.reader().read_exact(&mut body[..n]).ok()?;
+    Some(n)
 }
 
 // Is it the kind of a request of a rehearsal or of records?
@@ -151,75 +102,56 @@ fn is_held(kind: u64) -> bool {
     5 <= kind && kind <= 9
 }
 
-// Answers a request of a rehearsal: whether the reply was sent, and the checker after it.
-fn rehearse(rt: &impl Print, c: Checker, body: &[u8], n: usize, out: &mut [u8]) -> Served {
-    if n > body.len() {
-        return Served {
-            more: false,
-            checker: c,
-        };
-    }
-    let h = claims::hear(c, &body[..n], out);
-    let reply = h.reply;
-    let checker = h.checker;
-    Served {
-        more: send(rt, reply, out),
-        checker,
-    }
+// Answers a request of a rehearsal: the checker after it, if the reply was sent.
+fn rehearse(rt: &impl Print, c: Checker, request: &[u8], out: &mut [u8]) -> Option<Checker> {
+    let h = claims::hear(c, request, out);
+    send(rt, h.reply, out).ok()?;
+    Some(h.checker)
 }
 
-// Answers a request of records: whether the reply was sent, and the records after it.
-fn record(rt: &impl Print, s: Store, body: &[u8], n: usize, out: &mut [u8]) -> Stored {
-    if n > body.len() {
-        return Stored {
-            more: false,
-            store: s,
-        };
-    }
-    let k = records::keep(s, &body[..n], out);
-    let reply = k.reply;
-    let store = k.store;
-    Stored {
-        more: send(rt, reply, out),
-        store,
-    }
+// Answers a request of records: the records after it, if the reply was sent.
+fn record(rt: &impl Print, s: Store, request: &[u8], out: &mut [u8]) -> Option<Store> {
+    let k = records::keep(s, request, out);
+    send(rt, k.reply, out).ok()?;
+    Some(k.store)
 }
 
-// Answers a step with its letter: whether the reply was sent.
-fn answer_led(rt: &impl Print, request: &[u8], out: &mut [u8]) -> bool {
-    if request.len() == 0 {
-        return false;
+// Answers a request of another kind.
+fn answer(rt: &impl Print, request: &[u8], out: &mut [u8]) -> io::Result<()> {
+    if request.len() > 0 && asked::kind_of(request) == 11 {
+        return send_led(rt, steps::make_step_via(&request[1..], out), out);
     }
-    let l = steps::make_step_via(&request[1..], out);
-    send_led(rt, l, out)
+    send(rt, reply_to(request, out), out)
 }
 
-// Answers a request of another kind: whether the reply was sent.
-fn answer(rt: &impl Print, body: &[u8], n: usize, out: &mut [u8]) -> bool {
-    if n > body.len() {
-        return false;
-    }
-    if kind_in(body, n) == 11 {
-        return answer_led(rt, &body[..n], out);
-    }
-    let r = reply_to(&body[..n], out);
-    send(rt, r, out)
-}
-
-// Answers requests until one of a rehearsal or of records has come.
-fn serve_others(rt: &(impl Input + Print), body: &mut [u8], out: &mut [u8]) -> Came {
+// Answers requests until one of a rehearsal or of records has come: how long it is, or none at the end.
+fn serve_others(rt: &(impl Input + Print), body: &mut [u8], out: &mut [u8]) -> Option<usize> {
     for _ in 0..u64::MAX {
-        let Came::Request(n) = receive(rt, body) else {
-            return Came::End;
-        };
-        if is_held(kind_in(body, n)) {
-            return Came::Request(n);
+        let n = receive(rt, body)?;
+        let request = body.get(..n)?;
+        if is_held(asked::kind_of(request)) {
+            return Some(n);
         }
-        if !answer(rt, body, n, out) {
-            return Came::End;
-        }
+        answer(rt, request, out).ok()?;
     }
-    Came::End
+    None
+}
+
+// Answers one request of a rehearsal or of records, after those of other kinds: the checker and the records after it, or none at the end.
+fn serve_one(
+    rt: &(impl Input + Print),
+    checker: Checker,
+    store: Store,
+    body: &mut [u8],
+    out: &mut [u8],
+) -> Option<(Checker, Store)> {
+    let n = serve_others(rt, body, out)?;
+    let request = body.get(..n)?;
+    if asked::kind_of(request) < 7 {
+        Some((rehearse(rt, checker, request, out)?, store))
+    } else {
+        Some((checker, record(rt, store, request, out)?))
+    }
 }
 
 // Answers all requests, with a checker and records to begin with. Neither is moved but for its own requests.
@@ -230,25 +162,12 @@ fn serve_all(
     body: &mut [u8],
     out: &mut [u8],
 ) {
-    let mut checker = first;
-    let mut store = none;
+    let mut held = (first, none);
     for _ in 0..u64::MAX {
-        let Came::Request(n) = serve_others(rt, body, out) else {
+        let Some(after) = serve_one(rt, held.0, held.1, body, out) else {
             return;
         };
-        if kind_in(body, n) < 7 {
-            let s = rehearse(rt, checker, body, n, out);
-            if !s.more {
-                return;
-            }
-            checker = s.checker;
-            continue;
-        }
-        let s = record(rt, store, body, n, out);
-        if !s.more {
-            return;
-        }
-        store = s.store;
+        held = after;
     }
 }
 

@@ -1,9 +1,8 @@
 // Requests of water records, which are held between them.
 use super::told::Reply;
 use super::{asked, told};
-use rules::Answer;
 use table_type::Stepped;
-use water::{Looked, Placed, Record, Store};
+use water::{Placed, Record, Store};
 
 // A reply, and the records after it.
 #[derive(Clone, Copy)]
@@ -26,8 +25,8 @@ fn tell_placed(p: Placed, r: Record, out: &mut [u8]) -> Kept {
         return beside(store, told::refused(number));
     }
     match over_water::look_up(store, r.key, r.month) {
-        Looked::At(h) => beside(store, told::tell_held(h, out)),
-        Looked::Nothing => beside(store, told::malformed()),
+        Some(h) => beside(store, told::tell_held(h, out)),
+        None => beside(store, told::malformed()),
     }
 }
 
@@ -37,8 +36,8 @@ fn place_on(s: Store, r: Record, file: Stepped, out: &mut [u8]) -> Kept {
     let t = file.table;
     let p = file.pool;
     match answer {
-        Answer::Done => tell_placed(over_water::place(t, p, 256, s, r), r, out),
-        Answer::Refused(why) => beside(s, told::refused_by(why)),
+        Ok(()) => tell_placed(over_water::place(t, p, 256, s, r), r, out),
+        Err(why) => beside(s, told::refused_by(why)),
     }
 }
 

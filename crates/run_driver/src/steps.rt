@@ -22,9 +22,9 @@ pub fn make_step(rest: &[u8], out: &mut [u8]) -> Reply
     if rest.len() < 24 {
         return told::malformed();
     }
-    let action = words::read64(rest, 0);
-    let x = words::read64(rest, 8);
-    let y = words::read64(rest, 16);
+    let action = words::read::<u64>(rest, 0);
+    let x = words::read::<u64>(rest, 8);
+    let y = words::read::<u64>(rest, 16);
     told::unpacked(face_c::tarpudhriv_step(&rest[24..], action, x, y, out))
 }
 
@@ -36,9 +36,9 @@ pub fn make_step_via(rest: &[u8], out: &mut [u8]) -> Led
         let reply = told::malformed();
         return Led { reply, lead: 0 };
     }
-    let action = words::read64(rest, 0);
-    let x = words::read64(rest, 8);
-    let y = words::read64(rest, 16);
+    let action = words::read::<u64>(rest, 0);
+    let x = words::read::<u64>(rest, 8);
+    let y = words::read::<u64>(rest, 16);
     told::unlettered(face_c::tarpudhriv_step_via(&rest[24..], action, x, y, out))
 }
 
@@ -48,9 +48,9 @@ fn start_of(rest: &[u8], ids: &[u32], n: usize, out: &mut [u8]) -> Reply
     ensures { Says (begun_said (begun_of (word_at 0 rest.now) (word_at 8 rest.now) (word_at 16 rest.now)
         (take n ids.now)) out.old) result out.new }
 {
-    let m = words::read64(rest, 0);
-    let l = words::read64(rest, 8);
-    let a = words::read64(rest, 16);
+    let m = words::read::<u64>(rest, 0);
+    let l = words::read::<u64>(rest, 8);
+    let a = words::read::<u64>(rest, 16);
     told::reply_of(face_file::start_file(m, l, a, &ids[..n], out))
 }
 

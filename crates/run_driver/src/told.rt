@@ -11,10 +11,11 @@ use counts::First;
 use face::Rest;
 use file::Wrote;
 use rehearsal::Verdict;
-use rules::{Answer, Refusal};
+use rules::Refusal;
 use water::{Held, Store};
 
-// A number, and how many bytes of the buffer are the result.
+// A number, and how many bytes of the buffer are the result: as they are sent. A Result would be made into this pair at once, and a malformed request has
+// a number that is no refusal's.
 #[derive(Clone, Copy)]
 pub struct Reply {
     pub number: u32,
@@ -46,7 +47,7 @@ pub fn malformed() -> Reply
 pub fn refused_by(why: Refusal) -> Reply
     ensures { result ≡ numbered (refusal_number why) }
 {
-    refused(parts::answer_number(Answer::Refused(why)))
+    refused(parts::answer_number(Err(why)))
 }
 
 // A word of the exported calls as a reply.
@@ -76,10 +77,9 @@ pub fn unlettered(x: u64) -> Led
 pub fn reply_of(w: Wrote) -> Reply
     ensures { result ≡ reply_by w }
 {
-    let answer = w.answer;
-    Reply {
-        number: parts::answer_number(answer),
-        count: w.count,
+    match w {
+        Ok(count) => Reply { number: 0, count },
+        Err(why) => refused_by(why),
     }
 }
 
@@ -109,7 +109,7 @@ fn flag_word(x: u8, y: u32, out: &mut [u8]) -> Reply
         return refused(11);
     }
     let at = text::put_byte(out, 0, x);
-    let count = words::write32(out, at, y);
+    let count = words::write(out, at, y);
     Reply { number: 0, count }
 }
 
@@ -120,8 +120,8 @@ fn two_words(x: u32, y: u64, out: &mut [u8]) -> Reply
     if out.len() < 12 {
         return refused(11);
     }
-    let at = words::write32(out, 0, x);
-    let count = words::write64(out, at, y);
+    let at = words::write(out, 0, x);
+    let count = words::write(out, at, y);
     Reply { number: 0, count }
 }
 
@@ -132,9 +132,9 @@ fn three_words(x: u32, y: u64, z: u64, out: &mut [u8]) -> Reply
     if out.len() < 20 {
         return refused(11);
     }
-    let a1 = words::write32(out, 0, x);
-    let a2 = words::write64(out, a1, y);
-    let count = words::write64(out, a2, z);
+    let a1 = words::write(out, 0, x);
+    let a2 = words::write(out, a1, y);
+    let count = words::write(out, a2, z);
     Reply { number: 0, count }
 }
 
@@ -143,9 +143,9 @@ pub fn tell_rest(said: Rest, out: &mut [u8]) -> Reply
     ensures { Says (rest_said said out.old) result out.new }
 {
     match said {
-        Rest::Settled => flag(1, out),
-        Rest::Unsettled => flag(0, out),
-        Rest::NotAsked(why) => refused_by(why),
+        Ok(true) => flag(1, out),
+        Ok(false) => flag(0, out),
+        Err(why) => refused_by(why),
     }
 }
 
@@ -154,9 +154,9 @@ pub fn tell_first(f: First, out: &mut [u8]) -> Reply
     ensures { Says (first_said f out.old) result out.new }
 {
     match f {
-        First::At(place) => flag_word(1, low(place), out),
-        First::None => flag(0, out),
-        First::NotAsked(why) => refused_by(why),
+        Ok(Some(place)) => flag_word(1, low(place), out),
+        Ok(None) => flag(0, out),
+        Err(why) => refused_by(why),
     }
 }
 
@@ -165,8 +165,8 @@ pub fn tell_verdict(v: Verdict, out: &mut [u8]) -> Reply
     ensures { Says (verdict_said v out.old) result out.new }
 {
     match v {
-        Verdict::Accepted => flag(1, out),
-        Verdict::Bad(k) => flag_word(0, low(k), out),
+        Ok(()) => flag(1, out),
+        Err(k) => flag_word(0, low(k), out),
     }
 }
 
@@ -196,14 +196,8 @@ pub fn tell_sum(s: Store, out: &mut [u8]) -> Reply {
 pub fn head_of(n: u32, number: u32) -> [u8; 8]
     ensures { result ≡ bytes_of 4 n ++ bytes_of 4 number }
 {
-    [
-        (n % 256) as u8,
-        (n / 256 % 256) as u8,
-        (n / 65536 % 256) as u8,
-        (n / 16777216 % 256) as u8,
-        (number % 256) as u8,
-        (number / 256 % 256) as u8,
-        (number / 65536 % 256) as u8,
-        (number / 16777216 % 256) as u8,
-    ]
+    let mut head = [0u8; 8];
+    let at = words::write(&mut head, 0, n);
+    words::write(&mut head, at, number);
+    head
 }

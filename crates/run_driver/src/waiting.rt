@@ -2,7 +2,6 @@
 use super::told;
 use super::told::Reply;
 use counts::{After, Counted};
-use rules::Answer;
 
 // A table of no node, for which nothing waits: what a file is loaded over.
 fn nothing() -> Counted {
@@ -18,8 +17,8 @@ fn first_in(loaded: After, slot: usize, out: &mut [u8]) -> Reply {
     let answer = loaded.answer;
     let x = loaded.counted;
     match answer {
-        Answer::Done => told::tell_first(over_counts::first_message(x, 256, slot), out),
-        Answer::Refused(why) => told::refused_by(why),
+        Ok(()) => told::tell_first(over_counts::first_message(x, 256, slot), out),
+        Err(why) => told::refused_by(why),
     }
 }
 
@@ -28,6 +27,6 @@ pub fn ask_waiting(rest: &[u8], out: &mut [u8]) -> Reply {
     if rest.len() < 8 {
         return told::malformed();
     }
-    let slot = words::read64(rest, 0) as usize;
+    let slot = words::read::<u64>(rest, 0) as usize;
     first_in(over_counts::load(&rest[8..], nothing(), 256), slot, out)
 }

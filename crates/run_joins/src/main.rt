@@ -3,10 +3,11 @@
 // two and into one (T-02). Then three steps on what is not valid, which are refused with 10.
 #![tactic(auto)]
 
-use face::Rest;
 use rules::{Action, Pool};
 use table_type::{Stepped, Table};
 
+// This and `number`, `status`, `show`, `rest` and `started` stand in run_service too: in a library of their own they would be public functions that
+// print, and no clause can say what is printed.
 fn say(rt: &impl Print, words: &[u8]) {
     let _ = rt.write_all(words);
 }
@@ -32,11 +33,9 @@ fn show(rt: &impl Print, s: Stepped) {
     number(rt, parts::answer_number(answer) as u64);
     say(rt, b", status");
     let t = s.table;
-    let mut i: usize = 0;
-    while i < 4 {
+    for i in 0..4 {
         say(rt, b" ");
         number(rt, status(t, i));
-        i += 1;
     }
     let p = s.pool;
     say(rt, b", waiting ");
@@ -55,15 +54,13 @@ fn stepped(rt: &impl Print, s: Stepped, a: Action) -> Stepped {
 // Takes the first message until none waits.
 fn drained(rt: &impl Print, s: Stepped) -> Stepped {
     let mut now = s;
-    let mut turn: u64 = 0;
-    while turn < 64 {
+    for _ in 0..64u64 {
         let p = now.pool;
         if p.count == 0 {
             return now;
         }
         say(rt, b"take 0");
         now = stepped(rt, now, Action::Take(0));
-        turn += 1;
     }
     now
 }
@@ -83,9 +80,9 @@ fn rest(rt: &impl Print, s: Stepped) {
     let t = s.table;
     let p = s.pool;
     match face_table::settled(t, p, 256) {
-        Rest::Settled => say(rt, b"settled\n"),
-        Rest::Unsettled => say(rt, b"not settled\n"),
-        Rest::NotAsked(_) => say(rt, b"not valid\n"),
+        Ok(true) => say(rt, b"settled\n"),
+        Ok(false) => say(rt, b"not settled\n"),
+        Err(_) => say(rt, b"not valid\n"),
     }
 }
 

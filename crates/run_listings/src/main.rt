@@ -8,18 +8,18 @@ fn title(rt: &impl Print, number: u64) {
     let _ = println!(rt; "file {number}");
 }
 
-// The next length, or one that no file has where the input ends.
-fn next_length(rt: &impl Input) -> usize {
+// The next length, where the input does not end.
+fn next_length(rt: &impl Input) -> Option<usize> {
     let mut head = [0u8; 4];
-    if rt.reader().read_exact(&mut head).is_err() {
-        return usize::MAX;
-    }
-    words::read32(&head, 0) as usize
+    rt.reader().read_exact(&mut head).ok()?;
+    Some(words::read::<u32>(&head, 0) as usize)
 }
 
 // Lists the next file: whether there was one.
 fn list_next(rt: &(impl Input + Print), body: &mut [u8], number: u64) -> bool {
-    let n = next_length(rt);
+    let Some(n) = next_length(rt) else {
+        return false;
+    };
     if n > body.len() {
         return false;
     }

@@ -3,7 +3,7 @@
 
 pub fn show(rt: &impl Print, file: &[u8]) {
     let mut out = [0u8; 65536];
-    let wrote = file_list::list(file, &mut out);
-    let count = wrote.count;
-    let _ = rt.write_all(&out[..count]);
+    if let Ok(count) = file_list::list(file, &mut out) {
+        let _ = rt.write_all(&out[..count]);
+    }
 }

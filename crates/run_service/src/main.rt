@@ -4,10 +4,11 @@
 // action with its answer, the statuses and the number of waiting messages after it, and between whether the table is settled.
 #![tactic(auto)]
 
-use face::Rest;
 use rules::{Action, Pool};
 use table_type::{Stepped, Table};
 
+// This and `number`, `status`, `show`, `rest` and `started` stand in run_joins too: in a library of their own they would be public functions that
+// print, and no clause can say what is printed.
 fn say(rt: &impl Print, words: &[u8]) {
     let _ = rt.write_all(words);
 }
@@ -33,11 +34,9 @@ fn show(rt: &impl Print, s: Stepped) {
     number(rt, parts::answer_number(answer) as u64);
     say(rt, b", status");
     let t = s.table;
-    let mut i: usize = 0;
-    while i < 7 {
+    for i in 0..7 {
         say(rt, b" ");
         number(rt, status(t, i));
-        i += 1;
     }
     let p = s.pool;
     say(rt, b", waiting ");
@@ -61,8 +60,7 @@ fn asked(rt: &impl Print, s: Stepped, what: &[u8], i: usize, a: Action) -> Stepp
 fn quiet(rt: &impl Print, s: Stepped) -> Stepped {
     let mut now = s;
     let mut place: usize = 0;
-    let mut turn: u64 = 0;
-    while turn < 4096 {
+    for _ in 0..4096u64 {
         let p = now.pool;
         if place >= p.count {
             say(rt, b"drained");
@@ -78,7 +76,6 @@ fn quiet(rt: &impl Print, s: Stepped) -> Stepped {
         } else {
             place += 1;
         }
-        turn += 1;
     }
     now
 }
@@ -86,8 +83,7 @@ fn quiet(rt: &impl Print, s: Stepped) -> Stepped {
 // Every lease of slot i expires, so that its neighbours are asked anew.
 fn expired(s: Stepped, i: usize) -> Stepped {
     let mut now = s;
-    let mut j: usize = 0;
-    while j < 7 {
+    for j in 0..7 {
         let t = now.table;
         let p = now.pool;
         let r = table_step::step(t, p, 256, Action::LeaseExpired(i, j));
@@ -95,7 +91,6 @@ fn expired(s: Stepped, i: usize) -> Stepped {
         if parts::answer_number(answer) == 0 {
             now = r;
         }
-        j += 1;
     }
     now
 }
@@ -127,9 +122,9 @@ fn rest(rt: &impl Print, s: Stepped) {
     let t = s.table;
     let p = s.pool;
     match face_table::settled(t, p, 256) {
-        Rest::Settled => say(rt, b"settled\n"),
-        Rest::Unsettled => say(rt, b"not settled\n"),
-        Rest::NotAsked(_) => say(rt, b"not valid\n"),
+        Ok(true) => say(rt, b"settled\n"),
+        Ok(false) => say(rt, b"not settled\n"),
+        Err(_) => say(rt, b"not valid\n"),
     }
 }
 

@@ -1,12 +1,12 @@
 -- The step: what each action asks, and from it what every step answers and leaves, for every table, pool, list length and action.
 -- Definitions only. Assumes nothing.
+use Rattle.rules.specs.Shapes.{Planned}
 use Rattle.std.specs.Prelude.{Bool, true, false, cond, ◌&&◌, List, ℕ, ◌^◌, eqb, ltb}
 use Rattle.rules.specs.Names.{Slot, Key, Place}
 use Rattle.rules.specs.declared.Action.{Action}
 use Rattle.rules.specs.declared.Action.TheVariants.{Lookup, Join, RequestLease, LeaseExpired, GrantExpired, Take, Deliver, Forward}
 use Rattle.rules.specs.declared.Action.TheVariants.{NodeLeft, SuspectFaulty, ProbeTimeOut, DeclareDead, LSRepair, ResignNode, Recover}
 use Rattle.rules.specs.declared.Message.{Message}
-use Rattle.rules.specs.declared.Planned.{Planned}
 use Rattle.rules.specs.declared.Pool.{Pool}
 use Rattle.rules.specs.declared.Refusal.TheVariants as no
 use Rattle.rules.specs.Mail.{waits, join_waits, without_probes, reply_waits, removed_at}

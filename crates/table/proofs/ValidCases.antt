@@ -1,5 +1,6 @@
 -- Valid tables, and what a plan that is carried out leaves, computed by the checker: one table for each part of the test, and the pool at 256 and 257.
 -- Assumes nothing.
+use Rattle.std.specs.Prelude.{Some, Ok, Err}
 use mathlib.Core.Path.{◌≡◌, refl}
 use mathlib.Core.Bool.{true, false}
 use mathlib.Core.List.{List, [], ◌∷◌, ◌++◌}
@@ -7,9 +8,8 @@ use Prim.Native.Nat.{ℕ}
 use lib.ListN.{length, replicate}
 use Rattle.ring.specs.Distance.{fall_of, signed_of, abs_dist_of, rises_to, nearer}
 use Rattle.marks.specs.Marks.{has, tally, all_to, size_of, listed}
-use Rattle.marks.specs.declared.Found.TheVariants.{At}
 use Rattle.rules.specs.declared.Status.{Status}
-use Rattle.rules.specs.declared.Status.TheVariants.{Dead, Ok, Ready}
+use Rattle.rules.specs.declared.Status.TheVariants as is
 use Rattle.rules.specs.declared.Ring.{Ring}
 use Rattle.rules.specs.declared.Node.{Node}
 use Rattle.rules.specs.declared.Via.TheVariants.{Leaf}
@@ -18,7 +18,6 @@ use Rattle.rules.specs.declared.Pool.{Pool}
 use Rattle.rules.specs.declared.Plan.{Plan}
 use Rattle.rules.specs.declared.Refusal.{Refusal}
 use Rattle.rules.specs.declared.Refusal.TheVariants as no
-use Rattle.rules.specs.declared.Planned.TheVariants.{No, Go}
 use Rattle.rules.specs.Letters.{lookup, lookup_after}
 use Rattle.rules.specs.Mail.{alike, all_different, first_from, first_equal, added, sent_to}
 use Rattle.rules.specs.Nodes.{no_node, placed}
@@ -42,10 +41,10 @@ abbrev table : ℕ → Node → Node → List Node → Table
 table m a b rest = record { m = m; l = 1; n = 2; nodes = a ∷ b ∷ rest }
 
 abbrev a : Node
-a = node 17 Ready 2 2
+a = node 17 is.Ready 2 2
 
 abbrev b : Node
-b = node 18 Ready 1 1
+b = node 18 is.Ready 1 1
 
 abbrev blanks : List Node
 blanks = replicate 62 no_node
@@ -62,10 +61,10 @@ pub record ValidCases : Type 0 where
   -- all numbers are in range
   pub wide : valid_of (table 33 a b blanks) (laid []) ≡ false
   -- each slot: a listed one, the last listed one, one that is not listed, the last one
-  pub first_slot : valid_of (table 8 (node 17 Ready 1 2) b blanks) (laid []) ≡ false
-  pub second-slot : valid_of (table 8 a (node 17 Ready 1 1) blanks) (laid []) ≡ false
-  pub third-slot : valid_of (table 8 a b (node 65 Dead 0 0 ∷ replicate 61 no_node)) (laid []) ≡ false
-  pub last-slot : valid_of (table 8 a b (replicate 61 no_node ++ (node 65 Dead 0 0 ∷ []))) (laid []) ≡ false
+  pub first_slot : valid_of (table 8 (node 17 is.Ready 1 2) b blanks) (laid []) ≡ false
+  pub second-slot : valid_of (table 8 a (node 17 is.Ready 1 1) blanks) (laid []) ≡ false
+  pub third-slot : valid_of (table 8 a b (node 65 is.Dead 0 0 ∷ replicate 61 no_node)) (laid []) ≡ false
+  pub last-slot : valid_of (table 8 a b (replicate 61 no_node ++ (node 65 is.Dead 0 0 ∷ []))) (laid []) ≡ false
   -- each message obeys its kind: the first, the last
   pub first-message : valid_of (table 8 a b blanks) (laid (k 256 ∷ k 90 ∷ [])) ≡ false
   pub last-message : valid_of (table 8 a b blanks) (laid (k 80 ∷ k 256 ∷ [])) ≡ false
@@ -77,7 +76,7 @@ pub record ValidCases : Type 0 where
   pub hops-met : valid_of (table 8 a b blanks) (laid (k 90 ∷ k1 80 ∷ [])) ≡ true
   pub hops-past : valid_of (table 8 a b blanks) (laid (k 90 ∷ k1 10 ∷ [])) ≡ false
   -- every listed node counts, the dead too
-  pub hops-of-the-dead : valid_of (table 8 (node 17 Dead 0 0) b blanks) (laid (k1 80 ∷ [])) ≡ true
+  pub hops-of-the-dead : valid_of (table 8 (node 17 is.Dead 0 0) b blanks) (laid (k1 80 ∷ [])) ≡ true
   pub equal-but-for-hops : valid_of (table 8 a b blanks) (laid (k 80 ∷ k 90 ∷ k1 80 ∷ [])) ≡ false
 
 pub valid-cases : ValidCases
@@ -121,28 +120,28 @@ at-257 g ids xs = refl
 
 module _ (t : Table) (p : Pool) (ys : List Message) (i : ℕ) where
   -- refused: the table and the pool as they were
-  pub refused : (why : Refusal) → settle t p ys i (No why) ≡ refused_of t p why
+  pub refused : (why : Refusal) → settle t p ys i (Err why) ≡ refused_of t p why
   unfolding settle
   refused why = refl
 
   -- all 256 places, those past the count too
-  pub kept : (why : Refusal) → ((settle t p ys i (No why)).table ≡ t) × ((settle t p ys i (No why)).pool ≡ p)
+  pub kept : (why : Refusal) → ((settle t p ys i (Err why)).table ≡ t) × ((settle t p ys i (Err why)).pool ≡ p)
   unfolding settle
   kept why = (refl, refl)
 
   -- 6 if the pool after the step would exceed 256
-  pub full : (x : Plan) → length (mailed x ys) ≡ 257 → settle t p ys i (Go x) ≡ refused_of t p no.Full
+  pub full : (x : Plan) → length (mailed x ys) ≡ 257 → settle t p ys i (Ok x) ≡ refused_of t p no.Full
   unfolding settle carried_out
   full x e = rw e
 
-  pub not_full : (x : Plan) → length (mailed x ys) ≡ 256 → settle t p ys i (Go x) ≡ done_by x.via (with_node t i x.node) (laid (mailed x ys))
+  pub not_full : (x : Plan) → length (mailed x ys) ≡ 256 → settle t p ys i (Ok x) ≡ done_by x.via (with_node t i x.node) (laid (mailed x ys))
   unfolding settle carried_out
   not_full x e = rw e
 
 -- a lookup of 90 is sent to slot 0, and the node of slot 1 becomes ok: that node alone is another, the pool is what waited and the new message,
 -- the pool before is no part of it, and the answer says what the plan says of the hop
 pub done : settle (table 8 a b []) (laid (k 70 ∷ [])) (k 80 ∷ []) 1
-    (Go (record { node = node 18 Ok 1 1; first = lookup 90; to = At 0; each = blank; all = 0; via = Leaf }))
-    ≡ done_by Leaf (table 8 a (node 18 Ok 1 1) []) (laid (k 80 ∷ placed (lookup 90) 0 ∷ []))
+    (Ok (record { node = node 18 is.Ok 1 1; first = lookup 90; to = Some 0; each = blank; all = 0; via = Leaf }))
+    ≡ done_by Leaf (table 8 a (node 18 is.Ok 1 1) []) (laid (k 80 ∷ placed (lookup 90) 0 ∷ []))
 unfolding settle carried_out mailed sent_to added first_equal first_from alike all_to has
 done = refl

@@ -1,5 +1,6 @@
 -- A start is valid and settled: the table that a done start leaves is valid, with no message waiting, and settled; and a start is done,
 -- answers 8 or answers 10 exactly as Answers says. For all numbers; settled asks that A is a word of 64 marks. Assumes nothing.
+use Rattle.std.specs.Prelude.{Ok}
 use mathlib.Core.Path.{◌≡◌, refl, sym, ◌∙◌, ap}
 use mathlib.Core.Logic.{◌⊎◌, inl, inr, ◌↔◌}
 use mathlib.Core.List.{List, []}
@@ -12,7 +13,6 @@ use Rattle.marks.proofs.Bools.{and_both, false-not, bool_cases, opposed}
 use Rattle.marks.specs.Marks.{all_to}
 use Rattle.marks.proofs.Laws.{all_of}
 use Rattle.rules.specs.declared.Refusal.TheVariants as no
-use Rattle.rules.specs.declared.Answer.TheVariants.{Done}
 use Rattle.rules.specs.Mail.{all_different}
 use Rattle.rules.specs.Numbers.{answer_number}
 use Rattle.rules.specs.Pool.{laid}
@@ -30,7 +30,7 @@ use Rattle.table_laws.proofs.Legal.{Legal, fits-start, list-legal, legal-list}
 
 data Outcome (m l : ℕ) (ids : List ℕ) (a : ℕ) : Type 0 where
   made-it : StartFits m l (length ids) → ListFits m (length ids) (slot_ids ids) a
-      → start_of m l ids a ≡ record { answer = Done; table = made m l ids a } → Outcome m l ids a
+      → start_of m l ids a ≡ record { answer = Ok tt; table = made m l ids a } → Outcome m l ids a
   out_of_range : (StartFits m l (length ids) → ⊥) → start_of m l ids a ≡ not_started no.Header → Outcome m l ids a
   not-legal : StartFits m l (length ids) → (Legal m ids a → ⊥) → start_of m l ids a ≡ not_started no.Invalid → Outcome m l ids a
 
@@ -87,7 +87,7 @@ module _ (m l : ℕ) (ids : List ℕ) (a : ℕ) (f : StartFits m l (length ids))
 
 -- ---- the theorems
 
-pub start-valid : (m l : ℕ) (ids : List ℕ) (a : ℕ) → (start_of m l ids a).answer ≡ Done
+pub start-valid : (m l : ℕ) (ids : List ℕ) (a : ℕ) → (start_of m l ids a).answer ≡ Ok tt
     → valid_of (start_of m l ids a).table (laid []) ≡ true
 start-valid m l ids a d = go (outcome m l ids a)
   where
@@ -96,7 +96,7 @@ start-valid m l ids a d = go (outcome m l ids a)
     go (out_of_range n q) = absurd (omega (arith, ap answer_number d, numbered m l ids a _ q))
     go (not-legal f n q) = absurd (omega (arith, ap answer_number d, numbered m l ids a _ q))
 
-pub start-settled : (m l : ℕ) (ids : List ℕ) (a : ℕ) → a < 2 ^ 64 → (start_of m l ids a).answer ≡ Done
+pub start-settled : (m l : ℕ) (ids : List ℕ) (a : ℕ) → a < 2 ^ 64 → (start_of m l ids a).answer ≡ Ok tt
     → is_settled (start_of m l ids a).table ≡ true
 start-settled m l ids a h d = go (outcome m l ids a)
   where

@@ -1,6 +1,8 @@
 -- What a step comes to, in one place. Every action asks something of the node of a slot, or takes the message of a place (Form); and a step
 -- is refused and changes nothing (RefusedFor), or is done with a plan (DoneWith). `by-step` is the one eliminator: what holds of every
 -- refusal and of every plan carried out holds of every step. Assumes nothing.
+use Rattle.rules.specs.Shapes.{Planned, Answer}
+use Rattle.std.specs.Prelude.{Ok, Err}
 use mathlib.Core.Path.{◌≡◌, refl}
 use mathlib.Core.Bool.{Bool, true, false, cond}
 use mathlib.Core.List.{List}
@@ -17,10 +19,7 @@ use Rattle.rules.specs.declared.Action.TheVariants.{Lookup, Join, RequestLease, 
 use Rattle.rules.specs.declared.Action.TheVariants.{NodeLeft, SuspectFaulty, ProbeTimeOut, DeclareDead, LSRepair, ResignNode, Recover}
 use Rattle.rules.specs.declared.Refusal.{Refusal}
 use Rattle.rules.specs.declared.Refusal.TheVariants as no
-use Rattle.rules.specs.declared.Answer.TheVariants.{Done, Refused}
 use Rattle.rules.specs.declared.Plan.{Plan}
-use Rattle.rules.specs.declared.Planned.{Planned}
-use Rattle.rules.specs.declared.Planned.TheVariants.{No, Go}
 use Rattle.plan.specs.Leave.{plan_probe_time_out}
 use Rattle.rules.specs.Plans.{mailed}
 use Rattle.rules.specs.Pool.{message_at, laid}
@@ -83,22 +82,22 @@ module _ {t : Table} {p : Pool} (s : Sound t p) where
 
 -- ---- what is planned
 
-pub go_same : {x y : Plan} → Go x ≡ Go y → y ≡ x
+pub go_same : {x y : Plan} → ◌≡◌ {A = Planned} (Ok x) (Ok y) → y ≡ x
 go_same e = cc
 
-pub never-go : {why : Refusal} {y : Plan} → No why ≡ Go y → ⊥
+pub never-go : {why : Refusal} {y : Plan} → ◌≡◌ {A = Planned} (Err why) (Ok y) → ⊥
 never-go e = let z : ◌≡◌ {A = ℕ} 0 1 = cc in omega arith
 
 -- ---- what settles
 
 pub by-settle : (C : Stepped → Type 0) (t : Table) (p : Pool) (ys : List Message) (i : ℕ) (what : Planned)
-    → ((why : Refusal) → what ≡ No why → C (refused_of t p why))
-    → ((x : Plan) → what ≡ Go x → 256 < length (mailed x ys) → C (refused_of t p no.Full))
-    → ((x : Plan) → what ≡ Go x → length (mailed x ys) ≤ 256 → C (done_by x.via (with_node t i x.node) (laid (mailed x ys))))
+    → ((why : Refusal) → what ≡ Err why → C (refused_of t p why))
+    → ((x : Plan) → what ≡ Ok x → 256 < length (mailed x ys) → C (refused_of t p no.Full))
+    → ((x : Plan) → what ≡ Ok x → length (mailed x ys) ≤ 256 → C (done_by x.via (with_node t i x.node) (laid (mailed x ys))))
     → C (settle t p ys i what)
 unfolding settle carried_out
-by-settle C t p ys i (No why) refused full done = refused why refl
-by-settle C t p ys i (Go x) refused full done = go (leb (length (mailed x ys)) 256) refl
+by-settle C t p ys i (Err why) refused full done = refused why refl
+by-settle C t p ys i (Ok x) refused full done = go (leb (length (mailed x ys)) 256) refl
   where
     go : (b : Bool) → leb (length (mailed x ys)) 256 ≡ b
         → C (cond b (done_by x.via (with_node t i x.node) (laid (mailed x ys))) (refused_of t p no.Full))
@@ -111,8 +110,8 @@ by-settle C t p ys i (Go x) refused full done = go (leb (length (mailed x ys)) 2
 pub data RefusedFor (t : Table) (p : Pool) (len : ℕ) (a : Action) : Refusal → Type 0 where
   invalid : is_sound t p len ≡ false → RefusedFor t p len a no.Invalid
   out_of_range : Sound t p → (asked t p a).range ≡ false → RefusedFor t p len a no.OutOfRange
-  forbidden : {why : Refusal} → Sound t p → (asked t p a).range ≡ true → planned_of (asked t p a) ≡ No why → RefusedFor t p len a why
-  full : (x : Plan) → Sound t p → (asked t p a).range ≡ true → planned_of (asked t p a) ≡ Go x
+  forbidden : {why : Refusal} → Sound t p → (asked t p a).range ≡ true → planned_of (asked t p a) ≡ Err why → RefusedFor t p len a why
+  full : (x : Plan) → Sound t p → (asked t p a).range ≡ true → planned_of (asked t p a) ≡ Ok x
       → 256 < length (mailed x (remaining p (asked t p a).gone)) → RefusedFor t p len a no.Full
 
 -- by which plan it is done
@@ -121,7 +120,7 @@ pub record DoneWith (t : Table) (p : Pool) (len : ℕ) (a : Action) (x : Plan) :
   pub sound : Sound t p
   pub in-range : (asked t p a).range ≡ true
   pub slot-in : (asked t p a).slot < t.n
-  pub plan : planned_of (asked t p a) ≡ Go x
+  pub plan : planned_of (asked t p a) ≡ Ok x
   pub room : length (mailed x (remaining p (asked t p a).gone)) ≤ 256
 
 -- what the plan leaves
@@ -164,19 +163,19 @@ by-step C t p len a refused done = valid (is_sound t p len) refl
 -- ---- the same, told by the answer
 
 module _ (t : Table) (p : Pool) (len : ℕ) (a : Action) where
-  pub step-refused : (why : Refusal) → (step_of t p len a).answer ≡ Refused why
+  pub step-refused : (why : Refusal) → (step_of t p len a).answer ≡ Err why
       → RefusedFor t p len a why × (step_of t p len a ≡ refused_of t p why)
   step-refused why =
-      by-step (λ s. s.answer ≡ Refused why → RefusedFor t p len a why × (s ≡ refused_of t p why)) t p len a
+      by-step (λ s. s.answer ≡ Err why → RefusedFor t p len a why × (s ≡ refused_of t p why)) t p len a
       (λ y r e. let d : y ≡ why = cc in rw (← d) (r, refl)) (λ x d e. absurd (never e))
     where
-      never : Done ≡ Refused why → ⊥
+      never : ◌≡◌ {A = Answer} (Ok tt) (Err why) → ⊥
       never e = let z : ◌≡◌ {A = ℕ} 0 1 = cc in omega arith
 
-  pub step-done : (step_of t p len a).answer ≡ Done → (x : Plan) × DoneWith t p len a x × (step_of t p len a ≡ leaves_of t p a x)
+  pub step-done : (step_of t p len a).answer ≡ Ok tt → (x : Plan) × DoneWith t p len a x × (step_of t p len a ≡ leaves_of t p a x)
   step-done =
-      by-step (λ s. s.answer ≡ Done → (x : Plan) × DoneWith t p len a x × (s ≡ leaves_of t p a x)) t p len a
+      by-step (λ s. s.answer ≡ Ok tt → (x : Plan) × DoneWith t p len a x × (s ≡ leaves_of t p a x)) t p len a
       (λ why r e. absurd (never why e)) (λ x d e. (x, d, refl))
     where
-      never : (why : Refusal) → Refused why ≡ Done → ⊥
+      never : (why : Refusal) → ◌≡◌ {A = Answer} (Err why) (Ok tt) → ⊥
       never why e = let z : ◌≡◌ {A = ℕ} 0 1 = cc in omega arith

@@ -1,6 +1,8 @@
 -- What each action and kind plans comes to: one of its refusals, or one of its plans. A property of refusals and one of plans are followed
 -- along the chain of tests, once for each action and kind; what a step keeps (Plans, Takes), and with which numbers it is refused
 -- (Numbers), are both read off these. Assumes nothing.
+use Rattle.rules.specs.Shapes.{Planned}
+use Rattle.std.specs.Prelude.{Ok, Err}
 use mathlib.Core.Path.{◌≡◌, refl}
 use mathlib.Core.Bool.{Bool, true, false, cond, ◌&&◌, ◌||◌, not}
 use mathlib.Core.List.{List}
@@ -19,8 +21,6 @@ use Rattle.rules.specs.declared.Hop.TheVariants.{To, NoRoute}
 use Rattle.rules.specs.declared.Refusal.{Refusal}
 use Rattle.rules.specs.declared.Refusal.TheVariants as no
 use Rattle.rules.specs.declared.Plan.{Plan}
-use Rattle.rules.specs.declared.Planned.{Planned}
-use Rattle.rules.specs.declared.Planned.TheVariants.{No, Go}
 use Rattle.plan.specs.Actions.{is_neighbour, lease_plan, plan_lookup, plan_join, plan_request_lease, plan_lease_expired, plan_grant_expired}
 use Rattle.rules.specs.Hop.{next_hop, via_of}
 use Rattle.rules.specs.Leaf.{content_of, leaf_with, is_complete, is_empty, covers_of}
@@ -36,23 +36,23 @@ use Rattle.take.specs.Take.{plan_take_lease_request, plan_take_broadcast, plan_t
 
 -- a refusal has the one property, a plan the other
 pub data Comes (Q : Refusal → Type 0) (P : Plan → Type 0) : Planned → Type 0 where
-  says-no : {why : Refusal} → Q why → Comes Q P (No why)
-  goes : {x : Plan} → P x → Comes Q P (Go x)
+  says-no : {why : Refusal} → Q why → Comes Q P (Err why)
+  goes : {x : Plan} → P x → Comes Q P (Ok x)
 
 past : (kind c : ℕ) → c ≤ kind → eqb kind c ≡ false → c + 1 ≤ kind
 past kind c l e = omega (arith, eqb-false kind c e)
 
 module _ {Q : Refusal → Type 0} {P : Plan → Type 0} where
-  pub no-comes : {what : Planned} → Comes Q P what → (why : Refusal) → what ≡ No why → Q why
+  pub no-comes : {what : Planned} → Comes Q P what → (why : Refusal) → what ≡ Err why → Q why
   no-comes (says-no {why = y} q) why e = let d : y ≡ why = cc in rw (← d) q
   no-comes (goes p) why e = absurd (let z : ◌≡◌ {A = ℕ} 0 1 = cc in omega arith)
 
-  pub go-comes : {what : Planned} → Comes Q P what → (x : Plan) → what ≡ Go x → P x
+  pub go-comes : {what : Planned} → Comes Q P what → (x : Plan) → what ≡ Ok x → P x
   go-comes (says-no q) x e = absurd (let z : ◌≡◌ {A = ℕ} 0 1 = cc in omega arith)
   go-comes (goes {x = y} p) x e = let d : y ≡ x = cc in rw (← d) p
 
   -- refused if a test holds
-  unless : (b : Bool) {why : Refusal} {rest : Planned} → Comes Q P (No why) → Comes Q P rest → Comes Q P (cond b (No why) rest)
+  unless : (b : Bool) {why : Refusal} {rest : Planned} → Comes Q P (Err why) → Comes Q P rest → Comes Q P (cond b (Err why) rest)
   unless true q f = q
   unless false q f = f
 
@@ -149,7 +149,7 @@ module _ {Q : Refusal → Type 0} {P : Plan → Type 0} where
   -- ---- Deliver and Forward, and Take by kind
 
   forward : (hop : Hop) (v : Node) (m : Message) (k i : ℕ) → ((h : ℕ) → hop ≡ To h → P (send_by (via_of i v h) v m h))
-      → (hop ≡ NoRoute → P (send_plan v (no_legal_route k) i)) → Comes Q P (Go (forward_plan hop v m k i))
+      → (hop ≡ NoRoute → P (send_plan v (no_legal_route k) i)) → Comes Q P (Ok (forward_plan hop v m k i))
   forward (To h) v m k i to none = goes (to h refl)
   forward NoRoute v m k i to none = goes (none refl)
 

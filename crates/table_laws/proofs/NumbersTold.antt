@@ -1,5 +1,6 @@
 -- What the table of numbers tells of a step: every step is answered with a number of its action (`step-numbers`), and what the table lacks is never answered.
 -- Assumes nothing.
+use Rattle.std.specs.Prelude.{Err}
 use mathlib.Core.Path.{◌≡◌, refl, sym, ◌∙◌, ap}
 use mathlib.Core.Logic.{◌⊎◌, inl, inr, ⊎_elim}
 use mathlib.Core.Bool.{Bool, true, false, ◌&&◌, not}
@@ -15,7 +16,6 @@ use Rattle.rules.specs.declared.Action.{Action}
 use Rattle.rules.specs.declared.Action.TheVariants.{Take}
 use Rattle.rules.specs.declared.Refusal.{Refusal}
 use Rattle.rules.specs.declared.Refusal.TheVariants as no
-use Rattle.rules.specs.declared.Planned.TheVariants.{No}
 use Rattle.rules.specs.Mail.{removed_at}
 use Rattle.rules.specs.Numbers.{refusal_number, answer_number}
 use Rattle.rules.specs.Pool.{message_at, waiting}
@@ -113,6 +113,6 @@ module _ (t : Table) (p : Pool) (len : ℕ) where
     unfolding step_of settle plan_take
     take-kind-6 s r k =
         let m = message_at p place in
-        let plan : taken_of t m ≡ No no.Partner =
+        let plan : taken_of t m ≡ Err no.Partner =
         ap (λ (kind : ℕ). plan_take kind (ring_of t) (ids_of t) (dead_set t) m.dest (node_at t m.dest) m) k in
         rw (s, r) (ap (settle t p (removed_at (waiting p) place) m.dest) plan)

@@ -1,5 +1,7 @@
 -- What every plan keeps. A plan is fine (FinePlan) where its node has the old id and obeys the node rules, and each message that it adds
 -- obeys its kind. Here for the five actions besides Take, whose kinds are in Takes. Assumes nothing.
+use Rattle.rules.specs.Shapes.{Planned}
+use Rattle.std.specs.Prelude.{Some, None}
 use mathlib.Core.Path.{◌≡◌, refl}
 use mathlib.Core.Bool.{Bool, true, false, cond}
 use mathlib.Core.List.{List}
@@ -8,7 +10,6 @@ use native.Mathlib.Omega.{arith}
 use Rattle.marks.specs.Marks.{has, listed, single}
 use Rattle.marks.proofs.Bools.{opposed}
 use Rattle.marks.proofs.Laws.{has-zero, listed_has, listed-zero, listed-remove, listed-single, listed-without}
-use Rattle.marks.specs.declared.Found.TheVariants.{At, Nothing}
 use Rattle.rules.specs.declared.Way.TheVariants.{Up, Down}
 use Rattle.rules.specs.declared.Ring.{Ring}
 use Rattle.rules.specs.declared.Status.{Status}
@@ -16,7 +17,6 @@ use Rattle.rules.specs.declared.Status.TheVariants as status
 use Rattle.rules.specs.declared.Node.{Node}
 use Rattle.rules.specs.declared.Message.{Message}
 use Rattle.rules.specs.declared.Plan.{Plan}
-use Rattle.rules.specs.declared.Planned.{Planned}
 use Rattle.plan.specs.Actions.{unless_in, lease_plan, plan_lookup, plan_join, plan_request_lease, plan_lease_expired, plan_grant_expired}
 use Rattle.rules.specs.Fits.{node_fits, message_fits}
 use Rattle.rules.specs.Leaf.{left_neighbour, right_neighbour}
@@ -54,17 +54,17 @@ FinePlanned g i v what = Comes (λ _. Unit {0}) (FinePlan g i v) what
 pub none-sent : (P : Message → Type 0) (m : Message) (s : ℕ) → has 0 s ≡ true → P (placed m s)
 none-sent P m s e = absurd (opposed e (has-zero s))
 
-pub none-to : (P : Message → Type 0) (m : Message) (s : ℕ) → Nothing ≡ At s → P (placed m s)
+pub none-to : (P : Message → Type 0) (m : Message) (s : ℕ) → None ≡ Some s → P (placed m s)
 none-to P m s e = absurd (let z : ◌≡◌ {A = ℕ} 0 1 = cc in omega arith)
 
-pub one-to : (P : Message → Type 0) (m : Message) (h s : ℕ) → P (placed m h) → At h ≡ At s → P (placed m s)
+pub one-to : (P : Message → Type 0) (m : Message) (h s : ℕ) → P (placed m h) → Some h ≡ Some s → P (placed m s)
 one-to P m h s p e = let d : h ≡ s = cc in rw (← d) p
 
 -- to a slot that is none of a set
-pub unless-to : (P : Message → Type 0) (m : Message) (set h s : ℕ) → P (placed m h) → unless_in set h ≡ At s → P (placed m s)
+pub unless-to : (P : Message → Type 0) (m : Message) (set h s : ℕ) → P (placed m h) → unless_in set h ≡ Some s → P (placed m s)
 unless-to P m set h s p = go (has set h)
   where
-    go : (b : Bool) → cond b Nothing (At h) ≡ At s → P (placed m s)
+    go : (b : Bool) → cond b None (Some h) ≡ Some s → P (placed m s)
     go true e = none-to P m s e
     go false e = one-to P m h s p e
 

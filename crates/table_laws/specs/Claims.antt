@@ -1,10 +1,9 @@
 -- What every step keeps, and which steps say where a next hop came from. Only statements: the proofs are in the other files. Assumes nothing.
-use Rattle.std.specs.Prelude.{◌≡◌, true, ℕ}
+use Rattle.std.specs.Prelude.{◌≡◌, true, ℕ, Ok, Err}
 use Rattle.rules.specs.declared.Pool.{Pool}
 use Rattle.rules.specs.declared.Action.{Action}
 use Rattle.rules.specs.declared.Action.TheVariants.{Take, Forward}
 use Rattle.rules.specs.declared.Refusal.{Refusal}
-use Rattle.rules.specs.declared.Answer.TheVariants.{Done, Refused}
 use Rattle.rules.specs.declared.Via.TheVariants.{Unrouted}
 use Rattle.rules.specs.Names.{Place}
 use Rattle.rules.specs.Pool.{message_at}
@@ -16,7 +15,7 @@ use Rattle.step.specs.Step.{step_of}
 
 -- every done step takes a valid table and pool to a valid one
 abbrev pub KeepsValid : Type 0
-KeepsValid = (t : Table) (p : Pool) (len : ℕ) (a : Action) → (step_of t p len a).answer ≡ Done → valid_of (step_of t p len a).table (step_of t p len a).pool ≡ true
+KeepsValid = (t : Table) (p : Pool) (len : ℕ) (a : Action) → (step_of t p len a).answer ≡ Ok tt → valid_of (step_of t p len a).table (step_of t p len a).pool ≡ true
 
 -- ids, M, L and n never change
 pub record SameRing (t u : Table) : Type 0 where
@@ -30,7 +29,7 @@ KeepsRing = (t : Table) (p : Pool) (len : ℕ) (a : Action) → SameRing t (step
 
 -- a refused step leaves table and messages unchanged
 abbrev pub RefusalKeeps : Type 0
-RefusalKeeps = (t : Table) (p : Pool) (len : ℕ) (a : Action) (why : Refusal) → (step_of t p len a).answer ≡ Refused why → step_of t p len a ≡ refused_of t p why
+RefusalKeeps = (t : Table) (p : Pool) (len : ℕ) (a : Action) (why : Refusal) → (step_of t p len a).answer ≡ Err why → step_of t p len a ≡ refused_of t p why
 
 -- T-01: routing of lookups and of join requests: a Forward, or the Take of a message of kind 2
 pub data MayRoute (p : Pool) : Action → Type 0 where

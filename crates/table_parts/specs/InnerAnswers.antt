@@ -1,7 +1,6 @@
 -- What a call answers with the table and the pool that it leaves, and why a plan is refused. Definitions only. Assumes nothing.
-use Rattle.rules.specs.declared.Answer.{Answer}
-use Rattle.rules.specs.declared.Planned.{Planned}
-use Rattle.rules.specs.declared.Planned.TheVariants.{No, Go}
+use Rattle.rules.specs.Shapes.{Planned, Answer}
+use Rattle.std.specs.Prelude.{Ok, Err}
 use Rattle.rules.specs.declared.Pool.{Pool}
 use Rattle.rules.specs.declared.Refusal.{Refusal}
 use Rattle.rules.specs.declared.Refusal.TheVariants as no
@@ -19,5 +18,5 @@ answered_of t p answer = answered_by Unrouted t p answer
 
 -- why what is planned is refused. It is asked where it is: the number of a plan that goes is not used
 abbrev pub why_of : Planned → Refusal
-why_of (No why) = why
-why_of (Go x) = no.Full
+why_of (Err why) = why
+why_of (Ok x) = no.Full

@@ -9,11 +9,11 @@ ghost use Rattle.table.specs.Settle.{refused_of, done_of};
 ghost use Rattle.table_parts.specs.InnerAnswers.{answered_by, answered_of, why_of};
 ghost use Rattle.table_parts.specs.InnerSlots.{slots_with};
 
-use rules::{Answer, Planned, Pool, Refusal, Via};
+use rules::{Plan, Pool, Refusal, Via};
 use table_type::{Stepped, Table};
 
 // The answer with what it leaves, and where the next hop came from.
-pub fn answered_by(via: Via, t: Table, p: Pool, answer: Answer) -> Stepped
+pub fn answered_by(via: Via, t: Table, p: Pool, answer: Result<(), Refusal>) -> Stepped
     ensures { result ≡ answered_by via t p answer }
 {
     Stepped {
@@ -24,8 +24,8 @@ pub fn answered_by(via: Via, t: Table, p: Pool, answer: Answer) -> Stepped
     }
 }
 
-// The same, where nothing was routed.
-pub fn answered(t: Table, p: Pool, answer: Answer) -> Stepped
+// The same, where nothing was routed; not by a call of `answered_by`, which takes table and pool by value and may copy them once more.
+pub fn answered(t: Table, p: Pool, answer: Result<(), Refusal>) -> Stepped
     ensures { result ≡ answered_of t p answer }
 {
     Stepped {
@@ -39,22 +39,22 @@ pub fn answered(t: Table, p: Pool, answer: Answer) -> Stepped
 pub fn refused(t: Table, p: Pool, why: Refusal) -> Stepped
     ensures { result ≡ refused_of t p why }
 {
-    answered(t, p, Answer::Refused(why))
+    answered(t, p, Err(why))
 }
 
 pub fn done(t: Table, p: Pool) -> Stepped
     ensures { result ≡ done_of t p }
 {
-    answered(t, p, Answer::Done)
+    answered(t, p, Ok(()))
 }
 
 // Why it is refused. It is asked where it is; 6 for a plan that goes is not used.
-pub fn why_of(what: Planned) -> Refusal
+pub fn why_of(what: Result<Plan, Refusal>) -> Refusal
     ensures { result ≡ why_of what }
 {
     match what {
-        Planned::No(why) => why,
-        Planned::Go(_) => Refusal::Full,
+        Err(why) => why,
+        Ok(_) => Refusal::Full,
     }
 }
 
@@ -83,21 +83,16 @@ pub fn no_messages() -> Pool
     }
 }
 
-// The slots whose status has 01's number so.
+// The slots whose status has 01's number so. It takes any number, also one of no status: a `Status` would ask more of callers.
 pub fn slots_with(t: Table, number: u32) -> u64
     requires { t.n ≤ 64 }
     ensures { result ≡ slots_with t number }
 {
-    let n = t.n;
     let mut out: u64 = 0;
-    let mut s: usize = 0;
-    while s < n {
-        let v = t.nodes[s];
-        let st = v.status;
-        if parts::status_number(st) == number {
+    for s in 0..t.n {
+        if parts::status_number(t.nodes[s].status) == number {
             out = marks::added(out, s);
         }
-        s += 1;
     }
     out
 }

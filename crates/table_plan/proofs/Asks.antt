@@ -1,5 +1,7 @@
 -- What `asked` says, by the way in which an action asks: of a slot, with or without 3, of a place, or of probes that have timed out. The message of a
 -- Lookup or a Join is new: where it is not repeated, no equal waits. Assumes nothing.
+use Rattle.rules.specs.Shapes.{Planned}
+use Rattle.std.specs.Prelude.{Ok, Err}
 use mathlib.Core.Path.{◌≡◌, refl, sym, ◌∙◌, ap}
 use mathlib.Core.Bool.{Bool, true, false, cond, not, ◌&&◌}
 use mathlib.Core.List.{List}
@@ -7,14 +9,13 @@ use Prim.Native.Nat.{ℕ, ◌≤◌}
 use native.Mathlib.Omega.{arith}
 use lib.Dec.{ltb}
 use borrow.Author.Tests.{ltb-true}
+use Rattle.std.proofs.Common.{Option, Some, None}
 use Rattle.marks.proofs.Bools.{clash, and_left}
 use Rattle.rules.specs.declared.Action.{Action}
 use Rattle.rules.specs.declared.Action.TheVariants.{Lookup, Join, ProbeTimeOut}
 use Rattle.rules.specs.declared.Message.{Message}
 use Rattle.rules.specs.declared.Node.{Node}
 use Rattle.rules.specs.declared.Plan.{Plan}
-use Rattle.rules.specs.declared.Planned.{Planned}
-use Rattle.rules.specs.declared.Planned.TheVariants.{No, Go}
 use Rattle.rules.specs.declared.Pool.{Pool}
 use Rattle.rules.specs.declared.Refusal.TheVariants as no
 use Rattle.rules.specs.declared.Status.TheVariants as status
@@ -32,7 +33,7 @@ use Rattle.pool_laws.proofs.Fresh.{news-one}
 use Rattle.pool_laws.proofs.Laws.{removed-none, waiting-short, mailed-quiet}
 use Rattle.table_type.specs.declared.Table.{Table}
 use Rattle.table_type.specs.Table.{node_at}
-use Rattle.step.specs.Step.{requests, acts, takes, asked, planned_of}
+use Rattle.step.specs.Step.{requests, acts, takes, asked, planned_of, probes-go}
 use Rattle.table_laws.proofs.By.{go_same, never-go}
 use Rattle.table_laws.proofs.Comes.{go-comes, by-probe-time-out}
 use Rattle.table_plan.specs.InnerAsked.{Asks, requests_of, acts_of, times_of, takes_of}
@@ -46,14 +47,14 @@ module _ (t : Table) (p : Pool) (x : Plan) (h : p.count ≤ 256) where
   none_left : (y : Message) → waits (waiting p) y ≡ false → waits (left_of p 256) y ≡ false
   none_left y w = ap (λ (ys : List Message). waits ys y) (nothing-gone p h) ∙ w
 
-  lookup-new : (i k : ℕ) (v : Node) (b : Bool) → waits (waiting p) (placed (lookup k) i) ≡ b → plan_lookup b i k v ≡ Go x
+  lookup-new : (i k : ℕ) (v : Node) (b : Bool) → waits (waiting p) (placed (lookup k) i) ≡ b → plan_lookup b i k v ≡ Ok x
       → first_new x ≡ news_of x (left_of p 256)
   unfolding plan_lookup
   lookup-new i k v true w e = absurd (never-go e)
   lookup-new i k v false w e = rw (go_same e) (news-one (send_plan v (lookup k) i) (left_of p 256) i refl refl (none_left _ w))
 
   join-new : (i seed : ℕ) (v : Node) (dead there full : Bool) → join_waits (waiting p) i ≡ there
-      → cond dead (No no.Status) (cond there (No no.Waits) (cond full (No no.LeafSet) (Go (send_plan v (join_request i 0) seed)))) ≡ Go x
+      → cond dead (Err no.Status) (cond there (Err no.Waits) (cond full (Err no.LeafSet) (Ok (send_plan v (join_request i 0) seed)))) ≡ Ok x
       → first_new x ≡ news_of x (left_of p 256)
   join-new i seed v true b c w e = absurd (never-go e)
   join-new i seed v false true c w e = absurd (never-go e)
@@ -63,10 +64,10 @@ module _ (t : Table) (p : Pool) (x : Plan) (h : p.count ≤ 256) where
       (news-one (send_plan v (join_request i 0) seed) (left_of p 256) seed refl refl
       (none_left _ (no-join-waits (waiting p) (placed (join_request i 0) seed) i refl refl w)))
 
-  pub lookup-fresh : (i k : ℕ) → planned_of (asked t p (Lookup i k)) ≡ Go x → first_new x ≡ news_of x (left_of p 256)
+  pub lookup-fresh : (i k : ℕ) → planned_of (asked t p (Lookup i k)) ≡ Ok x → first_new x ≡ news_of x (left_of p 256)
   lookup-fresh i k e = lookup-new i k (node_at t i) (asked t p (Lookup i k)).repeated refl e
 
-  pub join-fresh : (i seed : ℕ) → planned_of (asked t p (Join i seed)) ≡ Go x → first_new x ≡ news_of x (left_of p 256)
+  pub join-fresh : (i seed : ℕ) → planned_of (asked t p (Join i seed)) ≡ Ok x → first_new x ≡ news_of x (left_of p 256)
   unfolding plan_join
   join-fresh i seed e =
       let v = node_at t i in
@@ -75,16 +76,22 @@ module _ (t : Table) (p : Pool) (x : Plan) (h : p.count ≤ 256) where
 
 -- ---- nothing is sent when probes have timed out
 
-time-out-quiet : (t : Table) (i j : ℕ) (x : Plan) → plan_probe_time_out i (node_at t i) j ≡ Go x → (ys : List Message) → mailed x ys ≡ ys
+time-out-quiet : (t : Table) (i j : ℕ) (x : Plan) → plan_probe_time_out i (node_at t i) j ≡ Ok x → (ys : List Message) → mailed x ys ≡ ys
 time-out-quiet t i j x e ys =
     go-comes (by-probe-time-out {Q = λ _. Unit {0}} {P = λ y. mailed y ys ≡ ys} i (node_at t i) j tt tt (λ _. mailed-quiet _ ys)) x e
 
 -- ---- what is said
 
+none-some : {j : ℕ} → ◌≡◌ {A = Option ℕ} None (Some j) → ⊥
+none-some e = cc
+
+same-some : {j k : ℕ} → ◌≡◌ {A = Option ℕ} (Some j) (Some k) → j ≡ k
+same-some e = cc
+
 module _ (m n count : ℕ) (a : Action) where
   pub requests-asks : (i : ℕ) (more : ℕ → ℕ → Bool) (fresh : Bool) (there : Pool → Bool) (plan : Table → Bool → Planned)
       → ((t : Table) (p : Pool) → asked t p a ≡ requests t i (more t.m t.n) (there p) (plan t))
-      → (fresh ≡ true → (t : Table) (p : Pool) (x : Plan) → p.count ≤ 256 → planned_of (asked t p a) ≡ Go x → first_new x ≡ news_of x (left_of p 256))
+      → (fresh ≡ true → (t : Table) (p : Pool) (x : Plan) → p.count ≤ 256 → planned_of (asked t p a) ≡ Ok x → first_new x ≡ news_of x (left_of p 256))
       → Asks m n count a (requests_of n i (more m n) fresh)
   requests-asks i more fresh there plan is new =
       record {
@@ -94,9 +101,9 @@ module _ (m n count : ℕ) (a : Action) where
         unasked = λ e. absurd (clash e);
         fresh = new;
         stays = λ e t p. rw (is t p);
-        times = λ e. absurd (clash (sym e));
-        partner-low = λ e. absurd (clash (sym e));
-        quiet = λ e. absurd (clash (sym e));
+        times = λ j e. absurd (none-some e);
+        partner-low = λ j e. absurd (none-some e);
+        quiet = λ j e. absurd (none-some e);
       }
 
   pub acts-asks : (i : ℕ) (more : ℕ → ℕ → Bool) (what : Table → Planned)
@@ -110,9 +117,9 @@ module _ (m n count : ℕ) (a : Action) where
         unasked = λ e t p. rw (is t p);
         fresh = λ e. absurd (clash (sym e));
         stays = λ e t p. rw (is t p);
-        times = λ e. absurd (clash (sym e));
-        partner-low = λ e. absurd (clash (sym e));
-        quiet = λ e. absurd (clash (sym e));
+        times = λ j e. absurd (none-some e);
+        partner-low = λ j e. absurd (none-some e);
+        quiet = λ j e. absurd (none-some e);
       }
 
   pub takes-asks : (place : ℕ) (plan : Table → Message → Planned) → ((t : Table) (p : Pool) → asked t p a ≡ takes p place (plan t))
@@ -125,9 +132,9 @@ module _ (m n count : ℕ) (a : Action) where
         unasked = λ e t p. rw (is t p);
         fresh = λ e. absurd (clash (sym e));
         stays = λ e t p. rw (is t p);
-        times = λ e. absurd (clash (sym e));
-        partner-low = λ e. absurd (clash (sym e));
-        quiet = λ e. absurd (clash (sym e));
+        times = λ j e. absurd (none-some e);
+        partner-low = λ j e. absurd (none-some e);
+        quiet = λ j e. absurd (none-some e);
       }
 
 pub times-asks : (m n count i j : ℕ) → Asks m n count (ProbeTimeOut i j) (times_of n i j)
@@ -138,8 +145,8 @@ times-asks m n count i j =
       slot = λ t p e. refl;
       unasked = λ e t p. refl;
       fresh = λ e. absurd (clash (sym e));
-      stays = λ e. absurd (clash e);
-      times = λ e t p. refl;
-      partner-low = λ e l. ltb-true j n (and_left (ltb j n) _ l);
-      quiet = λ e t p x. time-out-quiet t i j x;
+      stays = λ e. absurd (none-some (sym e));
+      times = λ k e t p. ap (probes-go i) (same-some e);
+      partner-low = λ k e l. rw (← same-some e) (ltb-true j n (and_left (ltb j n) _ l));
+      quiet = λ k e t p x. time-out-quiet t i j x;
     }

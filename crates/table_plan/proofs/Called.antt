@@ -1,6 +1,6 @@
 -- An action in range on a valid table: its slots are below 64, its key is below 2^32, and the message that is taken obeys its kind, with few hops.
 -- Assumes nothing.
-use mathlib.Core.Path.{◌≡◌}
+use mathlib.Core.Path.{◌≡◌, subst}
 use mathlib.Core.Bool.{true}
 use Prim.Native.Nat.{ℕ, ◌^◌, ◌<◌, ◌≤◌}
 use native.Mathlib.Nat.{lt_of_lt_of_le}
@@ -23,7 +23,7 @@ use Rattle.table_laws.proofs.By.{goes, slot-in-range}
 use Rattle.table_laws.proofs.Obeys.{obeys}
 use Rattle.table_laws.proofs.Hops.{within_low}
 use Rattle.table_laws.proofs.Sound.{Sound, sound}
-use Rattle.table_plan.specs.InnerAsked.{Called}
+use Rattle.table_plan.specs.InnerAsked.{Called, Read}
 
 module _ {t : Table} {p : Pool} {a : Action} (c : Called t p a) where
   pub is-sound : Sound t p
@@ -55,3 +55,17 @@ gone-obeys {t} {p} {a} {place} c g e =
     let f = s.message place there in
     let few = within_low (ring_of t) (ids_of t) (message_at p place) (s.hops place there) in
     rw (← e) ((obeys (ring_of t) _ f).dest-in, f, omega (arith, few, s.numbers.n-high))
+
+-- the same for the action that was matched
+pub called_as : {t : Table} {p : Pool} {a b : Action} → Called t p a → a ≡ b → Called t p b
+called_as {t} {p} c e = subst (Called t p) e c
+
+pub slot_as : {t : Table} {p : Pool} {a b : Action} → Called t p a → a ≡ b → (asked t p b).slot < 64
+slot_as c e = slot-low (called_as c e)
+
+pub read_as : {t : Table} {p : Pool} {a b : Action} {m : Message} → Read t p a m → a ≡ b → Read t p b m
+read_as {t} {p} {m = m} r e = subst (λ (b : Action). Read t p b m) e r
+
+pub handed : {t : Table} {p : Pool} {a b : Action} {m : Message} {place : ℕ} → Called t p a → Read t p a m → a ≡ b → (asked t p b).gone ≡ one-goes place
+    → (m.dest < t.n) × (message_fits (ring_of t) m ≡ true) × (m.hops ≤ 64)
+handed {place = place} c r e g = gone-obeys (called_as c e) g ((read_as r e).is place g)

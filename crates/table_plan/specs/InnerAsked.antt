@@ -1,9 +1,8 @@
 -- What the functions ask, and what `asked` says. Definitions only. Assumes nothing.
-use Rattle.std.specs.Prelude.{◌≡◌, Bool, true, false, cond, ◌&&◌, List, ℕ, ◌<◌, ◌≤◌, ltb}
+use Rattle.std.specs.Prelude.{◌≡◌, Bool, true, false, cond, ◌&&◌, List, Some, None, ℕ, ◌<◌, ◌≤◌, ltb, Ok}
 use Rattle.rules.specs.declared.Action.{Action}
 use Rattle.rules.specs.declared.Message.{Message}
 use Rattle.rules.specs.declared.Plan.{Plan}
-use Rattle.rules.specs.declared.Planned.TheVariants.{Go}
 use Rattle.rules.specs.declared.Pool.{Pool}
 use Rattle.rules.specs.Plans.{mailed}
 use Rattle.rules.specs.Pool.{message_at}
@@ -46,17 +45,17 @@ slot_with r m = cond (ltb r.gone 256) m.dest r.slot
 -- the four ways to ask
 abbrev pub requests_of : ℕ → ℕ → Bool → Bool → Asking
 requests_of n i more fresh =
-    record { range = more && ltb i n; gone = 256; slot = i; request = true; fresh = fresh; timed = false; partner = 0 }
+    record { range = more && ltb i n; gone = 256; slot = i; request = true; fresh = fresh; timed = None }
 
 abbrev pub acts_of : ℕ → ℕ → Bool → Asking
-acts_of n i more = record { range = more && ltb i n; gone = 256; slot = i; request = false; fresh = false; timed = false; partner = 0 }
+acts_of n i more = record { range = more && ltb i n; gone = 256; slot = i; request = false; fresh = false; timed = None }
 
 abbrev pub times_of : ℕ → ℕ → ℕ → Asking
-times_of n i j = record { range = ltb j n && ltb i n; gone = 256; slot = i; request = false; fresh = false; timed = true; partner = j }
+times_of n i j = record { range = ltb j n && ltb i n; gone = 256; slot = i; request = false; fresh = false; timed = Some j }
 
 abbrev pub takes_of : ℕ → ℕ → Asking
 takes_of count place =
-    record { range = ltb place count; gone = place; slot = 64; request = false; fresh = false; timed = false; partner = 0 }
+    record { range = ltb place count; gone = place; slot = 64; request = false; fresh = false; timed = None }
 
 -- what is told of a table with these numbers and so many messages. Where 3 is not asked, nothing is repeated; where what is sent is said to be new, and a
 -- plan is made, the first message of the plan is; where probes have timed out, those from the slot to the partner go, and nothing is sent
@@ -65,9 +64,9 @@ pub record Asks (m n count : ℕ) (a : Action) (r : Asking) : Type 0 where
   pub gone : (t : Table) (p : Pool) → r.gone ≡ gone_at (asked t p a).gone
   pub slot : (t : Table) (p : Pool) → is_one (asked t p a).gone ≡ false → r.slot ≡ (asked t p a).slot
   pub unasked : r.request ≡ false → (t : Table) (p : Pool) → false ≡ (asked t p a).repeated
-  pub fresh : r.fresh ≡ true → (t : Table) (p : Pool) (x : Plan) → p.count ≤ 256 → planned_of (asked t p a) ≡ Go x
+  pub fresh : r.fresh ≡ true → (t : Table) (p : Pool) (x : Plan) → p.count ≤ 256 → planned_of (asked t p a) ≡ Ok x
       → first_new x ≡ news_of x (left_of p r.gone)
-  pub stays : r.timed ≡ false → (t : Table) (p : Pool) → are_probes (asked t p a).gone ≡ false
-  pub times : r.timed ≡ true → (t : Table) (p : Pool) → (asked t p a).gone ≡ probes-go r.slot r.partner
-  pub partner-low : r.timed ≡ true → r.range ≡ true → r.partner < n
-  pub quiet : r.timed ≡ true → (t : Table) (p : Pool) (x : Plan) → planned_of (asked t p a) ≡ Go x → (ys : List Message) → mailed x ys ≡ ys
+  pub stays : r.timed ≡ None → (t : Table) (p : Pool) → are_probes (asked t p a).gone ≡ false
+  pub times : (j : ℕ) → r.timed ≡ Some j → (t : Table) (p : Pool) → (asked t p a).gone ≡ probes-go r.slot j
+  pub partner-low : (j : ℕ) → r.timed ≡ Some j → r.range ≡ true → j < n
+  pub quiet : (j : ℕ) → r.timed ≡ Some j → (t : Table) (p : Pool) (x : Plan) → planned_of (asked t p a) ≡ Ok x → (ys : List Message) → mailed x ys ≡ ys

@@ -2,25 +2,23 @@
 // and what is planned. The plans are those of the crates below, made of the table.
 #![tactic(auto)]
 
-ghost use Rattle.std.specs.Prelude.{◌≡◌, true, ◌^◌, ◌<◌, ◌≤◌};
+ghost use Rattle.std.specs.Prelude.{◌≡◌, true, ◌<◌, ◌≤◌};
 ghost use Rattle.rules.specs.declared.Pool.{Pool};
-ghost use Rattle.plan.specs.Actions.{plan_lookup, plan_join, plan_request_lease, plan_lease_expired, plan_grant_expired};
 ghost use Rattle.rules.specs.InnerAsks.{Listed};
 ghost use Rattle.rules.specs.Fits.{message_fits};
-ghost use Rattle.plan.specs.Leave.{plan_node_left, plan_suspect_faulty, plan_probe_time_out, plan_declare_dead, plan_ls_repair, plan_resign_node, plan_recover};
 ghost use Rattle.take.specs.Take.{plan_take};
 ghost use Rattle.table_type.specs.declared.Table.{Table};
-ghost use Rattle.table_type.specs.Table.{ids_of, node_at, ring_of};
+ghost use Rattle.table_type.specs.Table.{ids_of, ring_of};
 ghost use Rattle.step.specs.Step.{taken_of, delivered_of, forwarded_of, asked as asked_of};
 ghost use Rattle.table.specs.Settled.{some_up};
 ghost use Rattle.table_plan.specs.InnerAsked.{Called, Read, Asks, requests_of, acts_of, times_of, takes_of, slot_with};
 
-use rules::{Action, Message, Node, Planned, Pool, Refusal, Ring};
-use table_type::Table;
+use rules::{Action, Message, Node, Plan, Pool, Refusal, Roster};
+use table_type::{Table, node_at, roster};
 
 // What an action asks, but for its plan: its slots, place and key are in range; the place whose message goes, past every count where none
-// does; the slot whose node acts, where none goes; whether 3 is asked; whether what is sent is new unless the same request waits; and whether probes have
-// timed out, and of whom.
+// does; the slot whose node acts, where none goes; whether 3 is asked; whether what is sent is new unless the same request waits; and of whom probes have
+// timed out, if they have. `range` stays a flag: what the other fields say holds out of range too, and the laws of Asks speak of them there.
 #[derive(Clone, Copy)]
 pub struct Asking {
     pub range: bool,
@@ -28,158 +26,53 @@ pub struct Asking {
     pub slot: usize,
     pub request: bool,
     pub fresh: bool,
-    pub timed: bool,
-    pub partner: usize,
+    pub timed: Option<usize>,
 }
 
-// What message m asks of its destination i, by its kind.
-fn plan_take(g: Ring, ids: &[u32; 64], dead: u64, i: usize, v: Node, m: Message) -> Planned
-    requires { Listed g ids.now × (i < g.n) × (message_fits g m ≡ true) }
-    ensures { result ≡ plan_take m.kind g ids.now dead i v m }
+// What message m asks of its destination i, by its kind, which is 01's number.
+fn plan_take(r: &Roster, dead: u64, i: usize, v: Node, m: Message) -> Result<Plan, Refusal>
+    requires { (i < r.now.ring.n) × (message_fits r.now.ring m ≡ true) }
+    ensures { result ≡ plan_take m.kind r.now.ring r.now.ids dead i v m }
 {
-    let kind = m.kind;
-    match kind {
-        2 => plan_route::plan_take_join_request(g, ids, dead, i, v, m.word, m.routing),
-        3 => plan_probe::plan_take_join_reply(g, ids, i, v, m),
-        4 => plan_probe::plan_take_probe(g, ids, i, v, m),
-        5 => plan_probe::plan_take_probe_reply(g, ids, i, v, m),
-        7 => plan_lease::plan_take_lease_request(g, ids, i, v, m.word as usize),
-        8 => plan_lease::plan_take_broadcast(g, ids, i, v, m),
-        _ => Planned::No(Refusal::Partner),
+    match m.kind {
+        2 => plan_route::plan_take_join_request(r, dead, i, v, m.word, m.routing),
+        3 => plan_probe::plan_take_join_reply(r, i, v, m),
+        4 => plan_probe::plan_take_probe(r, i, v, m),
+        5 => plan_probe::plan_take_probe_reply(r, i, v, m),
+        7 => plan_lease::plan_take_lease_request(r, i, v, m.word as usize),
+        8 => plan_lease::plan_take_broadcast(r, i, v, m),
+        _ => Err(Refusal::Partner),
     }
 }
 
-fn plan_of_take(t: Table, m: Message) -> Planned
+fn plan_of_take(t: Table, m: Message) -> Result<Plan, Refusal>
     requires { Listed (ring_of t) (ids_of t) × (m.dest < t.n) × (message_fits (ring_of t) m ≡ true) }
     ensures { result ≡ taken_of t m }
 {
-    let i = m.dest as usize;
-    let v = table_type::node_at(t, i);
-    let ids = table_type::ids(t);
+    let r = roster(t);
     let dead = table_settled::dead_set(t);
-    plan_take(table_type::ring_of(t), &ids, dead, i, v, m)
+    let i = m.dest as usize;
+    plan_take(&r, dead, i, node_at(t, i), m)
 }
 
-fn plan_of_deliver(t: Table, m: Message) -> Planned
+fn plan_of_deliver(t: Table, m: Message) -> Result<Plan, Refusal>
     requires { Listed (ring_of t) (ids_of t) × (m.dest < t.n) × (message_fits (ring_of t) m ≡ true) }
     ensures { result ≡ delivered_of t m }
 {
+    let r = roster(t);
     let i = m.dest as usize;
-    let v = table_type::node_at(t, i);
-    let ids = table_type::ids(t);
-    plan_route::plan_deliver(m.kind, table_type::ring_of(t), &ids, i, v, m.word)
+    plan_route::plan_deliver(m.kind, &r, i, node_at(t, i), m.word)
 }
 
-fn plan_of_forward(t: Table, m: Message) -> Planned
+fn plan_of_forward(t: Table, m: Message) -> Result<Plan, Refusal>
     requires { Listed (ring_of t) (ids_of t) × (m.dest < t.n) × (message_fits (ring_of t) m ≡ true) × (m.hops ≤ 64) }
     ensures { result ≡ forwarded_of t m }
 {
-    let i = m.dest as usize;
-    let v = table_type::node_at(t, i);
-    let ids = table_type::ids(t);
+    let r = roster(t);
     let dead = table_settled::dead_set(t);
-    plan_route::plan_forward(
-        m.kind,
-        table_type::ring_of(t),
-        &ids,
-        dead,
-        i,
-        v,
-        m.word,
-        m.hops,
-    )
-}
-
-fn plan_of_lookup(t: Table, there: bool, i: usize, k: u64) -> Planned
-    requires { (i < 64) × (k < 2 ^ 32) }
-    ensures { result ≡ plan_lookup there i k (node_at t i) }
-{
-    let v = table_type::node_at(t, i);
-    plan_route::plan_lookup(there, i, k as u32, v)
-}
-
-fn plan_of_join(t: Table, there: bool, i: usize, seed: usize) -> Planned
-    requires { (i < 64) × (seed < 64) }
-    ensures { result ≡ plan_join there i (node_at t i) seed (node_at t seed) }
-{
-    let v = table_type::node_at(t, i);
-    let u = table_type::node_at(t, seed);
-    plan_route::plan_join(there, i as u32, v, seed, u)
-}
-
-fn plan_of_request(t: Table, i: usize) -> Planned
-    requires { Listed (ring_of t) (ids_of t) × (i < 64) }
-    ensures { result ≡ plan_request_lease (ring_of t) (ids_of t) i (node_at t i) }
-{
-    let v = table_type::node_at(t, i);
-    let ids = table_type::ids(t);
-    plan_lease::plan_request_lease(table_type::ring_of(t), &ids, i, v)
-}
-
-fn plan_of_lease(t: Table, i: usize, j: usize) -> Planned
-    requires { Listed (ring_of t) (ids_of t) × (i < 64) }
-    ensures { result ≡ plan_lease_expired (ring_of t) (ids_of t) i (node_at t i) j }
-{
-    let v = table_type::node_at(t, i);
-    let ids = table_type::ids(t);
-    plan_lease::plan_lease_expired(table_type::ring_of(t), &ids, i, v, j)
-}
-
-fn plan_of_grant(t: Table, i: usize, j: usize) -> Planned
-    requires { (i < 64) × (j < 64) }
-    ensures { result ≡ plan_grant_expired i (node_at t i) j (node_at t j) }
-{
-    let v = table_type::node_at(t, i);
-    let u = table_type::node_at(t, j);
-    plan_lease::plan_grant_expired(i, v, j, u)
-}
-
-fn plan_of_leaving(t: Table, i: usize) -> Planned
-    requires { i < 64 }
-    ensures { result ≡ plan_node_left (node_at t i) }
-{
-    plan_leave::plan_node_left(table_type::node_at(t, i))
-}
-
-fn plan_of_suspicion(t: Table, i: usize, j: usize) -> Planned
-    requires { i < 64 }
-    ensures { result ≡ plan_suspect_faulty i (node_at t i) j }
-{
-    plan_leave::plan_suspect_faulty(i, table_type::node_at(t, i), j)
-}
-
-fn plan_of_time_out(t: Table, i: usize, j: usize) -> Planned
-    requires { i < 64 }
-    ensures { result ≡ plan_probe_time_out i (node_at t i) j }
-{
-    plan_leave::plan_probe_time_out(i, table_type::node_at(t, i), j)
-}
-
-fn plan_of_declaring(t: Table, i: usize, j: usize) -> Planned
-    requires { Listed (ring_of t) (ids_of t) × (i < 64) }
-    ensures { result ≡ plan_declare_dead (ring_of t) (ids_of t) i (node_at t i) j }
-{
-    let v = table_type::node_at(t, i);
-    let ids = table_type::ids(t);
-    plan_leave::plan_declare_dead(table_type::ring_of(t), &ids, i, v, j)
-}
-
-fn plan_of_repair(t: Table, i: usize) -> Planned
-    requires { Listed (ring_of t) (ids_of t) × (i < 64) }
-    ensures { result ≡ plan_ls_repair (ring_of t) (ids_of t) i (node_at t i) }
-{
-    let v = table_type::node_at(t, i);
-    let ids = table_type::ids(t);
-    plan_leave::plan_ls_repair(table_type::ring_of(t), &ids, i, v)
-}
-
-fn plan_of_resigning(t: Table, there: bool, i: usize, k: usize) -> Planned
-    requires { (i < 64) × (k < 64) }
-    ensures { result ≡ plan_resign_node there i (node_at t i) k (node_at t k) }
-{
-    let v = table_type::node_at(t, i);
-    let u = table_type::node_at(t, k);
-    plan_leave::plan_resign_node(there, i, v, k, u)
+    let i = m.dest as usize;
+    let v = node_at(t, i);
+    plan_route::plan_forward(m.kind, &r, dead, i, v, m.word, m.hops)
 }
 
 // Is some node ok or ready?
@@ -190,15 +83,15 @@ fn some_up(t: Table) -> bool
     (table_parts::slots_with(t, 2) != 0) | (table_parts::slots_with(t, 3) != 0)
 }
 
-fn plan_of_recovery(t: Table, i: usize) -> Planned
-    requires { Listed (ring_of t) (ids_of t) × (i < 64) }
-    ensures { result ≡ plan_recover (some_up t) (ring_of t) (ids_of t) i (node_at t i) }
-{
-    let up = some_up(t);
-    let v = table_type::node_at(t, i);
-    let ids = table_type::ids(t);
-    plan_leave::plan_recover(up, table_type::ring_of(t), &ids, i, v)
-}
+// No message goes, no node is named, nothing is asked or sent, and no probes have timed out.
+const NOTHING: Asking = Asking {
+    range: false,
+    gone: 256,
+    slot: 64,
+    request: false,
+    fresh: false,
+    timed: None,
+};
 
 // The four ways to ask: of the node of slot i, where 3 is asked; of the same, where it is not; of the same, whose probes of j have timed out; of the
 // destination of a waiting message.
@@ -206,13 +99,9 @@ fn requests(n: usize, i: usize, more: bool, fresh: bool) -> Asking
     ensures { result ≡ requests_of n i more fresh }
 {
     Asking {
-        range: more & (i < n),
-        gone: 256,
-        slot: i,
         request: true,
         fresh,
-        timed: false,
-        partner: 0,
+        ..acts(n, i, more)
     }
 }
 
@@ -221,12 +110,8 @@ fn acts(n: usize, i: usize, more: bool) -> Asking
 {
     Asking {
         range: more & (i < n),
-        gone: 256,
         slot: i,
-        request: false,
-        fresh: false,
-        timed: false,
-        partner: 0,
+        ..NOTHING
     }
 }
 
@@ -234,13 +119,8 @@ fn times(n: usize, i: usize, j: usize) -> Asking
     ensures { result ≡ times_of n i j }
 {
     Asking {
-        range: (j < n) & (i < n),
-        gone: 256,
-        slot: i,
-        request: false,
-        fresh: false,
-        timed: true,
-        partner: j,
+        timed: Some(j),
+        ..acts(n, i, j < n)
     }
 }
 
@@ -250,11 +130,7 @@ fn takes(count: usize, place: usize) -> Asking
     Asking {
         range: place < count,
         gone: place,
-        slot: 64,
-        request: false,
-        fresh: false,
-        timed: false,
-        partner: 0,
+        ..NOTHING
     }
 }
 
@@ -312,25 +188,47 @@ pub fn repeated(p: Pool, a: Action) -> bool
 }
 
 // What is planned, where m is the message that goes, if one does, and `there` says whether the same request waits.
-pub fn planned(t: Table, there: bool, m: Message, a: Action) -> Planned
+pub fn planned(t: Table, there: bool, m: Message, a: Action) -> Result<Plan, Refusal>
     requires { (p : Pool) × Called t p a × Read t p a m }
     ensures { (p : Pool) → Read t p a m → result ≡ (asked_of t p a).plan there }
 {
     match a {
-        Action::Lookup(i, k) => plan_of_lookup(t, there, i, k),
-        Action::Join(i, seed) => plan_of_join(t, there, i, seed),
-        Action::RequestLease(i) => plan_of_request(t, i),
-        Action::LeaseExpired(i, j) => plan_of_lease(t, i, j),
-        Action::GrantExpired(i, j) => plan_of_grant(t, i, j),
+        Action::Lookup(i, k) => plan_route::plan_lookup(there, i, k as u32, node_at(t, i)),
+        Action::Join(i, seed) => plan_route::plan_join(
+            there,
+            i as u32,
+            node_at(t, i),
+            seed,
+            node_at(t, seed),
+        ),
+        Action::RequestLease(i) => plan_lease::plan_request_lease(&roster(t), i, node_at(t, i)),
+        Action::LeaseExpired(i, j) => plan_lease::plan_lease_expired(
+            &roster(t),
+            i,
+            node_at(t, i),
+            j,
+        ),
+        Action::GrantExpired(i, j) => plan_lease::plan_grant_expired(
+            i,
+            node_at(t, i),
+            j,
+            node_at(t, j),
+        ),
         Action::Take(_) => plan_of_take(t, m),
         Action::Deliver(_) => plan_of_deliver(t, m),
         Action::Forward(_) => plan_of_forward(t, m),
-        Action::NodeLeft(i) => plan_of_leaving(t, i),
-        Action::SuspectFaulty(i, j) => plan_of_suspicion(t, i, j),
-        Action::ProbeTimeOut(i, j) => plan_of_time_out(t, i, j),
-        Action::DeclareDead(i, j) => plan_of_declaring(t, i, j),
-        Action::LSRepair(i) => plan_of_repair(t, i),
-        Action::ResignNode(i, k) => plan_of_resigning(t, there, i, k),
-        Action::Recover(i) => plan_of_recovery(t, i),
+        Action::NodeLeft(i) => plan_leave::plan_node_left(node_at(t, i)),
+        Action::SuspectFaulty(i, j) => plan_leave::plan_suspect_faulty(i, node_at(t, i), j),
+        Action::ProbeTimeOut(i, j) => plan_leave::plan_probe_time_out(i, node_at(t, i), j),
+        Action::DeclareDead(i, j) => plan_leave::plan_declare_dead(&roster(t), i, node_at(t, i), j),
+        Action::LSRepair(i) => plan_leave::plan_ls_repair(&roster(t), i, node_at(t, i)),
+        Action::ResignNode(i, k) => plan_leave::plan_resign_node(
+            there,
+            i,
+            node_at(t, i),
+            k,
+            node_at(t, k),
+        ),
+        Action::Recover(i) => plan_leave::plan_recover(some_up(t), &roster(t), i, node_at(t, i)),
     }
 }

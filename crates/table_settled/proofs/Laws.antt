@@ -1,7 +1,7 @@
 -- The two tests of is_settled that ask something of every slot are one (calm), which a turn decides by the node's status; and the sets of slots
 -- by the number of their status are those of the dead and of the ready. Assumes nothing.
 use mathlib.Core.Path.{◌≡◌, refl, ◌∙◌, ap}
-use mathlib.Core.Bool.{Bool, true, false, ◌&&◌, ◌||◌, not, or-true, or-false, and-true}
+use mathlib.Core.Bool.{Bool, true, false, ◌&&◌, ◌||◌, not}
 use Prim.Native.Nat.{ℕ, ◌<◌}
 use borrow.Author.Tests.{eq-eqb, ne_eqb}
 use lib.Dec.{eqb}
@@ -21,11 +21,17 @@ use Rattle.table_parts.specs.InnerSlots.{slots_with}
 abbrev pub calm : Bool → Bool → Bool → Bool
 calm dead ready fine = (dead || ready) && (not ready || fine)
 
-pub calm-ready : (dead ready fine : Bool) → ready ≡ true → calm dead ready fine ≡ fine
-calm-ready dead ready fine p = rw (p, or-true)
+pub calm-ready : (st : Status) (fine : Bool) → st ≡ Ready → calm (is_dead st) (is_ready st) fine ≡ fine
+calm-ready st fine e = rw e refl
 
-pub calm-other : (dead ready fine : Bool) → ready ≡ false → calm dead ready fine ≡ dead
-calm-other dead ready fine p = rw (p, or-false, and-true)
+pub calm-dead : (st : Status) (fine : Bool) → st ≡ Dead → calm (is_dead st) (is_ready st) fine ≡ true
+calm-dead st fine e = rw e refl
+
+pub calm-other : (st : Status) (fine : Bool) → (st ≡ Ready → ⊥) → (st ≡ Dead → ⊥) → calm (is_dead st) (is_ready st) fine ≡ false
+calm-other Dead fine r d = absurd (d refl)
+calm-other Wait fine r d = refl
+calm-other Ok fine r d = refl
+calm-other Ready fine r d = absurd (r refl)
 
 all_both : (n : ℕ) (f h : ℕ → Bool) → (all_to n f && all_to n h) ≡ all_to n (λ i. f i && h i)
 all_both n f h =

@@ -6,7 +6,7 @@ ghost use Rattle.rules.specs.InnerAsks.{Listed};
 ghost use Rattle.table_type.specs.Table.{ring_of, ids_of};
 ghost use Rattle.table.specs.Settled.{ready_set, dead_set, settled_at, is_settled};
 
-use rules::{Node, Ring, Way};
+use rules::{Node, Roster, Status, Way};
 use table_type::Table;
 
 // The ready nodes.
@@ -26,14 +26,14 @@ pub fn dead_set(t: Table) -> u64
 }
 
 // Are both neighbours of the ready node i the next ready ids, and is no ready node in its failed?
-fn settled_at(g: Ring, ids: &[u32; 64], ready: u64, i: usize, v: Node) -> bool
-    requires { Listed g ids.now × (i < 64) }
-    ensures { result ≡ settled_at g ids.now ready i v }
+#[tactic(auto, unfolding(table::specs::Settled::settled_at))]
+fn settled_at(r: &Roster, ready: u64, i: usize, v: Node) -> bool
+    requires { i < 64 }
+    ensures { result ≡ settled_at r.now.ring r.now.ids ready i v }
 {
     let others = marks::removed(ready, i);
-    let above = leaf::seen(Way::Up, g, ids, i, v.left) == leaf::seen(Way::Up, g, ids, i, others);
-    let below = leaf::seen(Way::Down, g, ids, i, v.right)
-        == leaf::seen(Way::Down, g, ids, i, others);
+    let above = leaf::seen(Way::Up, r, i, v.left) == leaf::seen(Way::Up, r, i, others);
+    let below = leaf::seen(Way::Down, r, i, v.right) == leaf::seen(Way::Down, r, i, others);
     above & (below & (marks::both(v.failed, ready) == 0))
 }
 
@@ -46,23 +46,17 @@ pub fn is_settled_table(t: Table) -> bool
     if ready == 0 {
         return false;
     }
-    let g = table_type::ring_of(t);
-    let ids = table_type::ids(t);
-    let n = t.n;
-    let mut i: usize = 0;
-    while i < n {
+    let r = table_type::roster(t);
+    for i in 0..t.n {
         let v = t.nodes[i];
-        let st = v.status;
-        if parts::is_ready(st) {
-            if !settled_at(g, &ids, ready, i, v) {
-                return false;
-            }
-        } else {
-            if !parts::is_dead(st) {
-                return false;
-            }
+        let calm = match v.status {
+            Status::Ready => settled_at(&r, ready, i, v),
+            Status::Dead => true,
+            _ => false,
+        };
+        if !calm {
+            return false;
         }
-        i += 1;
     }
     true
 }

@@ -4,19 +4,19 @@ use mathlib.Core.Bool.{false}
 use Prim.Native.Nat.{ℕ, ◌<◌, ◌≤◌}
 use native.Mathlib.Decide.{dec_lt}
 use native.Mathlib.Omega.{arith}
-use borrow.Author.Tests.{lt-ltb, le-ltb}
+use Rattle.std.proofs.Common.{min}
+use Rattle.std.proofs.Math.Nat.{le-min, min-eq_left}
 use Rattle.marks.proofs.Bools.{bool_false}
 use Rattle.rules.specs.declared.Pool.{Pool}
 use Rattle.table_type.specs.declared.Table.{Table}
 use Rattle.table.specs.Valid.{valid_of}
 use Rattle.table_laws.proofs.Sound.{sound}
-use Rattle.table_step.specs.InnerLowered.{at_most}
 
 abbrev pub lowered_table : Table → Table
-lowered_table t = record { m = t.m; l = t.l; n = at_most t.n 65; nodes = t.nodes }
+lowered_table t = record { m = t.m; l = t.l; n = min t.n 65; nodes = t.nodes }
 
 abbrev pub lowered_pool : Pool → Pool
-lowered_pool p = record { count = at_most p.count 257; places = p.places }
+lowered_pool p = record { count = min p.count 257; places = p.places }
 
 module _ (t : Table) (p : Pool) where
   large-table : 65 ≤ t.n → valid_of t p ≡ false
@@ -25,14 +25,17 @@ module _ (t : Table) (p : Pool) where
   large-pool : 257 ≤ p.count → valid_of t p ≡ false
   large-pool h = bool_false (valid_of t p) (λ e. let k = (sound t p e).counted in omega arith)
 
-still-large : (n most : ℕ) → most ≤ n → most ≤ at_most n most
-still-large n most h = rw (le-ltb n most h) (omega arith)
+still-large : (n most : ℕ) → most ≤ n → most ≤ min n most
+still-large n most h = le-min h (omega arith)
 
 pub lowered-valid : (t : Table) (p : Pool) → valid_of (lowered_table t) (lowered_pool p) ≡ valid_of t p
 lowered-valid t p = go (dec_lt t.n 65) (dec_lt p.count 257)
   where
     go : Dec (t.n < 65) → Dec (p.count < 257) → valid_of (lowered_table t) (lowered_pool p) ≡ valid_of t p
-    go (yes h) (yes k) = rw (lt-ltb t.n 65 h, lt-ltb p.count 257 k)
+    go (yes h) (yes k) =
+        let x : min t.n 65 ≡ t.n = min-eq_left (omega arith) in
+        let y : min p.count 257 ≡ p.count = min-eq_left (omega arith) in
+        rw (x, y)
     go (no h) k =
         let l : 65 ≤ t.n = omega arith in
         large-table (lowered_table t) (lowered_pool p) (still-large t.n 65 l) ∙ sym (large-table t p l)

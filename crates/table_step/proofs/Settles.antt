@@ -1,5 +1,8 @@
 -- What the step comes to in each case, in terms of what the code has told by then (Asks): it is refused and changes nothing, or its plan is
 -- carried out on the messages that are left. Assumes nothing.
+use Rattle.rules.specs.Shapes.{Planned}
+use Rattle.marks.specs.Marks.{Found}
+use Rattle.std.specs.Prelude.{Some, None, Ok, Err}
 use mathlib.Core.Path.{◌≡◌, refl, sym, ◌∙◌, ap}
 use mathlib.Core.Bool.{Bool, true, false, not, ◌&&◌}
 use mathlib.Core.List.{List}
@@ -9,14 +12,11 @@ use native.Mathlib.Omega.{arith}
 use lib.Dec.{eqb}
 use borrow.Author.Tests.{not-false, ltb-true, lt-ltb, le-leb}
 use lib.ListN.{length}
+use Rattle.std.proofs.Common.{Some, None}
 use Rattle.marks.proofs.Bools.{clash, and_cases}
-use Rattle.marks.specs.declared.Found.{Found}
-use Rattle.marks.specs.declared.Found.TheVariants.{At, Nothing}
 use Rattle.rules.specs.declared.Action.{Action}
 use Rattle.rules.specs.declared.Message.{Message}
 use Rattle.rules.specs.declared.Plan.{Plan}
-use Rattle.rules.specs.declared.Planned.{Planned}
-use Rattle.rules.specs.declared.Planned.TheVariants.{No, Go}
 use Rattle.rules.specs.declared.Pool.{Pool}
 use Rattle.rules.specs.declared.Refusal.{Refusal}
 use Rattle.rules.specs.declared.Refusal.TheVariants as no
@@ -64,12 +64,12 @@ module _ (t : Table) (p : Pool) (len : ℕ) (a : Action) where
 
 module _ {t : Table} {p : Pool} {a : Action} (c : Called t p a) where
   -- the first message of a plan goes to one of the 64 slots, if to any
-  pub plan-slotted : (x : Plan) → planned_of (asked t p a) ≡ Go x → slotted x.to ≡ true
+  pub plan-slotted : (x : Plan) → planned_of (asked t p a) ≡ Ok x → slotted x.to ≡ true
   plan-slotted x e = go x.to refl
     where
       go : (f : Found) → x.to ≡ f → slotted f ≡ true
-      go Nothing q = refl
-      go (At h) q =
+      go None q = refl
+      go (Some h) q =
           let fine = go-comes (planned-fine (is-sound c) a c.range) x e in
           let there = (obeys _ _ (fine.mail.one h q)).dest-in in
           lt-ltb h 64 (omega (arith, there, (is-sound c).numbers.n-high))
@@ -107,7 +107,7 @@ module _ {t : Table} {p : Pool} {a : Action} (c : Called t p a) where
     acts-low = rw slot_is (slot-low c)
 
     -- what waits when additions begin, where no probes have timed out
-    left_is : r.timed ≡ false → left_of p r.gone ≡ remaining p (asked t p a).gone
+    left_is : r.timed ≡ None → left_of p r.gone ≡ remaining p (asked t p a).gone
     left_is b = ap (left_of p) (k.gone t p) ∙ go (asked t p a).gone (k.stays b t p)
       where
         go : (f : Gone) → are_probes f ≡ false → left_of p (gone_at f) ≡ remaining p f
@@ -116,34 +116,34 @@ module _ {t : Table} {p : Pool} {a : Action} (c : Called t p a) where
         go (probes-go i j) e = absurd (clash e)
 
     -- where they have, the slot and the partner are told
-    module _ (b : r.timed ≡ true) where
+    module _ (j : ℕ) (b : r.timed ≡ Some j) where
       slot-told : r.slot ≡ (asked t p a).slot
-      slot-told = k.slot t p (ap is_one (k.times b t p))
+      slot-told = k.slot t p (ap is_one (k.times j b t p))
 
       pub timed-slot : r.slot < 64
       timed-slot = rw slot-told (slot-low c)
 
-      pub timed-partner : r.partner < 64
+      pub timed-partner : j < 64
       timed-partner =
-          omega (arith, k.partner-low b (k.range t p refl refl refl ∙ c.range), (is-sound c).numbers.n-high)
+          omega (arith, k.partner-low j b (k.range t p refl refl refl ∙ c.range), (is-sound c).numbers.n-high)
 
     module _ (len : ℕ) (s : is_sound t p len ≡ true) where
       steps : settle t p (remaining p (asked t p a).gone) (asked t p a).slot (planned_of (asked t p a)) ≡ step_of t p len a
       unfolding step_of
       steps = rw (s, c.range)
 
-      settles : r.timed ≡ false → settle t p (left_of p r.gone) (slot_with r read_of) (planned_of (asked t p a)) ≡ step_of t p len a
+      settles : r.timed ≡ None → settle t p (left_of p r.gone) (slot_with r read_of) (planned_of (asked t p a)) ≡ step_of t p len a
       settles b = rw (left_is b, slot_is) steps
 
       module _ (what : Planned) (w : what ≡ planned_of (asked t p a)) where
-        pub refuses : (why : Refusal) → what ≡ No why → refused_of t p (why_of what) ≡ step_of t p len a
+        pub refuses : (why : Refusal) → what ≡ Err why → refused_of t p (why_of what) ≡ step_of t p len a
         unfolding settle
         refuses why e =
             ap (λ (x : Planned). refused_of t p (why_of x)) e
             ∙ ap (settle t p (remaining p (asked t p a).gone) (asked t p a).slot) (sym e ∙ w)
             ∙ steps
 
-        pub carries : r.timed ≡ false → (x : Plan) (i : ℕ) → what ≡ Go x → i ≡ slot_with r read_of
+        pub carries : r.timed ≡ None → (x : Plan) (i : ℕ) → what ≡ Ok x → i ≡ slot_with r read_of
             → carried_out t p (left_of p r.gone) i x ≡ step_of t p len a
         unfolding settle
         carries b x i e f = rw f (ap (settle t p (left_of p r.gone) (slot_with r read_of)) (sym e ∙ w) ∙ settles b)
@@ -154,20 +154,20 @@ module _ {t : Table} {p : Pool} {a : Action} (c : Called t p a) where
         unfolding carried_out
         left-room ys x i q l = rw (q, le-leb (length ys) 256 l)
 
-        pub times-out : r.timed ≡ true → (x : Plan) → what ≡ Go x
-            → done_by x.via (with_node t r.slot x.node) (laid (without_probes (waiting p) r.slot r.partner)) ≡ step_of t p len a
+        pub times-out : (j : ℕ) → r.timed ≡ Some j → (x : Plan) → what ≡ Ok x
+            → done_by x.via (with_node t r.slot x.node) (laid (without_probes (waiting p) r.slot j)) ≡ step_of t p len a
         unfolding settle
-        times-out b x e =
-            let ys = without_probes (waiting p) r.slot r.partner in
-            left-room ys x r.slot (k.quiet b t p x (sym w ∙ e) ys)
-            (omega (arith, left-short r.slot r.partner (waiting p), waiting-short p, counted c))
-            ∙ ap (λ (f : Gone). carried_out t p (remaining p f) r.slot x) (sym (k.times b t p))
-            ∙ ap (λ (i : ℕ). carried_out t p (remaining p (asked t p a).gone) i x) (slot-told b)
+        times-out j b x e =
+            let ys = without_probes (waiting p) r.slot j in
+            left-room ys x r.slot (k.quiet j b t p x (sym w ∙ e) ys)
+            (omega (arith, left-short r.slot j (waiting p), waiting-short p, counted c))
+            ∙ ap (λ (f : Gone). carried_out t p (remaining p f) r.slot x) (sym (k.times j b t p))
+            ∙ ap (λ (i : ℕ). carried_out t p (remaining p (asked t p a).gone) i x) (slot-told j b)
             ∙ ap (settle t p (remaining p (asked t p a).gone) (asked t p a).slot) (sym e ∙ w)
             ∙ steps
 
         -- what is new is told without looking, where nothing is sent, or a request's message
-        pub first-told : (x : Plan) (sends : Bool) → what ≡ Go x → sends ≡ sends_of x → (sends && not r.fresh) ≡ false
+        pub first-told : (x : Plan) (sends : Bool) → what ≡ Ok x → sends ≡ sends_of x → (sends && not r.fresh) ≡ false
             → first_new x ≡ news_of x (left_of p r.gone)
         first-told x sends e f n = go (and_cases sends (not r.fresh) n)
           where

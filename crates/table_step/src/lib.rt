@@ -3,17 +3,9 @@
 
 ghost use Rattle.std.specs.Prelude.{◌≡◌};
 ghost use Rattle.step.specs.Step.{step_of};
-ghost use Rattle.table_step.specs.InnerLowered.{at_most};
 
-use marks::Found;
-use rules::{Action, Answer, Planned, Pool, Refusal};
+use rules::{Action, Pool, Refusal};
 use table_type::{Stepped, Table};
-
-fn at_most(n: usize, most: usize) -> usize
-    ensures { result ≡ at_most n most }
-{
-    if n < most { n } else { most }
-}
 
 // One step: 10 for a list without 256 places or an invalid table, then 1 for arguments out of range, then what the action says. A refusal changes nothing.
 // One function, since it works on one copy of the table and one of the pool: every function that takes them, and looks at a place by its number, has
@@ -26,17 +18,17 @@ pub fn step(t: Table, p: Pool, len: usize, a: Action) -> Stepped
 {
     let mut u = t;
     let mut q = p;
-    u.n = at_most(t.n, 65);
-    q.count = at_most(p.count, 257);
+    u.n = t.n.min(65);
+    q.count = p.count.min(257);
     let valid = table_valid::is_valid(u, q);
     u.n = t.n;
     q.count = p.count;
     if !((len == 256) & valid) {
-        return table_parts::answered(u, q, Answer::Refused(Refusal::Invalid));
+        return table_parts::answered(u, q, Err(Refusal::Invalid));
     }
     let asks = table_plan::asked(u.m, u.n, q.count, a);
     if !asks.range {
-        return table_parts::answered(u, q, Answer::Refused(Refusal::OutOfRange));
+        return table_parts::answered(u, q, Err(Refusal::OutOfRange));
     }
     let gone = asks.gone;
     let m = q.places[gone % 256];
@@ -46,24 +38,23 @@ pub fn step(t: Table, p: Pool, len: usize, a: Action) -> Stepped
         there = table_plan::repeated(q, a);
     }
     let what = table_plan::planned(u, there, m, a);
-    let Planned::Go(plan) = what else {
-        return table_parts::answered(u, q, Answer::Refused(table_parts::why_of(what)));
+    let Ok(plan) = what else {
+        return table_parts::answered(u, q, Err(table_parts::why_of(what)));
     };
-    if asks.timed {
+    if let Some(j) = asks.timed {
         let k = asks.slot;
-        let j = asks.partner;
         let w = plan.node;
         u.nodes[k] = w;
         let by = plan.via;
         let left = pool::without_probes(q, k as u32, j as u32);
-        return table_parts::answered_by(by, u, left, Answer::Done);
+        return table_parts::answered_by(by, u, left, Ok(()));
     }
     let mut new = pool::first_new(plan);
     if pool::sends(plan) & !asks.fresh {
         new = pool::news(q, gone, plan);
     }
     if !pool::room(q.count, gone, new) {
-        return table_parts::answered(u, q, Answer::Refused(Refusal::Full));
+        return table_parts::answered(u, q, Err(Refusal::Full));
     }
     let i = table_plan::slot_of(asks, m);
     let v = plan.node;
@@ -72,31 +63,22 @@ pub fn step(t: Table, p: Pool, len: usize, a: Action) -> Stepped
     let one = new.one;
     let mut rest = new.all;
     let mut n = pool::left_count(q.count, gone);
-    let mut at = gone;
-    'gap: while at < n {
-        let x = q.places[at + 1];
-        q.places[at] = x;
-        at += 1;
+    for at in gone..n {
+        q.places[at] = q.places[at + 1];
     }
-    if let Found::At(s) = one {
+    if let Some(s) = one {
         q.places[n] = parts::to_slot(plan.first, s as u32);
         n += 1;
     }
-    'slots: loop {
-        let next = marks::lowest(rest);
-        let Found::At(s) = next else {
-            break 'slots;
-        };
+    while let Some(s) = marks::lowest(rest) {
         q.places[n] = parts::to_slot(plan.each, s as u32);
         n += 1;
         rest = marks::removed(rest, s);
     }
     q.count = n;
-    at = n;
-    'blanks: while at < 256 {
+    for at in n..256 {
         q.places[at] = none;
-        at += 1;
     }
     let via = plan.via;
-    table_parts::answered_by(via, u, q, Answer::Done)
+    table_parts::answered_by(via, u, q, Ok(()))
 }

@@ -1,5 +1,6 @@
 -- Laws of the start: what stands in its slots, what its two tests tell, that ids that pass them are listed, and its three answers.
 -- Assumes nothing.
+use Rattle.std.specs.Prelude.{Ok}
 use mathlib.Core.Path.{◌≡◌, refl, ◌∙◌}
 use mathlib.Core.Logic.{◌⊎◌, inl, inr, ⊎_elim}
 use mathlib.Core.List.{List, [], ◌∷◌, ◌++◌}
@@ -21,7 +22,6 @@ use Rattle.rules.specs.InnerAsks.{Listed}
 use Rattle.rules.specs.Nodes.{no_node}
 use Rattle.rules.specs.Pick.{id_at}
 use Rattle.rules.specs.declared.Refusal.TheVariants as no
-use Rattle.rules.specs.declared.Answer.TheVariants.{Done}
 use Rattle.start.specs.Start.{slot_ids, slots_to, start_node, start_nodes, start_fits, ids_rise, list_fits, id_rises}
 use Rattle.table_type.specs.Start.{start_table, not_started, start_of}
 
@@ -162,6 +162,6 @@ module _ (m l : ℕ) (ids : List ℕ) (a : ℕ) where
   start-invalid p q = rw (p, q)
 
   pub start-done : start_fits m l (length ids) ≡ true → list_fits m (length ids) (slot_ids ids) a ≡ true
-      → start_of m l ids a ≡ record { answer = Done; table = start_table m l (length ids) (slot_ids ids) a }
+      → start_of m l ids a ≡ record { answer = Ok tt; table = start_table m l (length ids) (slot_ids ids) a }
   unfolding start_of
   start-done p q = rw (p, q)

@@ -9,7 +9,7 @@ ghost use Rattle.table_type.specs.Start.{start_of, not_started};
 ghost use Rattle.start.specs.Start.{start_fits, slot_ids, ids_rise, list_fits, start_node, start_nodes, id_rises};
 ghost use Rattle.table_type.specs.Table.{node_at, ids_of, ring_of};
 
-use rules::{Answer, Node, Pool, Refusal, Ring, Sides, Status, Via};
+use rules::{Node, Pool, Refusal, Ring, Roster, Sides, Status, Via};
 
 // Ids have m digits, a side of a leaf set holds at most l nodes, and n nodes are listed, in the slots 0 to n - 1.
 #[derive(Clone, Copy)]
@@ -23,7 +23,7 @@ pub struct Table {
 // What a step, a load or a start leaves: the answer, the table and the pool; and where the next hop came from, if a step routed a message to one.
 #[derive(Clone, Copy)]
 pub struct Stepped {
-    pub answer: Answer,
+    pub answer: Result<(), Refusal>,
     pub table: Table,
     pub pool: Pool,
     pub via: Via,
@@ -32,7 +32,7 @@ pub struct Stepped {
 // What the start makes: a table, or the table of no node beside the refusal.
 #[derive(Clone, Copy)]
 pub struct Started {
-    pub answer: Answer,
+    pub answer: Result<(), Refusal>,
     pub table: Table,
 }
 
@@ -97,11 +97,14 @@ impl Table {
         if !list_fits(m, n, &all, a) {
             return not_started(Refusal::Invalid);
         }
-        let g = Ring { m, l, n };
-        let nodes = start_nodes(g, &all, a);
+        let roster = Roster {
+            ring: Ring { m, l, n },
+            ids: all,
+        };
+        let nodes = start_nodes(&roster, a);
         let table = Table { m, l, n, nodes };
         Started {
-            answer: Answer::Done,
+            answer: Ok(()),
             table,
         }
     }
@@ -119,11 +122,8 @@ pub fn ids(t: Table) -> [u32; 64]
     ensures { result ≡ ids_of t }
 {
     let mut r = [0u32; 64];
-    let mut s: usize = 0;
-    while s < 64 {
-        let v = t.nodes[s];
-        r[s] = v.id;
-        s += 1;
+    for s in 0..64 {
+        r[s] = t.nodes[s].id;
     }
     r
 }
@@ -135,6 +135,18 @@ pub fn ring_of(t: Table) -> Ring
         m: t.m,
         l: t.l,
         n: t.n,
+    }
+}
+
+// The numbers and the ids, of a table whose ids are listed.
+pub fn roster(t: Table) -> Roster
+    requires { Listed (ring_of t) (ids_of t) }
+    ensures ring { result.ring ≡ ring_of t }
+    ensures ids { result.ids ≡ ids_of t }
+{
+    Roster {
+        ring: ring_of(t),
+        ids: ids(t),
     }
 }
 
@@ -153,11 +165,7 @@ fn slot_ids(ids: &[u32]) -> [u32; 64]
     ensures { result ≡ slot_ids ids.now }
 {
     let mut out = [0u32; 64];
-    let mut s: usize = 0;
-    while s < ids.len() {
-        out[s] = ids[s];
-        s += 1;
-    }
+    out[..ids.len()].copy_from_slice(ids);
     out
 }
 
@@ -187,12 +195,10 @@ fn ids_rise(m: u32, n: usize, ids: &[u32; 64]) -> bool
     requires { (m ≤ 32) × (n ≤ 64) }
     ensures { result ≡ ids_rise m n ids.now }
 {
-    let mut s: usize = 0;
-    while s < n {
+    for s in 0..n {
         if !id_rises(m, ids, s) {
             return false;
         }
-        s += 1;
     }
     true
 }
@@ -208,14 +214,15 @@ fn list_fits(m: u32, n: usize, ids: &[u32; 64], a: u64) -> bool
 }
 
 // The node of slot s after a start.
-fn start_node(g: Ring, ids: &[u32; 64], a: u64, s: usize) -> Node
-    requires { Listed g ids.now × (s < g.n) }
-    ensures { result ≡ start_node g ids.now a s }
+#[tactic(auto, unfolding(start::specs::Start::start_node))]
+fn start_node(r: &Roster, a: u64, s: usize) -> Node
+    requires { s < r.now.ring.n }
+    ensures { result ≡ start_node r.now.ring r.now.ids a s }
 {
-    let id = ids[s];
+    let id = r.ids[s];
     if marks::is_in(a, s) {
         let none = Sides { left: 0, right: 0 };
-        let leaf = leaf::with_set(g, ids, s, none, a);
+        let leaf = leaf::with_set(r, s, none, a);
         Node {
             id,
             status: Status::Ready,
@@ -253,18 +260,13 @@ pub fn no_node() -> Node
     }
 }
 
-fn start_nodes(g: Ring, ids: &[u32; 64], a: u64) -> [Node; 64]
-    requires { Listed g ids.now }
-    ensures { result ≡ start_nodes g ids.now a }
+fn start_nodes(r: &Roster, a: u64) -> [Node; 64]
+    ensures { result ≡ start_nodes r.now.ring r.now.ids a }
 {
     let none = no_node();
     let mut nodes = [none; 64];
-    let n = g.n;
-    let mut s: usize = 0;
-    while s < n {
-        let v = start_node(g, ids, a, s);
-        nodes[s] = v;
-        s += 1;
+    for s in 0..r.ring.n {
+        nodes[s] = start_node(r, a, s);
     }
     nodes
 }
@@ -282,7 +284,7 @@ pub fn not_started(why: Refusal) -> Started
         nodes,
     };
     Started {
-        answer: Answer::Refused(why),
+        answer: Err(why),
         table,
     }
 }

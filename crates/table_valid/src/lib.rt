@@ -67,15 +67,7 @@ pub fn node_fits(g: Ring, all: u64, i: usize, v: Node) -> bool
 fn is_blank_node(v: Node) -> bool
     ensures { result ≡ is_blank v }
 {
-    let st = v.status;
-    let number = parts::status_number(st);
-    (v.id == 0)
-        & ((number == 0)
-            & ((v.left == 0)
-                & ((v.right == 0)
-                    & ((v.probing == 0)
-                        & ((v.failed == 0)
-                            & ((v.routing == 0) & ((v.lease == 0) & (v.grant == 0))))))))
+    v == table_type::no_node()
 }
 
 // Is the id at least low and below 2^m?
@@ -93,21 +85,17 @@ fn nodes_fit(t: Table, all: u64) -> bool
 {
     let g = table_type::ring_of(t);
     let mut low: u64 = 0;
-    let mut s: usize = 0;
-    while s < g.n {
+    for s in 0..t.n {
         let v = t.nodes[s];
         if !(id_fits(g, low, v.id) & node_fits(g, all, s, v)) {
             return false;
         }
         low = (v.id as u64) + 1;
-        s += 1;
     }
-    while s < 64 {
-        let v = t.nodes[s];
-        if !is_blank_node(v) {
+    for s in t.n..64 {
+        if !is_blank_node(t.nodes[s]) {
             return false;
         }
-        s += 1;
     }
     true
 }
@@ -283,8 +271,8 @@ pub fn place_fits(g: Ring, all: u64, ids: &[u32; 64], m: Message) -> bool
 }
 
 // Are there at most 256 messages, does each fit, and are no two equal? A message is compared only with the earlier ones of its own bucket: `heads` has one
-// more than the last place of each bucket, and `next` one more than the place before of the same bucket; 0 is none. Both loops stand in one function, which
-// has one copy of the pool.
+// more than the last place of each bucket, and `next` one more than the place before of the same bucket; 0 is none. The `while` goes from link to link
+// and counts no index. All loops stand in one function, which has one copy of the pool.
 fn pool_fits(g: Ring, all: u64, ids: &[u32; 64], p: Pool) -> bool
     requires { Listed g ids.now × (all ≡ all_nodes g.n) }
     ensures { result ≡ pool_fits g ids.now p }
@@ -293,37 +281,28 @@ fn pool_fits(g: Ring, all: u64, ids: &[u32; 64], p: Pool) -> bool
     if 256 < n {
         return false;
     }
-    let mut k: usize = 0;
-    'tests: while k < n {
-        let m = p.places[k];
-        if !place_fits(g, all, ids, m) {
+    for k in 0..n {
+        if !place_fits(g, all, ids, p.places[k]) {
             return false;
         }
-        k += 1;
     }
     let mut heads = [0u32; 509];
     let mut next = [0u32; 256];
-    let mut j: usize = 0;
-    let different = 'places: loop {
-        if n <= j {
-            break 'places true;
-        }
+    for j in 0..n {
         let m = p.places[j];
         let h = pool::bucket(m);
         let first = heads[h];
         let mut at = first as usize;
         'chain: while 0 < at {
-            let q = p.places[at - 1];
-            if pool::alike(q, m) {
-                break 'places false;
+            if pool::alike(p.places[at - 1], m) {
+                return false;
             }
             at = next[at - 1] as usize;
         }
         next[j] = first;
         heads[h] = (j + 1) as u32;
-        j += 1;
-    };
-    different
+    }
+    true
 }
 
 // Is the table valid, with the messages of the pool?

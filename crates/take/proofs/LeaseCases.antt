@@ -1,5 +1,6 @@
 -- Take of kinds 7 and 8, computed by the checker on six nodes: each refusal, the lowest where two apply, and what is done. The node is 10 in slot 0, with
 -- 40, 80, 120, 160 and 200 up the ring, in slots 1 to 5. Assumes nothing.
+use Rattle.rules.specs.Shapes.{Planned}
 use mathlib.Core.Path.{◌≡◌, refl}
 use mathlib.Core.List.{List, [], ◌∷◌}
 use Prim.Native.Nat.{ℕ}
@@ -7,7 +8,6 @@ use Rattle.rules.specs.declared.Status.{Status}
 use Rattle.rules.specs.declared.Status.TheVariants.{Ok, Ready}
 use Rattle.rules.specs.declared.Node.{Node}
 use Rattle.rules.specs.declared.Message.{Message}
-use Rattle.rules.specs.declared.Planned.{Planned}
 use Rattle.rules.specs.Nodes.{placed}
 use Rattle.rules.specs.Letters.{broadcast_l_set}
 use Rattle.take.specs.Take.{plan_take_lease_request, plan_take_broadcast}

@@ -1,5 +1,6 @@
 -- Take of kinds 3, 4 and 5, computed by the checker on six nodes: each refusal, the lowest where two apply, and what is done. The node is 10 in slot 0 (80 in
 -- slot 2 for kind 3), with 40, 80, 120, 160 and 200 up the ring, in slots 1 to 5. Assumes nothing.
+use Rattle.rules.specs.Shapes.{Planned}
 use mathlib.Core.Path.{◌≡◌, refl}
 use mathlib.Core.List.{[], ◌∷◌}
 use Prim.Native.Nat.{ℕ}
@@ -7,7 +8,6 @@ use Rattle.rules.specs.declared.Sides.{Sides}
 use Rattle.rules.specs.declared.Status.{Status}
 use Rattle.rules.specs.declared.Status.TheVariants.{Wait, Ok, Ready}
 use Rattle.rules.specs.declared.Message.{Message}
-use Rattle.rules.specs.declared.Planned.{Planned}
 use Rattle.rules.specs.Nodes.{placed}
 use Rattle.rules.specs.Letters.{no_sides, join_reply, ls_probe, ls_probe_reply}
 use Rattle.take.specs.Take.{plan_take_join_reply, plan_take_probe, plan_take_probe_reply}

@@ -1,5 +1,7 @@
 -- Deliver and Forward of kind 1, Take of kinds 2 and 6, and which plan belongs to which kind, computed by the checker on 01's worked ids: each refusal, the lowest where two
 -- apply, and what is done. Assumes nothing.
+use Rattle.rules.specs.Shapes.{Planned}
+use Rattle.std.specs.Prelude.{Err}
 use mathlib.Core.Path.{◌≡◌, refl}
 use mathlib.Core.List.{List, [], ◌∷◌}
 use Prim.Native.Nat.{ℕ}
@@ -8,8 +10,6 @@ use Rattle.rules.specs.declared.Status.{Status}
 use Rattle.rules.specs.declared.Status.TheVariants.{Ok, Ready}
 use Rattle.rules.specs.declared.Node.{Node}
 use Rattle.rules.specs.declared.Message.{Message}
-use Rattle.rules.specs.declared.Planned.{Planned}
-use Rattle.rules.specs.declared.Planned.TheVariants.{No}
 use Rattle.rules.specs.declared.Refusal.TheVariants as no
 use Rattle.rules.specs.declared.Via.TheVariants.{Unrouted, Leaf, Routing}
 use Rattle.rules.specs.Nodes.{placed}
@@ -149,12 +149,12 @@ said =
 -- ---- by kind; 1. 5 from Take on a Lookup, whatever the status; 6. 5 always.
 
 pub record ByKind (g : Ring) (ids : List ℕ) (dead i : ℕ) (v : Node) (m : Message) : Type 0 where
-  pub one : plan_take 1 g ids dead i v m ≡ No no.Partner
+  pub one : plan_take 1 g ids dead i v m ≡ Err no.Partner
   pub two : plan_take 2 g ids dead i v m ≡ plan_take_join_request g ids dead i v m.word m.routing
   pub three : plan_take 3 g ids dead i v m ≡ plan_take_join_reply g ids i v m
   pub four : plan_take 4 g ids dead i v m ≡ plan_take_probe g ids i v m
   pub five : plan_take 5 g ids dead i v m ≡ plan_take_probe_reply g ids i v m
-  pub six : plan_take 6 g ids dead i v m ≡ No no.Partner
+  pub six : plan_take 6 g ids dead i v m ≡ Err no.Partner
   pub seven : plan_take 7 g ids dead i v m ≡ plan_take_lease_request g ids i v m.word
   pub eight : plan_take 8 g ids dead i v m ≡ plan_take_broadcast g ids i v m
 

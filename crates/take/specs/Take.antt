@@ -1,9 +1,9 @@
 -- Take(place), by kind, in 01's order, with Deliver(place) and Forward(place) for a Lookup (T-05): message m at its destination i, whose node is v.
 -- Each kind is refused with the lowest number that applies, or makes a plan.
 -- 01's words stand above each kind; "several probes are sent in rising slot order" is Mail.sent. Definitions only. Assumes nothing.
-use Rattle.std.specs.Prelude.{Bool, cond, ◌&&◌, ◌||◌, not, ℕ, ◌+◌, eqb}
+use Rattle.rules.specs.Shapes.{Planned}
+use Rattle.std.specs.Prelude.{Bool, cond, ◌&&◌, ◌||◌, not, ℕ, ◌+◌, eqb, Some, None, Ok, Err}
 use Rattle.marks.specs.Marks.{has, union, meet, without, add_of, remove_of}
-use Rattle.marks.specs.declared.Found.TheVariants.{At, Nothing}
 use Rattle.rules.specs.Names.{Slot, Marks, Ids, Key, Kind, Hops}
 use Rattle.rules.specs.Pick.{id_at}
 use Rattle.rules.specs.declared.Ring.{Ring}
@@ -21,8 +21,6 @@ use Rattle.rules.specs.declared.Hop.TheVariants.{To, NoRoute}
 use Rattle.rules.specs.Hop.{next_hop, via_of}
 use Rattle.rules.specs.declared.Plan.{Plan}
 use Rattle.rules.specs.declared.Via.TheVariants as via
-use Rattle.rules.specs.declared.Planned.{Planned}
-use Rattle.rules.specs.declared.Planned.TheVariants.{No, Go}
 use Rattle.rules.specs.Letters.{lookup_after, join_request, join_reply, ls_probe, ls_probe_reply, no_legal_route, broadcast_l_set}
 use Rattle.rules.specs.Plans.{is_dead, is_wait, is_ready, is_up, with_leases, quiet_plan, send_by, send_plan}
 use Rattle.plan.specs.Actions.{is_beside, is_neighbour}
@@ -40,27 +38,27 @@ forward_plan NoRoute v m k i = send_plan v (no_legal_route k) i
 
 -- T-05: 5 on another kind; 2 unless ready; 5 when not covered. Delivered: nothing is added
 unfoldable pub plan_deliver : Kind → Ring → Ids → Slot → Node → Key → Planned
-plan_deliver kind g ids i v k = cond (not (eqb kind 1)) (No no.Partner)
-    (cond (not (is_ready v.status)) (No no.Status)
-    (cond (not (covers_of g ids i (sides_of v) k)) (No no.Partner)
-    (Go (quiet_plan v))))
+plan_deliver kind g ids i v k = cond (not (eqb kind 1)) (Err no.Partner)
+    (cond (not (is_ready v.status)) (Err no.Status)
+    (cond (not (covers_of g ids i (sides_of v) k)) (Err no.Partner)
+    (Ok (quiet_plan v))))
 
 -- T-05: 5 on another kind; 2 unless ready; 5 when covered. T-07: one more at each forwarding
 unfoldable pub plan_forward : Kind → Ring → Ids → Marks → Slot → Node → Key → Hops → Planned
-plan_forward kind g ids dead i v k hops = cond (not (eqb kind 1)) (No no.Partner)
-    (cond (not (is_ready v.status)) (No no.Status)
-    (cond (covers_of g ids i (sides_of v) k) (No no.Partner)
-    (Go (forward_plan (next_hop g ids dead i v k) v (lookup_after (hops + 1) k) k i))))
+plan_forward kind g ids dead i v k hops = cond (not (eqb kind 1)) (Err no.Partner)
+    (cond (not (is_ready v.status)) (Err no.Status)
+    (cond (covers_of g ids i (sides_of v) k) (Err no.Partner)
+    (Ok (forward_plan (next_hop g ids dead i v k) v (lookup_after (hops + 1) k) k i))))
 
 -- ---- 2 JoinRequest
 -- From j. 2 unless ready; 5 if j is in i's content. If i covers j's id, a JoinReply to j with m's routing set and i's leaf set.
 -- Else to the next hop with i's routing set joined in, or NoLegalRoute(id of j) to i.
 
 unfoldable pub plan_take_join_request : Ring → Ids → Marks → Slot → Node → Slot → Marks → Planned
-plan_take_join_request g ids dead i v j routing = cond (not (is_ready v.status)) (No no.Status)
-    (cond (has (content_of (sides_of v) i) j) (No no.Partner)
-    (cond (covers_of g ids i (sides_of v) (id_at ids j)) (Go (send_plan v (join_reply routing i (sides_of v)) j))
-    (Go (forward_plan (next_hop g ids dead i v (id_at ids j)) v (join_request j (union routing v.routing)) (id_at ids j) i))))
+plan_take_join_request g ids dead i v j routing = cond (not (is_ready v.status)) (Err no.Status)
+    (cond (has (content_of (sides_of v) i) j) (Err no.Partner)
+    (cond (covers_of g ids i (sides_of v) (id_at ids j)) (Ok (send_plan v (join_reply routing i (sides_of v)) j))
+    (Ok (forward_plan (next_hop g ids dead i v (id_at ids j)) v (join_request j (union routing v.routing)) (id_at ids j) i))))
 
 -- ---- 3 JoinReply
 -- 2 if dead; 4 if the leaf set is not empty; 5 if probing is not empty. Routing set gains m's routing set and the content of m's leaf set; that content
@@ -75,17 +73,17 @@ joined_node v i routing content s =
 
 -- LSProbe to each in probing, carrying the new leaf set and empty failed
 abbrev pub joined_plan : Node → Slot → Sides → Plan
-joined_plan v i s = record { node = v; first = blank; to = Nothing; each = ls_probe i s 0; all = v.probing; via = via.Unrouted }
+joined_plan v i s = record { node = v; first = blank; to = None; each = ls_probe i s 0; all = v.probing; via = via.Unrouted }
 
 abbrev pub join_reply_plan : Slot → Node → Marks → Marks → Sides → Plan
 join_reply_plan i v routing content s = joined_plan (joined_node v i routing content s) i s
 
 -- 2 if dead; 4 if the leaf set is not empty; 5 if probing is not empty
 unfoldable pub plan_take_join_reply : Ring → Ids → Slot → Node → Message → Planned
-plan_take_join_reply g ids i v m = cond (is_dead v.status) (No no.Status)
-    (cond (not (is_empty (sides_of v))) (No no.LeafSet)
-    (cond (not (eqb v.probing 0)) (No no.Partner)
-    (Go (join_reply_plan i v m.routing (content_of (carried_of m) m.owner) (leaf_with g ids i (sides_of v) (content_of (carried_of m) m.owner))))))
+plan_take_join_reply g ids i v m = cond (is_dead v.status) (Err no.Status)
+    (cond (not (is_empty (sides_of v))) (Err no.LeafSet)
+    (cond (not (eqb v.probing 0)) (Err no.Partner)
+    (Ok (join_reply_plan i v m.routing (content_of (carried_of m) m.owner) (leaf_with g ids i (sides_of v) (content_of (carried_of m) m.owner))))))
 
 -- ---- 4 LSProbe
 -- From j. 2 if dead; 4 if wait with empty leaf set; 5 if j = i. F = failed without j. S = leaf set, with j added unless in it. P1 = the members of content(S)
@@ -121,7 +119,7 @@ waits_empty v = is_wait v.status && is_empty (sides_of v)
 -- probing plus P. Send LSProbeReply(S, F) to j, then LSProbe(S, F) to each of P
 abbrev pub probe_plan : Slot → Node → Slot → Sides → Marks → Marks → Plan
 probe_plan i v j s f p =
-    record { node = learnt_node v j s f (union v.probing p) v.status; first = ls_probe_reply i s f; to = At j; each = ls_probe i s f; all = p; via = via.Unrouted }
+    record { node = learnt_node v j s f (union v.probing p) v.status; first = ls_probe_reply i s f; to = Some j; each = ls_probe i s f; all = p; via = via.Unrouted }
 
 -- S = leaf set, with j added unless in it
 unfoldable pub probe_plan_of : Ring → Ids → Slot → Node → Message → Plan
@@ -133,10 +131,10 @@ probe_plan_of g ids i v m =
 
 -- 2 if dead; 4 if wait with empty leaf set; 5 if j = i
 unfoldable pub plan_take_probe : Ring → Ids → Slot → Node → Message → Planned
-plan_take_probe g ids i v m = cond (is_dead v.status) (No no.Status)
-    (cond (waits_empty v) (No no.LeafSet)
-    (cond (eqb m.word i) (No no.Partner)
-    (Go (probe_plan_of g ids i v m))))
+plan_take_probe g ids i v m = cond (is_dead v.status) (Err no.Status)
+    (cond (waits_empty v) (Err no.LeafSet)
+    (cond (eqb m.word i) (Err no.Partner)
+    (Ok (probe_plan_of g ids i v m))))
 
 -- ---- 5 LSProbeReply
 -- As 4, but 5 also if j is not in probing, and no reply is sent. Probing becomes the union of probing and P, without members of the old failed and without
@@ -153,7 +151,7 @@ status_after_reply g st s probing = cond (is_wait st && (eqb probing 0 && (overl
 -- no reply is sent
 abbrev pub reply_plan : Ring → Slot → Node → Slot → Sides → Marks → Marks → Marks → Plan
 reply_plan g i v j s f p probing =
-    record { node = learnt_node v j s f probing (status_after_reply g v.status s probing); first = blank; to = Nothing; each = ls_probe i s f; all = p; via = via.Unrouted }
+    record { node = learnt_node v j s f probing (status_after_reply g v.status s probing); first = blank; to = None; each = ls_probe i s f; all = p; via = via.Unrouted }
 
 unfoldable pub reply_plan_of : Ring → Ids → Slot → Node → Message → Plan
 reply_plan_of g ids i v m =
@@ -165,10 +163,10 @@ reply_plan_of g ids i v m =
 
 -- as 4, but 5 also if j is not in probing
 unfoldable pub plan_take_probe_reply : Ring → Ids → Slot → Node → Message → Planned
-plan_take_probe_reply g ids i v m = cond (is_dead v.status) (No no.Status)
-    (cond (waits_empty v) (No no.LeafSet)
-    (cond (eqb m.word i || not (has v.probing m.word)) (No no.Partner)
-    (Go (reply_plan_of g ids i v m))))
+plan_take_probe_reply g ids i v m = cond (is_dead v.status) (Err no.Status)
+    (cond (waits_empty v) (Err no.LeafSet)
+    (cond (eqb m.word i || not (has v.probing m.word)) (Err no.Partner)
+    (Ok (reply_plan_of g ids i v m))))
 
 -- ---- 6 NoLegalRoute
 -- 5 always: in plan_take below.
@@ -183,9 +181,9 @@ grant_plan i v j near = send_plan (with_leases v v.lease (cond near (add_of v.gr
 
 -- 2 unless ok or ready; 4 if the leaf set is empty
 unfoldable pub plan_take_lease_request : Ring → Ids → Slot → Node → Slot → Planned
-plan_take_lease_request g ids i v j = cond (not (is_up v.status)) (No no.Status)
-    (cond (is_empty (sides_of v)) (No no.LeafSet)
-    (Go (grant_plan i v j (is_neighbour g ids i v j))))
+plan_take_lease_request g ids i v j = cond (not (is_up v.status)) (Err no.Status)
+    (cond (is_empty (sides_of v)) (Err no.LeafSet)
+    (Ok (grant_plan i v j (is_neighbour g ids i v j))))
 
 -- ---- 8 BroadcastLSet
 -- Owner j. 2 unless ok or ready; 4 if the leaf set is not complete; 5 if j = i. Add m's content without failed. If the flag is set and j is a new
@@ -220,20 +218,20 @@ broadcast_plan g ids i v m =
 
 -- 2 unless ok or ready; 4 if the leaf set is not complete; 5 if j = i
 unfoldable pub plan_take_broadcast : Ring → Ids → Slot → Node → Message → Planned
-plan_take_broadcast g ids i v m = cond (not (is_up v.status)) (No no.Status)
-    (cond (not (is_complete g (sides_of v))) (No no.LeafSet)
-    (cond (eqb m.owner i) (No no.Partner)
-    (Go (broadcast_plan g ids i v m))))
+plan_take_broadcast g ids i v m = cond (not (is_up v.status)) (Err no.Status)
+    (cond (not (is_complete g (sides_of v))) (Err no.LeafSet)
+    (cond (eqb m.owner i) (Err no.Partner)
+    (Ok (broadcast_plan g ids i v m))))
 
 -- ---- by kind; 1: 5 from Take on a Lookup, whatever the status (T-05); 6: 5 always. A valid pool holds no other kind than the eight.
 
 unfoldable pub plan_take : Kind → Ring → Ids → Marks → Slot → Node → Message → Planned
-plan_take kind g ids dead i v m = cond (eqb kind 1) (No no.Partner)
+plan_take kind g ids dead i v m = cond (eqb kind 1) (Err no.Partner)
     (cond (eqb kind 2) (plan_take_join_request g ids dead i v m.word m.routing)
     (cond (eqb kind 3) (plan_take_join_reply g ids i v m)
     (cond (eqb kind 4) (plan_take_probe g ids i v m)
     (cond (eqb kind 5) (plan_take_probe_reply g ids i v m)
-    (cond (eqb kind 6) (No no.Partner)
+    (cond (eqb kind 6) (Err no.Partner)
     (cond (eqb kind 7) (plan_take_lease_request g ids i v m.word)
     (cond (eqb kind 8) (plan_take_broadcast g ids i v m)
-    (No no.Partner))))))))
+    (Err no.Partner))))))))

@@ -1,13 +1,8 @@
--- Texts that follow one another are one text (then); a byte stored is a text of one byte, and a copy into the places from one on is a text
--- from there on. Digits and fields are put together of these. Assumes nothing.
-use mathlib.Core.Path.{◌≡◌, refl, ◌∙◌}
-use mathlib.Core.List.{List, [], ◌∷◌, ◌++◌, append_assoc}
-use Prim.Native.Nat.{ℕ, ◌+◌, ◌-◌, ◌/◌, ◌%◌, ◌<◌, ◌≤◌}
-use native.Mathlib.Numerals.{add-one}
-use native.Mathlib.Omega.{arith}
-use lib.ListN.{length, set, length-append}
-use lib.Seq.{set_split, append_snoc}
-use borrow.Rule.Slice.PartMut.{put_mid, Post-is}
+-- Texts that follow one another are one text (then), as the digits of a number are. Assumes nothing.
+use mathlib.Core.Path.{◌≡◌}
+use mathlib.Core.List.{List, [], ◌∷◌, ◌++◌}
+use Prim.Native.Nat.{ℕ, ◌+◌, ◌/◌, ◌%◌, ◌<◌, ◌≤◌}
+use lib.ListN.{length, length-append}
 use Rattle.words.proofs.Puts.{follow, put-length}
 use Rattle.text.specs.Decimal.{decimal}
 use Rattle.text.specs.InnerPrints.{Prints}
@@ -16,32 +11,9 @@ use Rattle.text.proofs.Digits.{decimal-one, decimal-more}
 pub then : {a b c : List ℕ} {at i j : ℕ} {vs ws : List ℕ} → Prints a at vs i b → Prints b i ws j c → Prints a at (vs ++ ws) j c
 then p q = rw length-append (follow p q)
 
-pub one_byte : (l : List ℕ) (at x : ℕ) → at + 1 ≤ length l → Prints l at (x ∷ []) (at + 1) (set l at x)
-one_byte l at x h =
-    record {
-      inside = h;
-      next-is = refl;
-      sized = refl;
-      new_is = set_split l at x (omega arith) ∙ rw (add-one, append_snoc);
-    }
-
-pub copied : (b text mid : List ℕ) (at : ℕ) → at + length text ≤ length b → mid ≡ text
-    → Prints b at text (at + length text) (put_mid at (at + length text - at) b mid)
-copied b text mid at h m =
-    record {
-      inside = h;
-      next-is = refl;
-      sized = refl;
-      new_is = rw (m, Post-is at (at + length text) b (omega arith), append_assoc);
-    }
-
--- where a text and a field end, and that the buffer is as long as before
+-- where a text ends, and that the buffer is as long as before
 pub text-end : {a b : List ℕ} {at i : ℕ} {vs : List ℕ} → Prints a at vs i b → (i ≡ at + length vs) × (length b ≡ length a)
 text-end p = (p.next-is, put-length p)
-
-pub field_end : {a b : List ℕ} {at i : ℕ} (x y : ℕ) → Prints a at (decimal x ++ (y ∷ [])) i b
-    → (i ≡ at + (length (decimal x) + 1)) × (length b ≡ length a)
-field_end x y p = (p.next-is ∙ rw length-append, put-length p)
 
 -- ---- digits
 

@@ -30,10 +30,10 @@ pub fn put_number(b: &mut [u8], at: usize, x: u32) -> usize
     ensures { Prints b.old at (decimal x) result b.new }
 {
     if x < 10 {
-        return put_byte(b, at, 48 + x as u8);
+        return put_byte(b, at, b'0' + x as u8);
     }
     let next = put_number(b, at, x / 10);
-    put_byte(b, next, 48 + (x % 10) as u8)
+    put_byte(b, next, b'0' + (x % 10) as u8)
 }
 
 // Writes a number, and the byte that ends its field.

@@ -7,12 +7,11 @@ use Prim.Native.Nat.{ℕ}
 use lib.IntN.{pos, negsuc}
 use lib.ListN.{replicate}
 use Rattle.rules.specs.declared.Refusal.TheVariants as no
-use Rattle.holder.specs.declared.Holding.TheVariants.{NotAsked, OutOfRange, By, Unsettled}
+use Rattle.std.specs.Prelude.{Some, None, Ok, Err}
+use Rattle.holder.specs.declared.Unheld.TheVariants.{NotAsked, OutOfRange, Unsettled}
 use Rattle.water.specs.declared.Record.{Record}
 use Rattle.water.specs.declared.Held.{Held}
 use Rattle.water.specs.declared.Store.{Store}
-use Rattle.water.specs.declared.Looked.TheVariants.{At, Nothing}
-use Rattle.water.specs.declared.Reply.TheVariants.{Accepted, Refused}
 use Rattle.water.specs.declared.Why.TheVariants as why
 use Rattle.water.specs.Water.{in_range, change_of, none_held, held_of, empty_store, seat_of, kept_at, put_of, place_by, found_in, looked_up, total_of, reply_number}
 use Rattle.water.specs.History.{any_alike, last_each}
@@ -65,30 +64,30 @@ pub record Cases : Type 0 where
   pub replaced-total : total_of (held_of (kept_at two 0 again)) ≡ negsuc 498
   -- the month before is another, behind the last
   pub another : seat_of (first ∷ other ∷ []) (record { key = 200; month = 6; rain = 0; evapotranspiration = 0; runoff = 0 }) ≡ 2
-  pub placed : (place_by (By 1 5) two again.original).store ≡ kept_at two 0 again
+  pub placed : (place_by (Ok (record { slot = 1; copies = 5 })) two again.original).store ≡ kept_at two 0 again
   -- what is held of a key and month; at no place where there is none
-  pub found : looked_up two 17 7 ≡ At other
-  pub not_found : looked_up two 17 8 ≡ Nothing
+  pub found : looked_up two 17 7 ≡ Some other
+  pub not_found : looked_up two 17 8 ≡ None
   -- a refusal changes nothing
-  pub refused-stays : (place_by Unsettled two again.original).store ≡ two
+  pub refused-stays : (place_by (Err Unsettled) two again.original).store ≡ two
   -- 10, and a key out of range
-  pub invalid : reply_number (place_by (NotAsked no.Invalid) two again.original).reply ≡ 10
-  pub key-out : reply_number (place_by OutOfRange two again.original).reply ≡ 14
-  pub not-settled : reply_number (place_by Unsettled two again.original).reply ≡ 15
+  pub invalid : reply_number (place_by (Err (NotAsked no.Invalid)) two again.original).reply ≡ 10
+  pub key-out : reply_number (place_by (Err OutOfRange) two again.original).reply ≡ 14
+  pub not-settled : reply_number (place_by (Err Unsettled) two again.original).reply ≡ 15
   -- 14 comes before 15
-  pub not-in-range : reply_number (place_by Unsettled two (july 200 100001)).reply ≡ 14
-  pub not-in-range-held : reply_number (place_by (By 1 5) full (july 200 100001)).reply ≡ 14
+  pub not-in-range : reply_number (place_by (Err Unsettled) two (july 200 100001)).reply ≡ 14
+  pub not-in-range-held : reply_number (place_by (Ok (record { slot = 1; copies = 5 })) full (july 200 100001)).reply ≡ 14
   -- a full store takes a record of a key and month that it holds, and no other
-  pub no_room_lem : reply_number (place_by (By 1 5) full again.original).reply ≡ 16
-  pub room : reply_number (place_by (By 1 5) full (july 17 3)).reply ≡ 0
+  pub no_room_lem : reply_number (place_by (Ok (record { slot = 1; copies = 5 })) full again.original).reply ≡ 16
+  pub room : reply_number (place_by (Ok (record { slot = 1; copies = 5 })) full (july 17 3)).reply ≡ 0
   -- and one with 511 takes another
-  pub last-place : reply_number (place_by (By 1 5) nearly_full again.original).reply ≡ 0
+  pub last-place : reply_number (place_by (Ok (record { slot = 1; copies = 5 })) nearly_full again.original).reply ≡ 0
   -- the numbers
-  pub accepted-is-0 : reply_number Accepted ≡ 0
-  pub invalid-is-10 : reply_number (Refused why.Invalid) ≡ 10
-  pub out-of-range-is-14 : reply_number (Refused why.OutOfRange) ≡ 14
-  pub unsettled-is-15 : reply_number (Refused why.Unsettled) ≡ 15
-  pub no-room-is-16 : reply_number (Refused why.NoRoom) ≡ 16
+  pub accepted-is-0 : reply_number (Ok tt) ≡ 0
+  pub invalid-is-10 : reply_number (Err why.Invalid) ≡ 10
+  pub out-of-range-is-14 : reply_number (Err why.OutOfRange) ≡ 14
+  pub unsettled-is-15 : reply_number (Err why.Unsettled) ≡ 15
+  pub no-room-is-16 : reply_number (Err why.NoRoom) ≡ 16
 
 pub cases : Cases
 unfolding change_of held_of empty_store seat_of kept_at put_of place_by found_in total_of any_alike last_each

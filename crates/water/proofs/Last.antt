@@ -8,7 +8,7 @@ use native.Mathlib.Omega.{arith}
 use Rattle.marks.proofs.Bools.{bool_cases, bool_false, opposed}
 use Rattle.water.specs.declared.Record.{Record}
 use Rattle.water.specs.declared.Held.{Held}
-use Rattle.water.specs.declared.Looked.TheVariants.{At, Nothing}
+use Rattle.std.specs.Prelude.{Some, None}
 use Rattle.water.specs.Water.{alike, found_in}
 use Rattle.water.specs.History.{any_alike, last_each}
 use Rattle.water.specs.Claims.{Same, In, here, there, LastOf, EachOnce, LastEachIs}
@@ -16,10 +16,10 @@ use Rattle.water.proofs.Mixed.{none_in, in-cases}
 use Rattle.water.proofs.AlikeLaws.{alike_same, same_alike, any-one, one-any}
 use Rattle.water.proofs.Lists.{Apart, apart-one}
 
-not-both : {h : Held} → Nothing ≡ At h → ⊥
+not-both : {h : Held} → None ≡ Some h → ⊥
 not-both e = let z : ◌≡◌ {A = ℕ} 0 1 = cc in omega arith
 
-at_same : {x h : Held} → At x ≡ At h → x ≡ h
+at_same : {x h : Held} → Some x ≡ Some h → x ≡ h
 at_same e = cc
 
 -- ---- what is listed is the last of its key and month
@@ -90,24 +90,24 @@ apart-once hs a i j l m q = opposed (same_alike q) (apart-one hs i j a l m)
 
 -- ---- what is found of a key and month
 
-found-one : (hs : List Held) (r : Record) (h : Held) → found_in hs r ≡ At h → In h hs × Same h.original r
+found-one : (hs : List Held) (r : Record) (h : Held) → found_in hs r ≡ Some h → In h hs × Same h.original r
 unfolding found_in
 found-one [] r h e = absurd (not-both e)
 found-one (x ∷ hs) r h e = go (bool_cases (alike x.original r)) (found-one hs r h)
   where
-    go : (alike x.original r ≡ true) ⊎ (alike x.original r ≡ false) → (found_in hs r ≡ At h → In h hs × Same h.original r)
+    go : (alike x.original r ≡ true) ⊎ (alike x.original r ≡ false) → (found_in hs r ≡ Some h → In h hs × Same h.original r)
         → In h (x ∷ hs) × Same h.original r
     go (inl a) k = let q : x ≡ h = at_same (rw a at e) in rw (← q) (here, alike_same x.original r a)
     go (inr a) k = let i = k (rw a at e) in (there i.0, i.1)
 
-one_found : (hs : List Held) (r : Record) (h : Held) → Apart hs → In h hs → Same h.original r → found_in hs r ≡ At h
+one_found : (hs : List Held) (r : Record) (h : Held) → Apart hs → In h hs → Same h.original r → found_in hs r ≡ Some h
 unfolding found_in
 one_found [] r h a i q = absurd (none_in i)
 one_found (x ∷ hs) r h a i q = go (in-cases i) (bool_cases (alike x.original r)) (λ j. one_found hs r h a.1 j q)
   where
-    go : (h ≡ x) ⊎ In h hs → (alike x.original r ≡ true) ⊎ (alike x.original r ≡ false) → (In h hs → found_in hs r ≡ At h)
-        → found_in (x ∷ hs) r ≡ At h
-    go (inl e) (inl b) k = rw b (ap (λ (y : Held). At y) (sym e))
+    go : (h ≡ x) ⊎ In h hs → (alike x.original r ≡ true) ⊎ (alike x.original r ≡ false) → (In h hs → found_in hs r ≡ Some h)
+        → found_in (x ∷ hs) r ≡ Some h
+    go (inl e) (inl b) k = rw b (ap (λ (y : Held). Some y) (sym e))
     go (inl e) (inr b) k = absurd (opposed (same_alike (subst (λ (y : Held). Same y.original r) e q)) b)
     go (inr j) (inl b) k =
         let s = alike_same x.original r b in
@@ -115,7 +115,7 @@ one_found (x ∷ hs) r h a i q = go (in-cases i) (bool_cases (alike x.original r
         absurd (opposed (one-any hs x.original h j both) a.0)
     go (inr j) (inr b) k = rw b (k j)
 
-pub found-exactly : (hs : List Held) (r : Record) (h : Held) → Apart hs → (found_in hs r ≡ At h) ↔ (In h hs × Same h.original r)
+pub found-exactly : (hs : List Held) (r : Record) (h : Held) → Apart hs → (found_in hs r ≡ Some h) ↔ (In h hs × Same h.original r)
 found-exactly hs r h a = (found-one hs r h, λ i. one_found hs r h a i.0 i.1)
 
 pub last-each-is : LastEachIs

@@ -13,8 +13,9 @@ use Rattle.rules.specs.declared.Pool.{Pool}
 use Rattle.table_type.specs.declared.Table.{Table}
 use Rattle.table.specs.Settled.{is_settled}
 use Rattle.step.specs.Step.{is_sound}
-use Rattle.holder.specs.declared.Holding.{Holding}
-use Rattle.holder.specs.declared.Holding.TheVariants as held
+use Rattle.std.specs.Prelude.{Ok, Err}
+use Rattle.holder.specs.declared.Unheld.TheVariants as unheld
+use Rattle.holder.specs.Holder.{Holding}
 use Rattle.holder.specs.Holder.{holding_of}
 use Rattle.holder.proofs.Proved as ring
 use Rattle.water.specs.declared.Record.{Record}
@@ -22,8 +23,7 @@ use Rattle.water.specs.declared.Held.{Held}
 use Rattle.water.specs.declared.Store.{Store}
 use Rattle.water.specs.declared.Why.{Why}
 use Rattle.water.specs.declared.Why.TheVariants.{Invalid, OutOfRange, Unsettled, NoRoom}
-use Rattle.water.specs.declared.Reply.{Reply}
-use Rattle.water.specs.declared.Reply.TheVariants.{Accepted, Refused}
+use Rattle.water.specs.Water.{Reply}
 use Rattle.water.specs.declared.Placed.{Placed}
 use Rattle.water.specs.Water.{most_records, in_range, held_of, seat_of, kept_at, refused_of, put_of, place_by, place_of, reply_number}
 use Rattle.water.specs.History.{Call, placing, went_of}
@@ -41,7 +41,7 @@ number s c = answered c.table c.pool c.len s c.original
 
 -- kept at its seat
 abbrev pub kept_of : Store → Held → Placed
-kept_of s h = record { reply = Accepted; store = kept_at s (seat_of (held_of s) h.original) h }
+kept_of s h = record { reply = Ok tt; store = kept_at s (seat_of (held_of s) h.original) h }
 
 -- what is asked of the table, the record and the store, as far as it is met
 abbrev Sound : Call → Bool → Type 0
@@ -70,7 +70,7 @@ stored : {p q : Placed} → p ≡ q → p.store ≡ q.store
 stored e = ap (λ (p : Placed). p.store) e
 
 -- not accepted and refused
-not-both : {r : Reply} {why : Why} → r ≡ Accepted → r ≡ Refused why → ⊥
+not-both : {r : Reply} {why : Why} → r ≡ Ok tt → r ≡ Err why → ⊥
 not-both e f = let z : ◌≡◌ {A = ℕ} 0 1 = cc in omega arith
 
 -- neither of the two holds
@@ -81,11 +81,11 @@ module _ (s : Store) (c : Call) where
   abbrev Told : Holding → Type 0
   Told w = holding_of c.table c.pool c.len c.original.key ≡ w
 
-  went-by : (h k : ℕ) → Told (held.By h k) → went_of c ≡ record { original = c.original; holder = h; copies = k }
+  went-by : (h k : ℕ) → Told (Ok (record { slot = h; copies = k })) → went_of c ≡ record { original = c.original; holder = h; copies = k }
   unfolding went_of
   went-by h k e = rw e
 
-  goes_to : (h k : ℕ) → Told (held.By h k) → Went c
+  goes_to : (h k : ℕ) → Told (Ok (record { slot = h; copies = k })) → Went c
   goes_to h k e =
       let at = ring.held-by-cover c.table c.pool c.len c.original.key h k e in
       record {
@@ -94,7 +94,7 @@ module _ (s : Store) (c : Call) where
         copies = rw (went-by h k e) at.1;
       }
 
-  by-seat : (h k : ℕ) → Told (held.By h k) → in_range c.original ≡ true → Judged s c
+  by-seat : (h k : ℕ) → Told (Ok (record { slot = h; copies = k })) → in_range c.original ≡ true → Judged s c
   unfolding place_of place_by put_of
   by-seat h k e i = go (bool_cases (ltb (seat_of (held_of s) c.original) most_records))
     where
@@ -117,19 +117,19 @@ module _ (s : Store) (c : Call) where
   judged = go (holding_of c.table c.pool c.len c.original.key) refl (bool_cases (in_range c.original))
     where
       go : (w : Holding) → Told w → (in_range c.original ≡ true) ⊎ (in_range c.original ≡ false) → Judged s c
-      go (held.NotAsked why) e any = invalid ((ring.not-asked-exactly c.table c.pool c.len c.original.key why).0 e).1 (rw e)
-      go held.OutOfRange e any =
+      go (Err (unheld.NotAsked why)) e any = invalid ((ring.not-asked-exactly c.table c.pool c.len c.original.key why).0 e).1 (rw e)
+      go (Err unheld.OutOfRange) e any =
           let a = (ring.out-exactly c.table c.pool c.len c.original.key).0 e in
           out a.0 (λ r. omega (arith, r.key, a.1)) (rw e)
-      go held.Unsettled e (inl i) =
+      go (Err unheld.Unsettled) e (inl i) =
           let a = (ring.unsettled-exactly c.table c.pool c.len c.original.key).0 e in
           unsettled a.0 (all-in-range c.table c.original a.1 i) a.2 (rw (e, i))
-      go held.Unsettled e (inr i) =
+      go (Err unheld.Unsettled) e (inr i) =
           let a = (ring.unsettled-exactly c.table c.pool c.len c.original.key).0 e in
           out a.0 (λ r. opposed (range-told c.table c.original r) i) (rw (e, i))
-      go (held.By h k) e (inl i) = by-seat h k e i
-      go (held.By h k) e (inr i) =
-          let a = ring.held-only c.table c.pool c.len c.original.key h k e in
+      go (Ok held) e (inl i) = by-seat held.slot held.copies e i
+      go (Ok held) e (inr i) =
+          let a = ring.held-only c.table c.pool c.len c.original.key held.slot held.copies e in
           out a.sound (λ r. opposed (range-told c.table c.original r) i) (rw (e, i))
 
 -- ---- each answer, exactly in its case
@@ -188,7 +188,7 @@ accepted-exactly t p len s r = accepted-at (judged s (called t p len r))
 
 -- ---- the store, and where the record went
 
-refused-at : {s : Store} {c : Call} {why : Why} → Judged s c → (placing s c).reply ≡ Refused why → (placing s c).store ≡ s
+refused-at : {s : Store} {c : Call} {why : Why} → Judged s c → (placing s c).reply ≡ Err why → (placing s c).store ≡ s
 refused-at (invalid b e) f = stored e
 refused-at (out b g e) f = stored e
 refused-at (unsettled b g h e) f = stored e

@@ -1,5 +1,5 @@
 -- T-13: sentence by sentence, in plain equations. Only statements: the proofs are named in Proved. Assumes nothing.
-use Rattle.std.specs.Prelude.{◌≡◌, true, false, List, ◌∷◌, ◌++◌, map, ◌⊎◌, ◌↔◌, ℕ, ◌^◌, ◌<◌, ◌≤◌, length, get_or}
+use Rattle.std.specs.Prelude.{◌≡◌, true, false, List, ◌∷◌, ◌++◌, map, ◌⊎◌, ◌↔◌, ℕ, ◌^◌, ◌<◌, ◌≤◌, length, get_or, Some, Ok, Err}
 use Rattle.rules.specs.Names.{Marks, Key}
 use Rattle.rules.specs.declared.Pool.{Pool}
 use Rattle.table_type.specs.declared.Table.{Table}
@@ -8,10 +8,8 @@ use Rattle.step.specs.Step.{is_sound}
 use Rattle.holder.specs.Claims.{Holds, Copies}
 use Rattle.water.specs.declared.Record.{Record}
 use Rattle.water.specs.declared.Held.{Held}
-use Rattle.water.specs.declared.Looked.TheVariants.{At}
 use Rattle.water.specs.declared.Store.{Store}
 use Rattle.water.specs.declared.Why.{Why}
-use Rattle.water.specs.declared.Reply.TheVariants.{Accepted, Refused}
 use Rattle.water.specs.Water.{none_held, held_of, empty_store, place_of, looked_up, total_of, sum_of, reply_number}
 use Rattle.water.specs.History.{Call, placing, store_after, accepted_of, went_of, last_each}
 
@@ -71,7 +69,7 @@ AcceptedExactly = (t : Table) (p : Pool) (len : ℕ) (s : Store) (r : Record)
 -- a refusal changes nothing
 abbrev pub RefusedKeeps : Type 0
 RefusedKeeps = (t : Table) (p : Pool) (len : ℕ) (s : Store) (r : Record) (why : Why)
-    → (place_of t p len s r).reply ≡ Refused why → (place_of t p len s r).store ≡ s
+    → (place_of t p len s r).reply ≡ Err why → (place_of t p len s r).store ≡ s
 
 -- an accepted record goes to the node that covers its key, and copies to that node's left and right neighbours
 pub record Went (c : Call) : Type 0 where
@@ -80,11 +78,11 @@ pub record Went (c : Call) : Type 0 where
   pub copies : Copies c.table (went_of c).holder (went_of c).copies
 
 abbrev pub GoesToCover : Type 0
-GoesToCover = (s : Store) (c : Call) → (placing s c).reply ≡ Accepted → Went c
+GoesToCover = (s : Store) (c : Call) → (placing s c).reply ≡ Ok tt → Went c
 
 -- and is held so, in every store of 512 places
 abbrev pub AcceptedHeld : Type 0
-AcceptedHeld = (s : Store) (c : Call) → length s.places ≡ 512 → (placing s c).reply ≡ Accepted → In (went_of c) (held_of (placing s c).store)
+AcceptedHeld = (s : Store) (c : Call) → length s.places ≡ 512 → (placing s c).reply ≡ Ok tt → In (went_of c) (held_of (placing s c).store)
 
 -- ---- records one after another, from an empty store, whatever is done to the ring between
 
@@ -111,7 +109,7 @@ OneEach = (cs : List Call) → EachOnce (held_of (store_after empty_store cs))
 abbrev pub LooksUp : Type 0
 LooksUp = (cs : List Call) (key : Key) (month : ℕ) (h : Held)
     → let s : Store = store_after empty_store cs in
-    (looked_up s key month ≡ At h) ↔ (In h (held_of s) × (h.original.key ≡ key) × (h.original.month ≡ month))
+    (looked_up s key month ≡ Some h) ↔ (In h (held_of s) × (h.original.key ≡ key) × (h.original.month ≡ month))
 
 -- at most 512 records, and the count is how many
 abbrev pub AtMost : Type 0

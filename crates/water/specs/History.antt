@@ -1,18 +1,14 @@
 -- T-13: records handed in one after another. Each call brings a table of its own, so whatever is done to the ring between two calls is in it.
 -- Definitions only. Assumes nothing.
-use Rattle.std.specs.Prelude.{Bool, false, cond, ◌||◌, List, [], ◌∷◌, ℕ}
+use Rattle.std.specs.Prelude.{Bool, false, cond, ◌||◌, List, [], ◌∷◌, ℕ, Ok, Err}
 use Rattle.rules.specs.declared.Pool.{Pool}
 use Rattle.table_type.specs.declared.Table.{Table}
-use Rattle.holder.specs.declared.Holding.{Holding}
-use Rattle.holder.specs.declared.Holding.TheVariants as held
-use Rattle.holder.specs.Holder.{holding_of}
+use Rattle.holder.specs.Holder.{Holding, holding_of}
 use Rattle.water.specs.declared.Record.{Record}
 use Rattle.water.specs.declared.Held.{Held}
 use Rattle.water.specs.declared.Store.{Store}
-use Rattle.water.specs.declared.Reply.{Reply}
-use Rattle.water.specs.declared.Reply.TheVariants.{Accepted, Refused}
 use Rattle.water.specs.declared.Placed.{Placed}
-use Rattle.water.specs.Water.{alike, none_held, place_of}
+use Rattle.water.specs.Water.{Reply, alike, none_held, place_of}
 
 -- a record, and the table on which it is handed in
 pub record Call : Type 0 where
@@ -31,17 +27,15 @@ store_after s (c ∷ cs) = store_after (placing s c).store cs
 
 -- the record as it went to its holder and, in copies, to the neighbours; asked of accepted records only
 abbrev went_to : Holding → Record → Held
-went_to (held.NotAsked why) r = none_held
-went_to held.OutOfRange r = none_held
-went_to held.Unsettled r = none_held
-went_to (held.By holder copies) r = record { original = r; holder = holder; copies = copies }
+went_to (Ok held) r = record { original = r; holder = held.slot; copies = held.copies }
+went_to (Err why) r = none_held
 
 unfoldable pub went_of : Call → Held
 went_of c = went_to (holding_of c.table c.pool c.len c.original.key) c.original
 
 abbrev noted : Reply → Held → List Held → List Held
-noted Accepted h hs = h ∷ hs
-noted (Refused why) h hs = hs
+noted (Ok x) h hs = h ∷ hs
+noted (Err why) h hs = hs
 
 -- the accepted records of these calls, oldest first, each as it went
 unfoldable pub accepted_of : Store → List Call → List Held

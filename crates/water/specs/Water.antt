@@ -1,21 +1,17 @@
 -- T-13: water records on top of the ring, which is seen through what it publishes of who holds a key (Holder of crate
 -- holder). Definitions only, each under the request's words. Assumes nothing.
 use Rattle.std.specs.Prelude.{Bool, cond, ◌&&◌, List, [], ◌∷◌, ℕ, suc, eqb, leb, ltb, ℤ, pos, ◌+ℤ◌, ◌-ℤ◌, take, set, replicate}
+use Rattle.std.specs.Prelude.{Option, Some, None, Result, Ok, Err, ⊤}
 use Rattle.rules.specs.Names.{Slot, Marks, Key}
 use Rattle.rules.specs.declared.Pool.{Pool}
 use Rattle.table_type.specs.declared.Table.{Table}
-use Rattle.holder.specs.declared.Holding.{Holding}
-use Rattle.holder.specs.declared.Holding.TheVariants as held
-use Rattle.holder.specs.Holder.{holding_of}
+use Rattle.holder.specs.declared.Unheld.TheVariants as unheld
+use Rattle.holder.specs.Holder.{Holding, holding_of}
 use Rattle.water.specs.declared.Record.{Record}
 use Rattle.water.specs.declared.Held.{Held}
 use Rattle.water.specs.declared.Store.{Store}
-use Rattle.water.specs.declared.Looked.{Looked}
-use Rattle.water.specs.declared.Looked.TheVariants.{At, Nothing}
 use Rattle.water.specs.declared.Why.{Why}
 use Rattle.water.specs.declared.Why.TheVariants.{Invalid, OutOfRange, Unsettled, NoRoom}
-use Rattle.water.specs.declared.Reply.{Reply}
-use Rattle.water.specs.declared.Reply.TheVariants.{Accepted, Refused}
 use Rattle.water.specs.declared.Placed.{Placed}
 
 -- at most 512 records, copies not counted
@@ -68,36 +64,40 @@ kept_at s i h = record { count = cond (leb s.count i) (suc s.count) s.count; pla
 
 -- ---- placing a record
 
+-- a record is accepted, or why it is not taken
+abbrev pub Reply : Type 0
+Reply = Result ⊤ Why
+
 -- a refusal changes nothing
 abbrev pub refused_of : Store → Why → Placed
-refused_of s why = record { reply = Refused why; store = s }
+refused_of s why = record { reply = Err why; store = s }
 
 -- 16 no room for a new key and month
 unfoldable pub put_of : Store → Record → Slot → Marks → Placed
 put_of s r holder copies =
     let i : ℕ = seat_of (held_of s) r in
     cond (ltb i most_records)
-    (record { reply = Accepted; store = kept_at s i (record { original = r; holder = holder; copies = copies }) })
+    (record { reply = Ok tt; store = kept_at s i (record { original = r; holder = holder; copies = copies }) })
     (refused_of s NoRoom)
 
 -- a record goes to the node that covers its key, and copies to that node's left and right neighbours. 10 for a list without 256 places or
 -- an invalid table, then 14 number out of range, 15 table not settled, 16, in that order
 unfoldable pub place_by : Holding → Store → Record → Placed
-place_by (held.NotAsked why) s r = refused_of s Invalid
-place_by held.OutOfRange s r = refused_of s OutOfRange
-place_by held.Unsettled s r = cond (in_range r) (refused_of s Unsettled) (refused_of s OutOfRange)
-place_by (held.By holder copies) s r = cond (in_range r) (put_of s r holder copies) (refused_of s OutOfRange)
+place_by (Err (unheld.NotAsked why)) s r = refused_of s Invalid
+place_by (Err unheld.OutOfRange) s r = refused_of s OutOfRange
+place_by (Err unheld.Unsettled) s r = cond (in_range r) (refused_of s Unsettled) (refused_of s OutOfRange)
+place_by (Ok held) s r = cond (in_range r) (put_of s r held.slot held.copies) (refused_of s OutOfRange)
 
 unfoldable pub place_of : Table → Pool → ℕ → Store → Record → Placed
 place_of t p len s r = place_by (holding_of t p len r.key) s r
 
 -- ---- what is held of a key and month
 
-unfoldable pub found_in : List Held → Record → Looked
-found_in [] r = Nothing
-found_in (h ∷ hs) r = cond (alike h.original r) (At h) (found_in hs r)
+unfoldable pub found_in : List Held → Record → Option Held
+found_in [] r = None
+found_in (h ∷ hs) r = cond (alike h.original r) (Some h) (found_in hs r)
 
-abbrev pub looked_up : Store → Key → ℕ → Looked
+abbrev pub looked_up : Store → Key → ℕ → Option Held
 looked_up s key month = found_in (held_of s) (record { key = key; month = month; rain = 0; evapotranspiration = 0; runoff = 0 })
 
 -- ---- the sum of changes
@@ -119,5 +119,5 @@ why_number Unsettled = 15
 why_number NoRoom = 16
 
 abbrev pub reply_number : Reply → ℕ
-reply_number Accepted = 0
-reply_number (Refused why) = why_number why
+reply_number (Ok x) = 0
+reply_number (Err why) = why_number why

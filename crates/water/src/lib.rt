@@ -28,13 +28,6 @@ pub struct Store {
     pub places: [Held; 512],
 }
 
-// What is held of a key and month.
-#[derive(Clone, Copy)]
-pub enum Looked {
-    At(Held),
-    Nothing,
-}
-
 // Why a record is not taken.
 #[derive(Clone, Copy)]
 pub enum Why {
@@ -44,13 +37,10 @@ pub enum Why {
     NoRoom,
 }
 
-#[derive(Clone, Copy)]
-pub enum Reply {
-    Accepted,
-    Refused(Why),
-}
+// A record is accepted, or why it is not taken.
+pub type Reply = Result<(), Why>;
 
-// The reply to a record, and the store after it.
+// The reply to a record, and the store after it: a refusal leaves the store, so that it stands beside the reply and not in it.
 #[derive(Clone, Copy)]
 pub struct Placed {
     pub reply: Reply,

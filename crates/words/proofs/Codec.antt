@@ -4,11 +4,12 @@
 use mathlib.Core.Path.{◌≡◌, refl, sym, ◌∙◌, ap, ap₂}
 use mathlib.Core.List.{List, [], ◌∷◌, ◌++◌, append_assoc}
 use Prim.Native.Nat.{ℕ, zero, suc, ◌+◌, ◌*◌, ◌/◌, ◌%◌, ◌^◌, ◌<◌, ◌≤◌}
-use native.Mathlib.Nat.{add_assoc, pow-succ'}
-use native.Mathlib.Numerals.{add-one, unary_clauses}
+use native.Mathlib.Nat.{add_assoc, pow-suc, pow-succ', div-one, div-div-eq-div-mul}
+use native.Mathlib.Numerals.{unary_clauses}
 use native.Mathlib.Omega.{arith}
 use lib.ListN.{length, get_or, take, drop, length-append, length-take, length-drop}
-use lib.Seq.{drop-cons, take_at, drop_at, drop-drop, take-add, get_or-drop}
+use lib.Seq.{take_all, take-suc, take_at, drop_at, drop-drop, take-add, get_or-drop, length-take-le}
+use Rattle.std.specs.Int.{byte_at, byte_worth, bytes_low_first, sum_through}
 use Rattle.words.specs.Bytes.{bytes_of, number_of, encode, decode, encode_all, decode_all}
 
 -- every byte is below 256
@@ -155,31 +156,37 @@ encode-decode-all ws size (suc n) bs e h l =
     (encode-decode-all ws size n (drop size bs) e (bytes_drop size bs h) k)
     ∙ sym (rw more (take-add size (size * n) bs))
 
--- ---- words as a reader computes them
+-- ---- words as the library's methods compute them
 
-byte-first : (n : ℕ) (bs : List ℕ) (at next : ℕ) → at < length bs → next ≡ at + 1
-    → number_of (take (suc n) (drop at bs)) ≡ get_or bs at 0 + 256 * number_of (take n (drop next bs))
-unfolding number_of
-byte-first n bs at next h e = rw (drop-cons bs at 0 h, e, add-one)
+-- the w bytes of a number from byte i on
+low-first : (w i x : ℕ) → bytes_low_first i w x ≡ bytes_of w (x / 256 ^ i)
+unfolding bytes_of
+low-first zero i x = refl
+low-first (suc w) i x =
+    let e : x / 256 ^ suc i ≡ x / 256 ^ i / 256 = rw pow-suc (sym (div-div-eq-div-mul x (256 ^ i) 256)) in
+    ap₂ ◌∷◌ (here i) (low-first w (suc i) x ∙ ap (bytes_of w) e)
+  where
+    here : (i : ℕ) → byte_at i x ≡ x / 256 ^ i % 256
+    here zero = rw div-one
+    here (suc i) = refl
 
-pub number-four : (bs : List ℕ) (at : ℕ) → at + 4 ≤ length bs
-    → number_of (take 4 (drop at bs)) ≡ get_or bs at 0 + 256 * get_or bs (at + 1) 0 + 65536 * get_or bs (at + 2) 0 + 16777216 * get_or bs (at + 3) 0
-unfolding number_of
-number-four bs at h =
-    let a = byte-first 3 bs at (at + 1) (omega arith) (omega arith) in
-    let b = byte-first 2 bs (at + 1) (at + 2) (omega arith) (omega arith) in
-    let c = byte-first 1 bs (at + 2) (at + 3) (omega arith) (omega arith) in
-    let d = byte-first 0 bs (at + 3) (at + 4) (omega arith) (omega arith) in
-    omega (arith, a, b, c, d)
+pub bytes-low : (w x : ℕ) → bytes_low_first 0 w x ≡ bytes_of w x
+bytes-low w x = low-first w 0 x ∙ ap (bytes_of w) (div-one x)
 
 number_append : (bs cs : List ℕ) → number_of (bs ++ cs) ≡ number_of bs + 256 ^ length bs * number_of cs
 unfolding number_of
 number_append [] cs = omega arith
 number_append (b ∷ bs) cs = rw (number_append bs cs, pow-succ') (omega arith)
 
-pub number-eight : (bs : List ℕ) (at : ℕ) → at + 8 ≤ length bs
-    → number_of (take 8 (drop at bs)) ≡ number_of (take 4 (drop at bs)) + 4294967296 * number_of (take 4 (drop (at + 4) bs))
-number-eight bs at h =
-    let part = drop at bs in
-    let four : length (take 4 part) ≡ 4 = length-take 4 part ∙ (rw length-drop (omega arith)) in
-    ap number_of (take-add 4 4 part) ∙ number_append (take 4 part) (take 4 (drop 4 part)) ∙ rw (four, drop-drop)
+-- the bytes of a number, each for what it is worth at its place
+number-sum : (n : ℕ) (bs : List ℕ) → n < length bs → number_of (take (suc n) bs) ≡ sum_through (λ i. byte_worth i (get_or bs i 0)) n
+unfolding number_of
+number-sum zero (b ∷ bs) h = omega arith
+number-sum zero [] h = absurd (omega arith)
+number-sum (suc n) bs h =
+    let long : length (take (suc n) bs) ≡ suc n = length-take-le (suc n) bs (omega arith) in
+    ap number_of (take-suc bs (suc n) 0 h) ∙ number_append (take (suc n) bs) (get_or bs (suc n) 0 ∷ [])
+    ∙ rw (long, number-sum n bs (omega arith)) (omega arith)
+
+pub number-worth : (n : ℕ) (bs : List ℕ) → length bs ≡ suc n → number_of bs ≡ sum_through (λ i. byte_worth i (get_or bs i 0)) n
+number-worth n bs h = ap number_of (sym (take_all (suc n) bs (omega arith))) ∙ number-sum n bs (omega arith)

@@ -1,55 +1,78 @@
 // Words in bytes, the lowest byte first: read from a place, and written from a place on.
 #![tactic(auto)]
 
-ghost use Rattle.std.specs.Prelude.{◌≡◌, ◌+◌, ◌<◌, ◌≤◌, length, take, drop};
+ghost use Rattle.std.specs.Prelude.{◌≡◌, ℕ, ◌+◌, ◌≤◌, length, take, drop};
 ghost use Rattle.words.specs.Bytes.{bytes_of, number_of};
 ghost use Rattle.words.specs.InnerPut.{Put};
 
-fn wide(x: u8) -> u32
-    ensures { (result ≡ x) × (result < 256) }
-{
-    x as u32
+// A number of a fixed number of bytes.
+pub trait Word: Copy {
+    // How many bytes it takes.
+    const SIZE: usize;
+
+    ghost SIZE: { ℕ };
+
+    ghost number: { Self → ℕ };
+
+    // The word of its bytes, lowest first.
+    fn from_bytes(bytes: &[u8]) -> Self
+        requires { length bytes.now ≡ SIZE }
+        ensures { number result ≡ number_of bytes.now };
+
+    // Its bytes, lowest first, in place of what is there.
+    fn to_bytes(self, bytes: &mut [u8])
+        requires { length bytes.old ≡ SIZE }
+        ensures { bytes.new ≡ bytes_of SIZE (number self) };
 }
 
-// The word whose four bytes, lowest first, begin at a place.
-pub fn read32(bs: &[u8], at: usize) -> u32
-    requires { at + 4 ≤ length bs.now }
-    ensures { result ≡ number_of (take 4 (drop at bs.now)) }
-{
-    let b0 = wide(bs[at]);
-    let b1 = wide(bs[at + 1]);
-    let b2 = wide(bs[at + 2]);
-    let b3 = wide(bs[at + 3]);
-    b0 + 256 * b1 + 65536 * b2 + 16777216 * b3
+impl Word for u32 {
+    const SIZE: usize = 4;
+
+    ghost SIZE = { 4 };
+
+    ghost number = { λ x. x };
+
+    fn from_bytes(bytes: &[u8]) -> u32 {
+        u32::from_le_bytes([bytes[0], bytes[1], bytes[2], bytes[3]])
+    }
+
+    fn to_bytes(self, bytes: &mut [u8]) {
+        bytes.copy_from_slice(&self.to_le_bytes());
+    }
 }
 
-// The long word whose eight bytes, lowest first, begin at a place.
-pub fn read64(bs: &[u8], at: usize) -> u64
-    requires { at + 8 ≤ length bs.now }
-    ensures { result ≡ number_of (take 8 (drop at bs.now)) }
-{
-    let lo = read32(bs, at) as u64;
-    let hi = read32(bs, at + 4) as u64;
-    lo + 4294967296 * hi
+impl Word for u64 {
+    const SIZE: usize = 8;
+
+    ghost SIZE = { 8 };
+
+    ghost number = { λ x. x };
+
+    fn from_bytes(bytes: &[u8]) -> u64 {
+        u64::from_le_bytes([
+            bytes[0], bytes[1], bytes[2], bytes[3], bytes[4], bytes[5], bytes[6], bytes[7],
+        ])
+    }
+
+    fn to_bytes(self, bytes: &mut [u8]) {
+        bytes.copy_from_slice(&self.to_le_bytes());
+    }
 }
 
-// Writes the four bytes of x, lowest first, and gives the place behind them.
-pub fn write32(b: &mut [u8], at: usize, x: u32) -> usize
-    requires { at + 4 ≤ length b.old }
-    ensures { Put 4 b.old at (bytes_of 4 x) result b.new }
+// The word whose bytes, lowest first, begin at a place.
+pub fn read<W: Word>(bs: &[u8], at: usize) -> W
+    requires { at + W.SIZE ≤ length bs.now }
+    ensures { W.number result ≡ number_of (take W.SIZE (drop at bs.now)) }
 {
-    b[at] = (x % 256) as u8;
-    b[at + 1] = (x / 256 % 256) as u8;
-    b[at + 2] = (x / 65536 % 256) as u8;
-    b[at + 3] = (x / 16777216 % 256) as u8;
-    at + 4
+    W::from_bytes(&bs[at..at + W::SIZE])
 }
 
-// Writes the eight bytes of x, lowest first, and gives the place behind them.
-pub fn write64(b: &mut [u8], at: usize, x: u64) -> usize
-    requires { at + 8 ≤ length b.old }
-    ensures { Put 8 b.old at (bytes_of 8 x) result b.new }
+// Writes the bytes of x, lowest first, and gives the place behind them.
+pub fn write<W: Word>(b: &mut [u8], at: usize, x: W) -> usize
+    requires { at + W.SIZE ≤ length b.old }
+    ensures { Put W.SIZE b.old at (bytes_of W.SIZE (W.number x)) result b.new }
 {
-    let mid = write32(b, at, (x % 4294967296) as u32);
-    write32(b, mid, (x / 4294967296) as u32)
+    let end = at + W::SIZE;
+    x.to_bytes(&mut b[at..end]);
+    end
 }

@@ -3,7 +3,8 @@
 -- Assumes nothing.
 -- ---- differences and sums of whole numbers
 -- ---- the numbers of the code, n being 2^m: the difference, and what it is compared with
-use Rattle.std.proofs.Common.{◌≡◌, ℕ, zero, suc, ◌+◌, ◌/◌, ◌^◌, ◌≤◌, true, false, ℤ, pos, negsuc, ◌+ℤ◌, ◌-ℤ◌, neg_ℤ, refl, ap, ⊎_elim, arith, pow_mono, to_z-of_z, w64, SFits, to_z, of_z, le-ltb, lt-ltb}
+use Rattle.std.proofs.Common.{◌≡◌, ℕ, zero, suc, ◌+◌, ◌/◌, ◌^◌, ◌≤◌, true, false, ℤ, pos, negsuc, ◌+ℤ◌, ◌-ℤ◌, neg_ℤ, refl, ap, ⊎_elim, arith}
+use Rattle.std.proofs.Common.{pow_mono, to_z-of_z, w64, SFits, to_z, of_z, le-ltb, lt-ltb}
 use lib.IntN.{sub_ℕ}
 use lib.Signed.{mag, lt_z}
 use Rattle.ring.specs.Distance.{signed_of}

@@ -5,14 +5,14 @@ use Prim.Native.Nat.{ℕ}
 use Rattle.rules.specs.declared.Action.{Action}
 use Rattle.face.specs.Calls.{loaded_of, next_of, left_by, moved_by}
 use Rattle.face.specs.declared.Moved.{Moved}
-use Rattle.face_c.specs.declared.Asked.{Asked}
-use Rattle.face_c.specs.declared.Asked.TheVariants.{Is, None}
+use Rattle.std.specs.Prelude.{Option, Some, None, Result}
+use Rattle.rules.specs.declared.Refusal.{Refusal}
 use Rattle.face_c.specs.Words.{letter_of, unknown, via_word, step_left}
 use Rattle.face_c.proofs.Counts.{moved-small}
 use Rattle.face_c.proofs.tarpudhriv_step_via.Goals as goal
 
-module _ (q : Asked) (file out : List ℕ) where
-  step-known : (a : Action) → q ≡ Is a → (m : Moved) (new : List ℕ) (r : ℕ) → r ≡ letter_of m
+module _ (q : Option Action) (file out : List ℕ) where
+  step-known : (a : Action) → q ≡ Some a → (m : Result Moved Refusal) (new : List ℕ) (r : ℕ) → r ≡ letter_of m
       → (m ≡ moved_by (next_of (loaded_of file) a) out) × (new ≡ left_by (next_of (loaded_of file) a) out)
       → (r ≡ via_word q file out) × (new ≡ step_left q file out)
   unfolding via_word step_left
@@ -25,9 +25,9 @@ module _ (q : Asked) (file out : List ℕ) where
 pub lettered-requires : goal.lettered-requires
 lettered-requires c = rw c.step_file.ensures.r (moved-small _ _)
 
-pub returns-in-Is : goal.returns-in-Is
-returns-in-Is c =
-    let e = sym c.action_of.ensures ∙ c.in-Is.is in
+pub returns-in-Some : goal.returns-in-Some
+returns-in-Some c =
+    let e = sym c.action_of.ensures ∙ c.in-Some.is in
     record {
       r = (step-known _ c.args.file.now c.args.out.now _ e _ _ _ c.lettered.ensures (c.step_file.ensures.r, c.step_file.ensures.left)).0;
       left = (step-known _ c.args.file.now c.args.out.now _ e _ _ _ c.lettered.ensures (c.step_file.ensures.r, c.step_file.ensures.left)).1;

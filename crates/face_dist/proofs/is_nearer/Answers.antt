@@ -7,7 +7,7 @@ pub nearer-requires : goal.nearer-requires
 nearer-requires c = three _ _ _ _ (sym c.three_inside.ensures ∙ c.if-three_inside.true)
 
 pub returns-then-three_inside : goal.returns-then-three_inside
-returns-then-three_inside c = rw (← c.three_inside.ensures, c.if-three_inside.true, c.answered.ensures, c.nearer.ensures)
+returns-then-three_inside c = rw (← c.three_inside.ensures, c.if-three_inside.true, c.nearer.ensures)
 
 pub returns-else-three_inside : goal.returns-else-three_inside
 returns-else-three_inside c = rw (← c.three_inside.ensures, c.if-three_inside.false)

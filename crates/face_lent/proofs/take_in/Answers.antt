@@ -15,26 +15,25 @@ returns-then-n-eq0 c =
 pub loop-i-init : goal.loop-i-init
 loop-i-init c =
     rw c.blank_pool-x.ensures
-    (record { few = omega arith; counted = omega arith; long = length-replicate 256 blank; copied = copied_none blank c.args.pool.now blanks })
+    (record { counted = omega arith; long = length-replicate 256 blank; copied = copied_none blank c.args.pool.now blanks })
 
 pub offset_bounds-pool-i : goal.offset_bounds-pool-i
-offset_bounds-pool-i c = omega (arith, within _ _ _ (either _ _ c.places-n.ensures) c.loop-i-test.true)
+offset_bounds-pool-i c = omega (arith, within _ _ c.loop-i.i (either _ _ c.places-n.ensures) (omega arith))
 
 pub bounds-pool-i : goal.bounds-pool-i
-bounds-pool-i c = (within _ _ _ (either _ _ c.places-n.ensures) c.loop-i-test.true).0
+bounds-pool-i c = (within _ _ c.loop-i.i (either _ _ c.places-n.ensures) (omega arith)).0
 
 pub offset_bounds-x-i : goal.offset_bounds-x-i
-offset_bounds-x-i c = omega (arith, within _ _ _ (either _ _ c.places-n.ensures) c.loop-i-test.true)
+offset_bounds-x-i c = omega (arith, within _ _ c.loop-i.i (either _ _ c.places-n.ensures) (omega arith))
 
 pub bounds-x-i : goal.bounds-x-i
-bounds-x-i c = (within _ _ _ (either _ _ c.places-n.ensures) c.loop-i-test.true).1
+bounds-x-i c = (within _ _ c.loop-i.i (either _ _ c.places-n.ensures) (omega arith)).1
 
 pub loop-i-preserved : goal.loop-i-preserved
 loop-i-preserved c =
     let v = c.loop-i.invariant in
-    let low = within _ _ _ (either _ _ c.places-n.ensures) c.loop-i-test.true in
+    let low = within _ _ c.loop-i.i (either _ _ c.places-n.ensures) (omega arith) in
     record {
-      few = omega arith;
       counted = v.counted;
       long = simp length-set v.long;
       copied = copied_more blank _ _ c.loop-i.i (omega (arith, v.long, low.1)) v.copied;
@@ -45,6 +44,6 @@ unfolding taken_of
 returns c =
     let v = c.loop-i.invariant in
     let some = either _ _ c.places-n.ensures in
-    let all = copied-done blank c.args.pool.now c.loop-i.x.places blanks _ _ c.loop-i.i some c.loop-i-test.false v.few (λ e. e) (λ e. v.long) v.copied
+    let all = copied-done blank c.args.pool.now c.loop-i.x.places blanks _ _ c.loop-i.i some (omega arith) (omega arith) (λ e. e) (λ e. v.long) v.copied
     (λ e. absurd (c.if-n-eq0.false (omega (arith, e)))) in
     same_pool c.loop-i.x v.counted all

@@ -1,5 +1,5 @@
--- `face_lent::take_in`: the first i places of the pool are those of the list. The measure is what is left of the places. Assumes nothing.
-use Rattle.std.proofs.Common.{◌≡◌, ◌-◌, ◌≤◌, length}
+-- `face_lent::take_in`: the first i places of the pool are those of the list. Assumes nothing.
+use Rattle.std.proofs.Common.{◌≡◌, length}
 use Rattle.rules.specs.Pool.{blank}
 use Rattle.face_lent.proofs.Laws.{Copied}
 use Rattle.face_lent.proofs.take_in.Given as goal
@@ -7,11 +7,7 @@ use Rattle.face_lent.proofs.take_in.Given as goal
 abbrev pub invariant-loop-i : goal.invariant-loop-i
 invariant-loop-i l =
     record {
-      few : l.i ≤ l.n;
       counted : l.x.count ≡ l.count;
       long : length l.x.places ≡ 256;
       copied : Copied blank l.pool l.x.places l.i;
     }
-
-abbrev pub decreases-loop-i : goal.decreases-loop-i
-decreases-loop-i l = l.n - l.i

@@ -1,4 +1,4 @@
--- `face_table::settled` meets its contract: its three tests are the definition's, and a valid table is listed as the last one asks. Assumes nothing.
+-- `face_table::settled` meets its contract: its two tests are the definition's, and a valid table is listed as the question asks. Assumes nothing.
 use borrow.Author.Tests.{eq-eqb, ne_eqb}
 use mathlib.Core.Path.{◌≡◌, sym, ◌∙◌}
 use mathlib.Core.Bool.{true, false}
@@ -10,27 +10,23 @@ use Rattle.table_type.specs.declared.Table.{Table}
 use Rattle.table.specs.Settled.{is_settled}
 use Rattle.step.specs.Step.{is_sound}
 use Rattle.table.specs.Valid.{valid_of}
-use Rattle.face.specs.declared.Rest.TheVariants.{Settled, Unsettled, NotAsked}
+use Rattle.std.specs.Prelude.{Bool, Ok, Err}
 use Rattle.face.specs.Asked.{rest_of}
 use Rattle.face_table.proofs.settled.Goals as goal
 
 module _ (t : Table) (p : Pool) (len : ℕ) where
-  no-list : (len ≡ 256 → ⊥) → NotAsked no.Invalid ≡ rest_of t p len
+  no-list : (len ≡ 256 → ⊥) → Err no.Invalid ≡ rest_of t p len
   unfolding rest_of is_sound
   no-list d = rw (ne_eqb len 256 d)
 
   module _ (e : len ≡ 256) where
-    not_valid : valid_of t p ≡ false → NotAsked no.Invalid ≡ rest_of t p len
+    not_valid : valid_of t p ≡ false → Err no.Invalid ≡ rest_of t p len
     unfolding rest_of is_sound
     not_valid v = rw (eq-eqb len 256 e, v)
 
-    at_rest : valid_of t p ≡ true → is_settled t ≡ true → Settled ≡ rest_of t p len
+    asked : valid_of t p ≡ true → (b : Bool) → b ≡ is_settled t → Ok b ≡ rest_of t p len
     unfolding rest_of is_sound
-    at_rest v s = rw (eq-eqb len 256 e, v, s)
-
-    not-at-rest : valid_of t p ≡ true → is_settled t ≡ false → Unsettled ≡ rest_of t p len
-    unfolding rest_of is_sound
-    not-at-rest v s = rw (eq-eqb len 256 e, v, s)
+    asked v b s = rw (eq-eqb len 256 e, v, s)
 
 pub returns-then-len-ne256 : goal.returns-then-len-ne256
 returns-then-len-ne256 c = no-list _ _ _ c.if-len-ne256.true
@@ -41,10 +37,5 @@ returns-then-not-is_valid c = not_valid _ _ _ c.if-len-ne256.false (sym c.is_val
 pub is_settled_table-requires : goal.is_settled_table-requires
 is_settled_table-requires c = (sound _ _ (sym c.is_valid.ensures ∙ c.if-not-is_valid.false)).listed
 
-pub returns-then-is_settled_table : goal.returns-then-is_settled_table
-returns-then-is_settled_table c = at_rest _ _ _ c.if-len-ne256.false (sym c.is_valid.ensures ∙ c.if-not-is_valid.false)
-    (sym c.is_settled_table.ensures ∙ c.if-is_settled_table.true)
-
-pub returns-else-is_settled_table : goal.returns-else-is_settled_table
-returns-else-is_settled_table c = not-at-rest _ _ _ c.if-len-ne256.false (sym c.is_valid.ensures ∙ c.if-not-is_valid.false)
-    (sym c.is_settled_table.ensures ∙ c.if-is_settled_table.false)
+pub returns : goal.returns
+returns c = asked _ _ _ c.if-len-ne256.false (sym c.is_valid.ensures ∙ c.if-not-is_valid.false) _ c.is_settled_table.ensures

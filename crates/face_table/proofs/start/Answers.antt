@@ -1,9 +1,9 @@
 -- `face_table::start` meets its contract: the length and the answer of the table's own start decide the definition's case. Assumes nothing.
+use Rattle.std.specs.Prelude.{Ok, Err}
 use borrow.Author.Tests.{eq-eqb, ne_eqb}
 use mathlib.Core.Path.{◌≡◌, ◌∙◌}
 use mathlib.Core.List.{List, []}
 use Prim.Native.Nat.{ℕ}
-use Rattle.rules.specs.declared.Answer.TheVariants.{Done, Refused}
 use Rattle.rules.specs.declared.Pool.{Pool}
 use Rattle.rules.specs.declared.Refusal.{Refusal}
 use Rattle.rules.specs.declared.Refusal.TheVariants as no
@@ -21,22 +21,22 @@ module _ (t : Table) (p : Pool) (len m l : ℕ) (ids : List ℕ) (a : ℕ) where
   no-list d = rw (ne_eqb len 256 d)
 
   module _ (e : len ≡ 256) (made : Started) (is : made ≡ start_of m l ids a) where
-    made-done : made.answer ≡ Done → (q : Pool) → q ≡ laid [] → done_of made.table q ≡ start_step t p len m l ids a
+    made-done : made.answer ≡ Ok tt → (q : Pool) → q ≡ laid [] → done_of made.table q ≡ start_step t p len m l ids a
     unfolding start_step
     made-done d q none = rw (eq-eqb len 256 e, ← is, d, none)
 
-    made-refused : (why : Refusal) → made.answer ≡ Refused why → refused_of t p why ≡ start_step t p len m l ids a
+    made-refused : (why : Refusal) → made.answer ≡ Err why → refused_of t p why ≡ start_step t p len m l ids a
     unfolding start_step
     made-refused why d = rw (eq-eqb len 256 e, ← is, d)
 
 pub returns-then-len-ne256 : goal.returns-then-len-ne256
 returns-then-len-ne256 c = c.refused.ensures ∙ no-list _ _ _ _ _ _ _ c.if-len-ne256.true
 
-pub returns-in-Done : goal.returns-in-Done
-returns-in-Done c = c.done.ensures
-    ∙ made-done _ _ _ _ _ _ _ c.if-len-ne256.false c.start-made.result c.start-made.ensures c.in-Done.is
+pub returns-in-Ok : goal.returns-in-Ok
+returns-in-Ok c = c.done.ensures
+    ∙ made-done _ _ _ _ _ _ _ c.if-len-ne256.false c.start-made.result c.start-made.ensures c.in-Ok.is
     c.no_messages.result c.no_messages.ensures
 
-pub returns-in-Refused : goal.returns-in-Refused
-returns-in-Refused c = c.refused-in-Refused.ensures
-    ∙ made-refused _ _ _ _ _ _ _ c.if-len-ne256.false c.start-made.result c.start-made.ensures _ c.in-Refused.is
+pub returns-in-Err : goal.returns-in-Err
+returns-in-Err c = c.refused-in-Err.ensures
+    ∙ made-refused _ _ _ _ _ _ _ c.if-len-ne256.false c.start-made.result c.start-made.ensures _ c.in-Err.is

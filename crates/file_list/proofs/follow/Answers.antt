@@ -2,10 +2,9 @@
 use borrow.Author.Rules.{rules}
 use mathlib.Core.Path.{◌≡◌, refl, sym, ◌∙◌}
 use mathlib.Core.List.{List}
-use Prim.Native.Nat.{ℕ, ◌<◌, ◌≤◌, zero-le}
+use Prim.Native.Nat.{ℕ, ◌<◌}
 use native.Mathlib.Omega.{arith}
 use lib.ListN.{length, take}
-use lib.Seq.{length-take-le}
 use Rattle.rules.specs.declared.Ring.{Ring}
 use Rattle.rules.specs.Pool.{message_at}
 use Rattle.table_type.specs.declared.Table.{Table}
@@ -30,12 +29,15 @@ told : (t : Table) {g : Ring} {ids : List ℕ} {dead : ℕ} → g ≡ ring_of t 
     → (i k : ℕ) (x y : Turn) → x ≡ turn_of g ids dead i (node_at t i) k → x ≡ y → turn_at t k i ≡ y
 told t p q r i k x y e is = sym (e ∙ same_turn i (node_at t i) k p q r) ∙ is
 
+pub roster-r-requires : goal.roster-r-requires
+roster-r-requires c = (sound c.args.t c.args.p c.requires.0).listed
+
 pub dead_set-dead-requires : goal.dead_set-dead-requires
 dead_set-dead-requires c = (sound c.args.t c.args.p c.requires.0).listed.n-high
 
 pub lookups-init : goal.lookups-init
 unfolding lines_of
-lookups-init c = (zero-le, stay _ _ (omega (arith, c.requires.1)))
+lookups-init c = stay _ _ (omega (arith, c.requires.1))
 
 pub offset_bounds-p-q : goal.offset_bounds-p-q
 offset_bounds-p-q c = omega (arith, (sound c.args.t c.args.p c.requires.0).counted)
@@ -56,14 +58,13 @@ bounds-t-i c = inside (lone c.args.t c.args.p c.requires.0 c.lookups.q c.lookups
 
 pub turn_at-turn-requires : goal.turn_at-turn-requires
 turn_at-turn-requires c =
-    asked (lone c.args.t c.args.p c.requires.0 c.lookups.q c.lookups-test.true c.if-m-eq1.true) c.ring_of-g.ensures
-    c.ids-ids.ensures c.hops.invariant
+    asked (lone c.args.t c.args.p c.requires.0 c.lookups.q c.lookups-test.true c.if-m-eq1.true) c.roster-r.ensures.ring c.hops.invariant
 
 pub hops-preserved : goal.hops-preserved
 hops-preserved c =
     let a = c.args in
     let goes =
-    told a.t c.ring_of-g.ensures c.ids-ids.ensures c.dead_set-dead.ensures c.hops.i (message_at a.p c.lookups.q).word
+    told a.t c.roster-r.ensures.ring c.roster-r.ensures.ids c.dead_set-dead.ensures c.hops.i (message_at a.p c.lookups.q).word
     _ _ c.turn_at-turn.ensures c.in-Goes.is in
     rw c.letter_of.ensures
     (goes_on (lone a.t a.p c.requires.0 c.lookups.q c.lookups-test.true c.if-m-eq1.true) c.hops.invariant (omega arith) goes)
@@ -74,23 +75,21 @@ put_line-at-requires c =
     let m = message_at a.p c.lookups.q in
     let one = lone a.t a.p c.requires.0 c.lookups.q c.lookups-test.true c.if-m-eq1.true in
     let way = c.hops.invariant in
-    let same = told a.t c.ring_of-g.ensures c.ids-ids.ensures c.dead_set-dead.ensures c.hops.i m.word in
+    let same = told a.t c.roster-r.ensures.ring c.roster-r.ensures.ids c.dead_set-dead.ensures c.hops.i m.word in
     let trip : ended c.hops-test.end (take c.hops.hops c.hops.letters) ≡ follow_of a.t m =
     elim c.hops-test.branch [
       | else-hops-test w ↦ rw w.end-is (unended way w.hops-test.false)
       | then-hops-test+in-Delivers w ↦ rw w.end-is (delivered way w.hops-test.true (same _ _ w.turn_at-turn.ensures w.in-Delivers.is))
       | then-hops-test+in-Stops w ↦ rw w.end-is (stopped way w.hops-test.true (same _ _ w.turn_at-turn.ensures w.in-Stops.is))
     ] in
-    let low : c.hops.hops ≤ length c.hops.letters = omega (arith, way.few, way.long) in
-    let line = line-told a.t m c.ids-ids.ensures trip in (
+    let line = line-told a.t m c.roster-r.ensures.ids trip in (
       omega (arith, lone-slot one, (lone-listed one).n-high),
       (trip-ends one trip).0,
-      rw (length-take-le _ _ low) at (trip-ends one trip).1,
-      low,
+      (trip-ends one trip).1,
       rw line (omega (
         arith,
         line-short one,
-        lines_end a.t a.p c.requires.0 c.lookups.q c.lookups.invariant.0 c.lookups.invariant.1,
+        lines_end a.t a.p c.requires.0 c.lookups.q (omega arith) c.lookups.invariant,
         (sound a.t a.p c.requires.0).counted,
         c.requires.1,
       )),
@@ -101,27 +100,20 @@ lookups-preserved c =
     let a = c.args in
     let m = message_at a.p c.lookups.q in
     let full : length a.p.places ≡ 256 = search (length-mapped, rules) in
-    let h : c.lookups.q < length a.p.places = omega (arith, full, (sound a.t a.p c.requires.0).counted) in (
-      omega arith,
-      elim c.if-m-eq1.branch [
-        | then-m-eq1 w ↦
-            let way = w.hops.invariant in
-            let same = told a.t c.ring_of-g.ensures c.ids-ids.ensures c.dead_set-dead.ensures w.hops.i m.word in
-            let trip : ended w.hops-test.end (take w.hops.hops w.hops.letters) ≡ follow_of a.t m =
-            elim w.hops-test.branch [
-              | else-hops-test v ↦ rw v.end-is (unended way v.hops-test.false)
-              | then-hops-test+in-Delivers v ↦
-                  rw v.end-is (delivered way v.hops-test.true (same _ _ v.turn_at-turn.ensures v.in-Delivers.is))
-              | then-hops-test+in-Stops v ↦ rw v.end-is (stopped way v.hops-test.true (same _ _ v.turn_at-turn.ensures v.in-Stops.is))
-            ] in
-            rw (w.b-is, w.at-is)
-            (lines-line a.t a.p.places c.lookups.q h w.if-m-eq1.true c.lookups.invariant.1
-            (rw (line-told a.t m c.ids-ids.ensures trip) at w.put_line-at.ensures))
-        | else-m-eq1 w ↦ rw (w.b-is, w.at-is) (lines-skip a.t a.p.places c.lookups.q h w.if-m-eq1.false c.lookups.invariant.1)
-      ],
-    )
-
-pub returns : goal.returns
-returns c =
-    let e : c.lookups.q ≡ c.args.p.count = omega arith in
-    rw e at c.lookups.invariant.1
+    let h : c.lookups.q < length a.p.places = omega (arith, full, (sound a.t a.p c.requires.0).counted) in
+    elim c.if-m-eq1.branch [
+      | then-m-eq1 w ↦
+          let way = w.hops.invariant in
+          let same = told a.t c.roster-r.ensures.ring c.roster-r.ensures.ids c.dead_set-dead.ensures w.hops.i m.word in
+          let trip : ended w.hops-test.end (take w.hops.hops w.hops.letters) ≡ follow_of a.t m =
+          elim w.hops-test.branch [
+            | else-hops-test v ↦ rw v.end-is (unended way v.hops-test.false)
+            | then-hops-test+in-Delivers v ↦
+                rw v.end-is (delivered way v.hops-test.true (same _ _ v.turn_at-turn.ensures v.in-Delivers.is))
+            | then-hops-test+in-Stops v ↦ rw v.end-is (stopped way v.hops-test.true (same _ _ v.turn_at-turn.ensures v.in-Stops.is))
+          ] in
+          rw (w.b-is, w.at-is)
+          (lines-line a.t a.p.places c.lookups.q h w.if-m-eq1.true c.lookups.invariant
+          (rw (line-told a.t m c.roster-r.ensures.ids trip) at w.put_line-at.ensures))
+      | else-m-eq1 w ↦ rw (w.b-is, w.at-is) (lines-skip a.t a.p.places c.lookups.q h w.if-m-eq1.false c.lookups.invariant)
+    ]

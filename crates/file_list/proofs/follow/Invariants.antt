@@ -1,6 +1,6 @@
 -- `file_list::follow` meets its contract. The invariants: the lines of the messages passed stand in the buffer; what remains of a lookup's way
--- gives its trip (Underway). The measures: the messages left, and the takes left. Assumes nothing.
-use Prim.Native.Nat.{◌-◌, ◌≤◌}
+-- gives its trip (Underway). The measure: the takes left. Assumes nothing.
+use Prim.Native.Nat.{◌-◌}
 use lib.ListN.{take}
 use Rattle.listing.specs.Print.{lines_of}
 use Rattle.text.specs.InnerPrints.{Prints}
@@ -14,7 +14,4 @@ abbrev pub decreases-hops : goal.decreases-hops
 decreases-hops l = 64 - l.hops
 
 abbrev pub invariant-lookups : goal.invariant-lookups
-invariant-lookups l = (l.q ≤ l.n) × Prints l.initial.b l.initial.at (lines_of l.t (take l.q l.p.places)) l.at l.b
-
-abbrev pub decreases-lookups : goal.decreases-lookups
-decreases-lookups l = l.n - l.q
+invariant-lookups l = Prints l.initial.b l.initial.at (lines_of l.t (take l.q l.p.places)) l.at l.b

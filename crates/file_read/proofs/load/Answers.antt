@@ -8,17 +8,11 @@ pub returns-then-file-lt32 : goal.returns-then-file-lt32
 returns-then-file-lt32 c = let a = c.args in
     c.refused.ensures ∙ sym (load-short a.file.now a.t a.p a.len c.if-file-lt32.true)
 
-pub header_fits-requires : goal.header_fits-requires
-header_fits-requires c = c.if-file-lt32.false
-
 pub returns-then-not-header_fits : goal.returns-then-not-header_fits
 returns-then-not-header_fits c = let a = c.args in
     c.refused-then-not-header_fits.ensures
     ∙ sym (load-header a.file.now a.t a.p a.len c.if-file-lt32.false
     (sym c.header_fits.ensures ∙ c.if-not-header_fits.true))
-
-pub offsets_fit-requires : goal.offsets_fit-requires
-offsets_fit-requires c = c.if-file-lt32.false
 
 pub returns-then-not-offsets_fit : goal.returns-then-not-offsets_fit
 returns-then-not-offsets_fit c = let a = c.args in
@@ -35,13 +29,6 @@ returns-then-len-ne256 c = let fits : Fitting c.args.file.now = record {
     let a = c.args in
     c.refused-then-len-ne256.ensures
     ∙ sym (load-places a.file.now a.t a.p a.len c.if-file-lt32.false (fits) c.if-len-ne256.true)
-
-pub load_records-requires : goal.load_records-requires
-load_records-requires c = let fits : Fitting c.args.file.now = record {
-  header = sym c.header_fits.ensures ∙ c.if-not-header_fits.false;
-  offsets = sym c.offsets_fit.ensures ∙ c.if-not-offsets_fit.false;
-} in
-    fits
 
 pub returns : goal.returns
 returns c = let fits : Fitting c.args.file.now = record {

@@ -13,12 +13,6 @@ returns-then-not-statuses_fit c = let a = c.args in
     c.refused.ensures
     ∙ sym (records-status a.file.now a.t a.p (sym c.statuses_fit.ensures ∙ c.if-not-statuses_fit.true))
 
-pub read_table-u-requires : goal.read_table-u-requires
-read_table-u-requires c = c.requires
-
-pub read_messages-q-requires : goal.read_messages-q-requires
-read_messages-q-requires c = c.requires
-
 pub returns-then-not-is_valid : goal.returns-then-not-is_valid
 returns-then-not-is_valid c = let a = c.args in
     let e = sym c.is_valid.ensures ∙ c.if-not-is_valid.true in

@@ -1,6 +1,6 @@
 -- The answers. Assumes nothing.
 use mathlib.Core.Path.{◌≡◌, refl, sym, ◌∙◌}
-use Prim.Native.Nat.{◌+◌, ◌*◌, zero-le}
+use Prim.Native.Nat.{◌+◌, ◌*◌}
 use native.Mathlib.Omega.{arith}
 use borrow.Author.Tests.{le-leb, lt-leb}
 use lib.ListN.{length, get_or, drop}
@@ -14,45 +14,30 @@ use Rattle.file_read.proofs.Laws.{offsets-long}
 use Rattle.file_read.proofs.statuses_fit.Invariants.{fits_at}
 use Rattle.file_read.proofs.statuses_fit.Goals as goal
 
-pub word-n-requires : goal.word-n-requires
-word-n-requires c = (omega arith, c.requires.0)
-
 pub loop-s-init : goal.loop-s-init
 unfolding all_to
-loop-s-init c = (zero-le, refl)
+loop-s-init c = refl
 
-pub overflow_mul-s : goal.overflow_mul-s
-overflow_mul-s c = let long : length c.args.bs.now ≡ total_of (file_n c.args.bs.now) (file_count c.args.bs.now) = offsets-long c.args.bs.now c.requires.1 in
+pub read-requires : goal.read-requires
+read-requires c = let long : length c.args.bs.now ≡ total_of (file_n c.args.bs.now) (file_count c.args.bs.now) = offsets-long c.args.bs.now c.requires.1 in
     omega (arith, long)
 
-pub overflow_add-s : goal.overflow_add-s
-overflow_add-s c = let long : length c.args.bs.now ≡ total_of (file_n c.args.bs.now) (file_count c.args.bs.now) = offsets-long c.args.bs.now c.requires.1 in
-    omega (arith, long)
-
-pub overflow_add-s-in-loop-s : goal.overflow_add-s-in-loop-s
-overflow_add-s-in-loop-s c = let long : length c.args.bs.now ≡ total_of (file_n c.args.bs.now) (file_count c.args.bs.now) = offsets-long c.args.bs.now c.requires.1 in
-    omega (arith, long)
-
-pub read32-requires : goal.read32-requires
-read32-requires c = let long : length c.args.bs.now ≡ total_of (file_n c.args.bs.now) (file_count c.args.bs.now) = offsets-long c.args.bs.now c.requires.1 in
-    omega (arith, long)
-
-pub returns-then-read32-gt3 : goal.returns-then-read32-gt3
+pub returns-then-read-gt3 : goal.returns-then-read-gt3
 unfolding statuses_fit
-returns-then-read32-gt3 c = let status : let bs = c.args.bs.now in
-    get_or (decode node_widths (drop (nodes_at + 64 * c.loop-s.s) bs)) 1 0 ≡ c.read32.result = let bs = c.args.bs.now in
-    decode-at node_widths bs (nodes_at + 64 * c.loop-s.s) 1 (omega arith) ∙ sym c.read32.ensures in
+returns-then-read-gt3 c = let status : let bs = c.args.bs.now in
+    get_or (decode node_widths (drop (nodes_at + 64 * c.loop-s.s) bs)) 1 0 ≡ c.read.result = let bs = c.args.bs.now in
+    decode-at node_widths bs (nodes_at + 64 * c.loop-s.s) 1 (omega arith) ∙ sym c.read.ensures in
     let bs = c.args.bs.now in
-    sym (fails (file_n bs) (fits_at bs) c.loop-s.s (omega arith) (rw (status) (lt-leb _ 3 c.if-read32-gt3.true)))
+    sym (fails (file_n bs) (fits_at bs) c.loop-s.s (omega arith) (rw (status) (lt-leb _ 3 c.if-read-gt3.true)))
 
 pub loop-s-preserved : goal.loop-s-preserved
 loop-s-preserved c = let status : let bs = c.args.bs.now in
-    get_or (decode node_widths (drop (nodes_at + 64 * c.loop-s.s) bs)) 1 0 ≡ c.read32.result = let bs = c.args.bs.now in
-    decode-at node_widths bs (nodes_at + 64 * c.loop-s.s) 1 (omega arith) ∙ sym c.read32.ensures in
+    get_or (decode node_widths (drop (nodes_at + 64 * c.loop-s.s) bs)) 1 0 ≡ c.read.result = let bs = c.args.bs.now in
+    decode-at node_widths bs (nodes_at + 64 * c.loop-s.s) 1 (omega arith) ∙ sym c.read.ensures in
     let bs = c.args.bs.now in
-    (omega arith, more c.loop-s.s (fits_at bs) c.loop-s.invariant.1 (rw (status) (le-leb _ 3 c.if-read32-gt3.false)))
+    more c.loop-s.s (fits_at bs) c.loop-s.invariant (rw (status) (le-leb _ 3 c.if-read-gt3.false))
 
 pub returns : goal.returns
 unfolding statuses_fit
 returns c = let e : file_n c.args.bs.now ≡ c.loop-s.s = omega arith in
-    rw e (sym c.loop-s.invariant.1)
+    rw e (sym c.loop-s.invariant)

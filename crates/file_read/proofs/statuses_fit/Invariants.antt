@@ -1,9 +1,8 @@
--- `file_read::statuses_fit` meets its contract. The invariant: the statuses passed are each one of 0 to 3. The measure: the nodes left.
--- Assumes nothing.
+-- `file_read::statuses_fit` meets its contract. The invariant: the statuses passed are each one of 0 to 3. Assumes nothing.
 use mathlib.Core.Path.{◌≡◌}
 use mathlib.Core.Bool.{Bool, true}
 use mathlib.Core.List.{List}
-use Prim.Native.Nat.{ℕ, ◌+◌, ◌*◌, ◌-◌, ◌≤◌}
+use Prim.Native.Nat.{ℕ, ◌+◌, ◌*◌}
 use lib.Dec.{leb}
 use lib.ListN.{get_or, drop}
 use Rattle.marks.specs.Marks.{all_to}
@@ -16,7 +15,4 @@ abbrev pub fits_at : List ℕ → ℕ → Bool
 fits_at bs s = leb (get_or (decode node_widths (drop (nodes_at + 64 * s) bs)) 1 0) 3
 
 abbrev pub invariant-loop-s : goal.invariant-loop-s
-invariant-loop-s l = (l.s ≤ l.n) × (all_to l.s (fits_at l.bs) ≡ true)
-
-abbrev pub decreases-loop-s : goal.decreases-loop-s
-decreases-loop-s l = l.n - l.s
+invariant-loop-s l = all_to l.s (fits_at l.bs) ≡ true

@@ -4,4 +4,4 @@ use Rattle.file_read.proofs.Laws.{header-word}
 use Rattle.file_read.proofs.word.Goals as goal
 
 pub returns : goal.returns
-returns c = c.read32.ensures ∙ sym (header-word c.args.bs.now c.args.i c.requires.0)
+returns c = c.read.ensures ∙ sym (header-word c.args.bs.now c.args.i c.requires.0)

@@ -3,4 +3,4 @@ use Rattle.file_write.proofs.Laws.{header-run}
 use Rattle.file_write.proofs.put_header.Goals as goal
 
 pub returns : goal.returns
-returns c = header-run _ _ _ _ c.pair32-a1.ensures c.pair32-a2.ensures c.pair32-a3.ensures c.pair32.ensures
+returns c = header-run _ _ _ _ c.pair-a1.ensures c.pair-a2.ensures c.pair-a3.ensures c.pair.ensures

@@ -8,12 +8,11 @@ use Rattle.file_write.proofs.write.Goals as goal
 
 pub returns-then-len-ne256 : goal.returns-then-len-ne256
 returns-then-len-ne256 c = let a = c.args in
-    ends-places a.t a.p a.len a.buf.now c.if-len-ne256.true _ c.not_written.ensures
+    ends-places a.t a.p a.len a.buf.now c.if-len-ne256.true
 
 pub returns-then-not-is_valid : goal.returns-then-not-is_valid
 returns-then-not-is_valid c = let a = c.args in
-    ends-invalid a.t a.p a.len a.buf.now (sym c.is_valid.ensures ∙ c.if-not-is_valid.true) _
-    c.not_written-then-not-is_valid.ensures
+    ends-invalid a.t a.p a.len a.buf.now (sym c.is_valid.ensures ∙ c.if-not-is_valid.true)
 
 pub total_of-requires : goal.total_of-requires
 total_of-requires c = let told : valid_of c.args.t c.args.p ≡ true = sym c.is_valid.ensures ∙ c.if-not-is_valid.false in
@@ -22,14 +21,14 @@ total_of-requires c = let told : valid_of c.args.t c.args.p ≡ true = sym c.is_
 pub returns-then-buf-total_of : goal.returns-then-buf-total_of
 returns-then-buf-total_of c = let told : valid_of c.args.t c.args.p ≡ true = sym c.is_valid.ensures ∙ c.if-not-is_valid.false in
     let a = c.args in
-    ends-room a.t a.p a.len a.buf.now c.if-len-ne256.false (told) (omega arith) _ c.not_written-then-buf-total_of.ensures
+    ends-room a.t a.p a.len a.buf.now c.if-len-ne256.false (told) (omega arith)
 
-pub put_file-count-requires : goal.put_file-count-requires
-put_file-count-requires c = let told : valid_of c.args.t c.args.p ≡ true = sym c.is_valid.ensures ∙ c.if-not-is_valid.false in
+pub put_file-requires : goal.put_file-requires
+put_file-requires c = let told : valid_of c.args.t c.args.p ≡ true = sym c.is_valid.ensures ∙ c.if-not-is_valid.false in
     let k = counts _ _ (told) in
     (k.0, k.1, omega arith)
 
 pub returns : goal.returns
 returns c = let told : valid_of c.args.t c.args.p ≡ true = sym c.is_valid.ensures ∙ c.if-not-is_valid.false in
     let a = c.args in
-    ends-done a.t a.p a.len a.buf.now c.if-len-ne256.false (told) (omega arith) _ _ c.put_file-count.ensures
+    ends-done a.t a.p a.len a.buf.now c.if-len-ne256.false (told) (omega arith) _ _ c.put_file.ensures

@@ -1,25 +1,23 @@
 -- `hop::next_hop` meets its contract: both branches are one search over the candidates of the branch taken (next_hop-nearest). Assumes
 -- nothing.
-use mathlib.Core.Path.{◌≡◌, sym, ◌∙◌, subst}
-use mathlib.Core.Bool.{Bool, true, false}
+use Rattle.marks.specs.Marks.{Found}
+use mathlib.Core.Path.{◌≡◌, sym, ◌∙◌}
+use mathlib.Core.Bool.{true, false, cond}
+use mathlib.Core.List.{List}
 use Prim.Native.Nat.{ℕ, ◌^◌, ◌<◌, ◌≤◌}
 use native.Mathlib.Omega.{arith}
 use borrow.Author.Tests.{lt-ltb, le-ltb}
 use Rattle.ring.specs.Distance.{nearer}
 use Rattle.ring.proofs.Order.{nearer-rank}
 use Rattle.ring.specs.InnerRank.{rank}
-use Rattle.marks.specs.declared.Found.{Found}
-use Rattle.marks.specs.declared.Found.TheVariants.{At}
+use Rattle.rules.specs.declared.Node.{Node}
+use Rattle.rules.specs.declared.Ring.{Ring}
 use Rattle.rules.specs.declared.Way.TheVariants.{Near}
-use Rattle.rules.specs.InnerAsks.{Below}
-use Rattle.rules.specs.Pick.{best, best_of}
-use Rattle.rules_laws.proofs.Best.{best-below}
+use Rattle.rules.specs.Hop.{by_leaf, leaf_candidates, route_candidates, next_hop, to_nearer}
+use Rattle.rules.specs.Pick.{best_of}
+use Rattle.rules_laws.proofs.Best.{best_low}
 use Rattle.rules_laws.proofs.Hops.{candidates_of, next_hop-nearest}
 use Rattle.hop.proofs.next_hop.Goals as goal
-use Rattle.hop.proofs.next_hop.Goals.{then-by_leaf, else-by_leaf}
-
-best-low : (ahead : ℕ → ℕ → Bool) (ok : ℕ → Bool) (h : ℕ) → best ahead ok 64 ≡ At h → h < 64
-best-low ahead ok h e = subst (λ (f : Found). Below f 64) e (best-below ahead ok 64)
 
 -- the ranks x of a and y of b compare them
 closer : (N k a b x y : ℕ) → x ≡ rank N k a → y ≡ rank N k b → x < y → nearer N k a b ≡ true
@@ -28,72 +26,26 @@ closer N k a b x y p q h = nearer-rank N k a b ∙ rw (← p, ← q) (lt-ltb x y
 no-closer : (N k a b x y : ℕ) → x ≡ rank N k a → y ≡ rank N k b → y ≤ x → nearer N k a b ≡ false
 no-closer N k a b x y p q h = nearer-rank N k a b ∙ rw (← p, ← q) (le-ltb x y h)
 
+-- the next hop is what the search finds among the candidates, where it is nearer
+hop-is : (g : Ring) (ids : List ℕ) (dead i : ℕ) (v : Node) (k set : ℕ) (f : Found)
+    → set ≡ cond (by_leaf g ids i v) (leaf_candidates dead i v) (route_candidates dead i v) → f ≡ best_of Near (2 ^ g.m) k ids set
+    → next_hop g ids dead i v k ≡ to_nearer g ids i k f
+unfolding candidates_of
+hop-is g ids dead i v k set f p q = rw (next_hop-nearest, q, p)
+
 pub returns-in_default : goal.returns-in_default
-unfolding candidates_of
-returns-in_default c = let chosen : let a = c.args in c.if-by_leaf.candidates ≡ candidates_of a.g a.ids.now a.dead a.i a.v = elim c.if-by_leaf.branch [
-  | then-by_leaf w ↦ rw (← c.by_leaf.ensures, w.if-by_leaf.true) (w.candidates-is ∙ w.leaf_candidates-candidates.ensures)
-  | else-by_leaf w ↦ rw (← c.by_leaf.ensures, w.if-by_leaf.false) (w.candidates-is ∙ w.route_candidates-candidates.ensures)
-] in
-    let found : let a = c.args in
-    c.best.result ≡ best_of Near (2 ^ a.g.m) a.k a.ids.now (candidates_of a.g a.ids.now a.dead a.i a.v) = rw (chosen) at c.best.ensures in
-    rw (next_hop-nearest, ← found, c.in_default.is)
+returns-in_default c = rw (hop-is _ _ _ _ _ _ _ _ c.candidates-set.ensures c.best.ensures, c.in_default.is)
 
-pub offset_bounds-ids-h : goal.offset_bounds-ids-h
-unfolding candidates_of
-offset_bounds-ids-h c = let chosen : let a = c.args in c.if-by_leaf.candidates ≡ candidates_of a.g a.ids.now a.dead a.i a.v = elim c.if-by_leaf.branch [
-  | then-by_leaf w ↦ rw (← c.by_leaf.ensures, w.if-by_leaf.true) (w.candidates-is ∙ w.leaf_candidates-candidates.ensures)
-  | else-by_leaf w ↦ rw (← c.by_leaf.ensures, w.if-by_leaf.false) (w.candidates-is ∙ w.route_candidates-candidates.ensures)
-] in
-    let found : let a = c.args in
-    c.best.result ≡ best_of Near (2 ^ a.g.m) a.k a.ids.now (candidates_of a.g a.ids.now a.dead a.i a.v) = rw (chosen) at c.best.ensures in
-    let there-low : c.in-At.h < 64 = best-low _ _ _ (sym (found) ∙ c.in-At.is) in
-    omega (arith, there-low)
+pub offset_bounds-r-h : goal.offset_bounds-r-h
+offset_bounds-r-h c = omega (arith, best_low _ _ _ (sym c.best.ensures ∙ c.in-Some.is))
 
-pub bounds-ids-h : goal.bounds-ids-h
-unfolding candidates_of
-bounds-ids-h c = let chosen : let a = c.args in c.if-by_leaf.candidates ≡ candidates_of a.g a.ids.now a.dead a.i a.v = elim c.if-by_leaf.branch [
-  | then-by_leaf w ↦ rw (← c.by_leaf.ensures, w.if-by_leaf.true) (w.candidates-is ∙ w.leaf_candidates-candidates.ensures)
-  | else-by_leaf w ↦ rw (← c.by_leaf.ensures, w.if-by_leaf.false) (w.candidates-is ∙ w.route_candidates-candidates.ensures)
-] in
-    let found : let a = c.args in
-    c.best.result ≡ best_of Near (2 ^ a.g.m) a.k a.ids.now (candidates_of a.g a.ids.now a.dead a.i a.v) = rw (chosen) at c.best.ensures in
-    let there-low : c.in-At.h < 64 = best-low _ _ _ (sym (found) ∙ c.in-At.is) in
-    there-low
-
-pub rank-there-requires : goal.rank-there-requires
-unfolding candidates_of
-rank-there-requires c = let chosen : let a = c.args in c.if-by_leaf.candidates ≡ candidates_of a.g a.ids.now a.dead a.i a.v = elim c.if-by_leaf.branch [
-  | then-by_leaf w ↦ rw (← c.by_leaf.ensures, w.if-by_leaf.true) (w.candidates-is ∙ w.leaf_candidates-candidates.ensures)
-  | else-by_leaf w ↦ rw (← c.by_leaf.ensures, w.if-by_leaf.false) (w.candidates-is ∙ w.route_candidates-candidates.ensures)
-] in
-    let found : let a = c.args in
-    c.best.result ≡ best_of Near (2 ^ a.g.m) a.k a.ids.now (candidates_of a.g a.ids.now a.dead a.i a.v) = rw (chosen) at c.best.ensures in
-    let there-low : c.in-At.h < 64 = best-low _ _ _ (sym (found) ∙ c.in-At.is) in
-    let h = c.requires in
-    record { width = h.0.width; first = h.2; second = h.0.ids-in _ (there-low) }
-
-pub rank-here-requires : goal.rank-here-requires
-rank-here-requires c = let h = c.requires in
-    record { width = h.0.width; first = h.2; second = h.0.ids-in _ h.1 }
+pub bounds-r-h : goal.bounds-r-h
+bounds-r-h c = best_low _ _ _ (sym c.best.ensures ∙ c.in-Some.is)
 
 pub returns-then-there-here : goal.returns-then-there-here
-unfolding candidates_of
-returns-then-there-here c = let chosen : let a = c.args in c.if-by_leaf.candidates ≡ candidates_of a.g a.ids.now a.dead a.i a.v = elim c.if-by_leaf.branch [
-  | then-by_leaf w ↦ rw (← c.by_leaf.ensures, w.if-by_leaf.true) (w.candidates-is ∙ w.leaf_candidates-candidates.ensures)
-  | else-by_leaf w ↦ rw (← c.by_leaf.ensures, w.if-by_leaf.false) (w.candidates-is ∙ w.route_candidates-candidates.ensures)
-] in
-    let found : let a = c.args in
-    c.best.result ≡ best_of Near (2 ^ a.g.m) a.k a.ids.now (candidates_of a.g a.ids.now a.dead a.i a.v) = rw (chosen) at c.best.ensures in
-    let e = closer _ _ _ _ _ _ c.rank-there.ensures c.rank-here.ensures (omega arith) in
-    rw (next_hop-nearest, ← found, c.in-At.is, e)
+returns-then-there-here c = let e = closer _ _ _ _ _ _ c.rank-there.ensures c.rank-here.ensures (omega arith) in
+    rw (hop-is _ _ _ _ _ _ _ _ c.candidates-set.ensures c.best.ensures, c.in-Some.is, e)
 
 pub returns-else-there-here : goal.returns-else-there-here
-unfolding candidates_of
-returns-else-there-here c = let chosen : let a = c.args in c.if-by_leaf.candidates ≡ candidates_of a.g a.ids.now a.dead a.i a.v = elim c.if-by_leaf.branch [
-  | then-by_leaf w ↦ rw (← c.by_leaf.ensures, w.if-by_leaf.true) (w.candidates-is ∙ w.leaf_candidates-candidates.ensures)
-  | else-by_leaf w ↦ rw (← c.by_leaf.ensures, w.if-by_leaf.false) (w.candidates-is ∙ w.route_candidates-candidates.ensures)
-] in
-    let found : let a = c.args in
-    c.best.result ≡ best_of Near (2 ^ a.g.m) a.k a.ids.now (candidates_of a.g a.ids.now a.dead a.i a.v) = rw (chosen) at c.best.ensures in
-    let e = no-closer _ _ _ _ _ _ c.rank-there.ensures c.rank-here.ensures (omega arith) in
-    rw (next_hop-nearest, ← found, c.in-At.is, e)
+returns-else-there-here c = let e = no-closer _ _ _ _ _ _ c.rank-there.ensures c.rank-here.ensures (omega arith) in
+    rw (hop-is _ _ _ _ _ _ _ _ c.candidates-set.ensures c.best.ensures, c.in-Some.is, e)

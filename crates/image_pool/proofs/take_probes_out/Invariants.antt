@@ -1,10 +1,6 @@
--- `image_pool::take_probes_out` meets its contract. The invariant: the turns up to `at` are made (Kept). The measure: the records left. Assumes nothing.
-use Prim.Native.Nat.{◌-◌, ◌≤◌}
+-- `image_pool::take_probes_out` meets its contract. The invariant: the turns up to `at` are made (Kept). Assumes nothing.
 use Rattle.image_pool.proofs.Passes.{Kept}
 use Rattle.image_pool.proofs.take_probes_out.Given as goal
 
 abbrev pub invariant-loop-at : goal.invariant-loop-at
-invariant-loop-at l = (l.at ≤ l.count) × Kept l.i l.j l.count l.initial.part l.at l.kept l.part
-
-abbrev pub decreases-loop-at : goal.decreases-loop-at
-decreases-loop-at l = l.count - l.at
+invariant-loop-at l = Kept l.i l.j l.count l.initial.part l.at l.kept l.part

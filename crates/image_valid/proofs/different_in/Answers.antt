@@ -1,6 +1,6 @@
 -- The answers. Assumes nothing.
 use mathlib.Core.Path.{◌≡◌, refl, sym, ◌∙◌, ap}
-use Prim.Native.Nat.{◌-◌, zero-le}
+use Prim.Native.Nat.{◌-◌}
 use native.Mathlib.Omega.{arith}
 use Rattle.rules.specs.Mail.{alike}
 use Rattle.rules.specs.Pool.{message_at}
@@ -11,23 +11,14 @@ use Rattle.image_valid.proofs.Records.{message-in, count-is, places-are, alike-t
 use Rattle.image_valid.proofs.different_in.Goals as goal
 
 pub places-init : goal.places-init
-places-init c = (zero-le, none _ _ _ refl refl, differ-none _)
-
-pub overflow_cast-at : goal.overflow_cast-at
-overflow_cast-at c = let l = (c.places.invariant.1.head c.bucket-h.result (omega arith)).low in omega arith
+places-init c = (none _ _ _ refl refl, differ-none _)
 
 pub chain-init : goal.chain-init
 chain-init c = let bucket-is : let a = c.args in
     c.bucket-h.result ≡ bucket_of (message_at (part_pool a.count a.part.now) c.places.j) = let a = c.args in
     c.bucket-h.ensures ∙ ap bucket_of (c.read_message-m.ensures ∙ sym (message-in a.count a.part.now c.places.j (omega arith))) in
     let k = c.places in
-    starts _ _ c.bucket-h.result _ (bucket-is) (k.invariant.1.head c.bucket-h.result (omega arith))
-
-pub overflow_mul-at : goal.overflow_mul-at
-overflow_mul-at c = let w = c.chain.invariant.low in omega arith
-
-pub read_message-q-requires : goal.read_message-q-requires
-read_message-q-requires c = let w = c.chain.invariant.low in omega arith
+    starts _ _ c.bucket-h.result _ (bucket-is) (k.invariant.0.head c.bucket-h.result (omega arith))
 
 pub returns-then-alike : goal.returns-then-alike
 returns-then-alike c = let met : let a = c.args in
@@ -42,15 +33,6 @@ returns-then-alike c = let met : let a = c.args in
     sym (differ-not p.places p.count (c.chain.at - 1) c.places.j (places-are a.count a.part.now c.requires.1) (omega arith)
     (omega arith) (omega arith) (met ∙ c.if-alike.true))
 
-pub bounds-next-at : goal.bounds-next-at
-bounds-next-at c = let w = c.chain.invariant.low in omega arith
-
-pub chain-smaller : goal.chain-smaller
-chain-smaller c = let k = c.places in
-    let w = c.chain.invariant.low in
-    let l = (k.invariant.1.link (c.chain.at - 1) (omega arith)).low in
-    omega arith
-
 pub chain-preserved : goal.chain-preserved
 chain-preserved c = let met : let a = c.args in
     alike (message_at (part_pool a.count a.part.now) (c.chain.at - 1)) (message_at (part_pool a.count a.part.now) c.places.j) ≡ c.alike.result = let a = c.args in
@@ -59,16 +41,15 @@ chain-preserved c = let met : let a = c.args in
     (omega arith) c.read_message-q.ensures c.read_message-m.ensures c.alike.ensures in
     let k = c.places in
     let w = c.chain.invariant.low in
-    onward _ _ _ _ c.chain.invariant (omega arith) (met ∙ c.if-alike.false) (k.invariant.1.link (c.chain.at - 1) (omega arith))
+    onward _ _ _ _ c.chain.invariant (omega arith) (met ∙ c.if-alike.false) (k.invariant.0.link (c.chain.at - 1) (omega arith))
 
 pub places-preserved : goal.places-preserved
 places-preserved c = let bucket-is : let a = c.args in
     c.bucket-h.result ≡ bucket_of (message_at (part_pool a.count a.part.now) c.places.j) = let a = c.args in
     c.bucket-h.ensures ∙ ap bucket_of (c.read_message-m.ensures ∙ sym (message-in a.count a.part.now c.places.j (omega arith))) in
     let k = c.places in (
-      omega arith,
-      more _ _ _ _ k.invariant.1 (omega arith) c.bucket-h.result (bucket-is) (omega arith),
-      differ-more _ _ _ k.invariant.2 c.chain.invariant (omega arith),
+      more _ _ _ _ k.invariant.0 (omega arith) c.bucket-h.result (bucket-is) (omega arith),
+      differ-more _ _ _ k.invariant.1 c.chain.invariant (omega arith),
     )
 
 pub returns : goal.returns
@@ -76,15 +57,4 @@ returns c = let a = c.args in
     let n = count-is a.count a.part.now in
     let p = part_pool a.count a.part.now in
     sym (differ-all p.places p.count c.places.j (places-are a.count a.part.now c.requires.1) (omega arith) (omega arith)
-    c.places.invariant.2)
-
-{- LEFT
--- LOST cast-at-2 : overflow-cast-at-2
-cast-at-2 : tie.Need-overflow-cast-at-2 invariant-chain decreases-chain invariant-places decreases-places
-cast-at-2 c =
-    let s = c.before.before.before.before in
-    let k = s.before.before.before.before.places in
-    let w = s.chain.invariant.low in
-    let l = (k.invariant.1.link (s.chain.at - 1) (omega arith)).low in
-    omega arith
--}
+    c.places.invariant.1)

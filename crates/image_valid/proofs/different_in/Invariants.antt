@@ -1,7 +1,6 @@
 -- `image_valid::different_in` meets its contract. Before place j the table has every place below j in its chain (Chained), and no two of them are equal
 -- (Differ); on the way down a chain all at or above the link differ from j's message (Walk). The places are those of the definition's pool, of which none is
--- made. The measures: the places left, and the link. Assumes nothing.
-use Prim.Native.Nat.{◌-◌, ◌≤◌}
+-- made. The measure: the link. Assumes nothing.
 use Rattle.pool_laws.proofs.Chain.{Differ, Chained, Walk}
 use Rattle.file.specs.Load.{part_pool}
 use Rattle.image_valid.proofs.different_in.Given as goal
@@ -13,7 +12,4 @@ abbrev pub decreases-chain : goal.decreases-chain
 decreases-chain l = l.at
 
 abbrev pub invariant-places : goal.invariant-places
-invariant-places l = (l.j ≤ l.count) × Chained (part_pool l.count l.part).places l.j l.heads l.next × Differ (part_pool l.count l.part).places l.j
-
-abbrev pub decreases-places : goal.decreases-places
-decreases-places l = l.count - l.j
+invariant-places l = Chained (part_pool l.count l.part).places l.j l.heads l.next × Differ (part_pool l.count l.part).places l.j

@@ -1,6 +1,5 @@
 -- The answers. Assumes nothing.
 use mathlib.Core.Path.{◌≡◌, refl, sym, ◌∙◌}
-use Prim.Native.Nat.{zero-le}
 use native.Mathlib.Omega.{arith}
 use Rattle.marks.specs.Marks.{all_to}
 use Rattle.marks.proofs.Laws.{more}
@@ -10,10 +9,7 @@ use Rattle.image_valid.proofs.messages_fit_in.Goals as goal
 
 pub loop-q-init : goal.loop-q-init
 unfolding all_to
-loop-q-init c = (zero-le, refl)
-
-pub place_fits-requires : goal.place_fits-requires
-place_fits-requires c = (c.requires.2, c.requires.3)
+loop-q-init c = refl
 
 pub returns-then-not-place_fits : goal.returns-then-not-place_fits
 returns-then-not-place_fits c = let turn : let a = c.args in
@@ -28,12 +24,9 @@ loop-q-preserved c = let turn : let a = c.args in
     c.place_fits.result ≡ place_in a.g a.ids.now (part_pool a.count a.part.now) c.loop-q.q = let a = c.args in
     place-turn a.count a.part.now a.g a.ids.now c.loop-q.q c.read_message-m.result _ (omega arith)
     c.read_message-m.ensures c.place_fits.ensures in
-    let a = c.args in (
-      omega arith,
-      more c.loop-q.q (place_in a.g a.ids.now (part_pool a.count a.part.now)) c.loop-q.invariant.1
-          (sym (turn) ∙ c.if-not-place_fits.false),
-    )
+    let a = c.args in
+    more c.loop-q.q (place_in a.g a.ids.now (part_pool a.count a.part.now)) c.loop-q.invariant (sym (turn) ∙ c.if-not-place_fits.false)
 
 pub returns : goal.returns
 returns c = let a = c.args in
-    sym (messages-all a.count a.part.now a.g a.ids.now c.loop-q.q (omega arith) c.loop-q.invariant.1)
+    sym (messages-all a.count a.part.now a.g a.ids.now c.loop-q.q (omega arith) c.loop-q.invariant)

@@ -1,14 +1,10 @@
--- `image_valid::messages_fit_in` meets its contract. The invariant: the messages passed fit, hops included. The measure: the messages left. Assumes nothing.
+-- `image_valid::messages_fit_in` meets its contract. The invariant: the messages passed fit, hops included. Assumes nothing.
 use mathlib.Core.Path.{◌≡◌}
 use mathlib.Core.Bool.{true}
-use Prim.Native.Nat.{◌-◌, ◌≤◌}
 use Rattle.marks.specs.Marks.{all_to}
 use Rattle.file.specs.Load.{part_pool}
 use Rattle.image_valid.proofs.Records.{place_in}
 use Rattle.image_valid.proofs.messages_fit_in.Given as goal
 
 abbrev pub invariant-loop-q : goal.invariant-loop-q
-invariant-loop-q l = (l.q ≤ l.count) × (all_to l.q (place_in l.g l.ids (part_pool l.count l.part)) ≡ true)
-
-abbrev pub decreases-loop-q : goal.decreases-loop-q
-decreases-loop-q l = l.count - l.q
+invariant-loop-q l = all_to l.q (place_in l.g l.ids (part_pool l.count l.part)) ≡ true

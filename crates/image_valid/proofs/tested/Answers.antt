@@ -7,25 +7,12 @@ use Rattle.image_valid.proofs.tested.Goals as goal
 pub returns-then-file-lt32 : goal.returns-then-file-lt32
 returns-then-file-lt32 c = λ t p. answer-short c.args.file.now t p c.if-file-lt32.true
 
-pub header_fits-requires : goal.header_fits-requires
-header_fits-requires c = c.if-file-lt32.false
-
 pub returns-then-not-header_fits : goal.returns-then-not-header_fits
 returns-then-not-header_fits c = λ t p. answer-header c.args.file.now t p c.if-file-lt32.false (sym c.header_fits.ensures ∙ c.if-not-header_fits.true)
-
-pub offsets_fit-requires : goal.offsets_fit-requires
-offsets_fit-requires c = c.if-file-lt32.false
 
 pub returns-then-not-offsets_fit : goal.returns-then-not-offsets_fit
 returns-then-not-offsets_fit c = λ t p. answer-offsets c.args.file.now t p c.if-file-lt32.false (sym c.header_fits.ensures ∙ c.if-not-header_fits.false)
     (sym c.offsets_fit.ensures ∙ c.if-not-offsets_fit.true)
-
-pub records_fit-requires : goal.records_fit-requires
-records_fit-requires c = let fits : Fitting c.args.file.now = record {
-  header = sym c.header_fits.ensures ∙ c.if-not-header_fits.false;
-  offsets = sym c.offsets_fit.ensures ∙ c.if-not-offsets_fit.false;
-} in
-    fits
 
 pub returns-then-records_fit : goal.returns-then-records_fit
 returns-then-records_fit c = let fits : Fitting c.args.file.now = record {

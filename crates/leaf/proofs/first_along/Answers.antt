@@ -17,11 +17,13 @@ looked-requires c = walk_looks _ _ _ _ _ c.requires.0 c.requires.1 _ _ c.along-s
 pub loop-d-preserved : goal.loop-d-preserved
 loop-d-preserved c = let pre = c.requires in
     let at = c.along-s.ensures in
+    let at-d = c.loop-d.invariant in
     let member = sym c.looked.ensures in
     elim c.if-looked.branch [
-      | then-looked w ↦ rw (w.out-is, w.added-out.ensures, w.got-is) (walk-took _ _ _ _ _ pre.0 pre.1 _ _ at.0 at.1 c.loop-d.invariant (λ e. omega arith) (member ∙ w.if-looked.true))
-      | else-looked w ↦ rw (w.out-is, w.got-is) (walk-passed _ _ _ _ _ pre.0 pre.1 _ _ at.0 at.1 c.loop-d.invariant (member ∙ w.if-looked.false))
+      | then-looked w ↦ rw (w.out-is, w.added-out.ensures, w.got-is)
+          (walk-took _ _ _ _ _ pre.0 pre.1 _ _ at.0 at.1 at-d (λ e. omega arith) (member ∙ w.if-looked.true))
+      | else-looked w ↦ rw (w.out-is, w.got-is) (walk-passed _ _ _ _ _ pre.0 pre.1 _ _ at.0 at.1 at-d (member ∙ w.if-looked.false))
     ]
 
 pub returns : goal.returns
-returns c = walk_end _ _ _ _ _ c.requires.0 c.requires.1 c.loop-d.invariant c.loop-d-test.false
+returns c = walk_end _ _ _ _ _ c.requires.0 c.requires.1 c.loop-d.invariant (omega arith)

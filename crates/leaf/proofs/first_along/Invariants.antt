@@ -1,11 +1,6 @@
--- `leaf::first_along` meets its contract. The invariant: the walk has come to d steps, taken `out`, and counted `got` (Walked). The
--- measure: the steps left. Assumes nothing.
-use Prim.Native.Nat.{◌-◌}
+-- `leaf::first_along` meets its contract. The invariant: the walk has come to d steps, taken `out`, and counted `got` (Walked). Assumes nothing.
 use Rattle.rules_laws.proofs.Steps.{Walked}
 use Rattle.leaf.proofs.first_along.Given as goal
 
 abbrev pub invariant-loop-d : goal.invariant-loop-d
 invariant-loop-d l = Walked l.up l.set l.i l.n l.l l.d l.out l.got
-
-abbrev pub decreases-loop-d : goal.decreases-loop-d
-decreases-loop-d l = l.n - l.d

@@ -21,6 +21,6 @@ module _ {g : Ring} {ids : List ℕ} (v : Listed g ids) (i : ℕ) (h : i < g.n) 
   made p q = rw (p, q, side-walk-up v i h s.left d g.l, side-walk-down v i h s.right d g.l)
 
 pub returns : goal.returns
-returns c = made c.requires.0 _ c.requires.1 c.args.s c.args.d _ _
+returns c = made c.args.r.now.listed _ c.requires c.args.s c.args.d _ _
     (rw c.joined.ensures at c.first_along-left.ensures)
     (rw c.joined-2.ensures at c.first_along-right.ensures)

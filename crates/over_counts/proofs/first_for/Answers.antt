@@ -15,22 +15,24 @@ use Rattle.counts.specs.Counts.{is_for, first_for}
 use Rattle.over_counts.proofs.first_for.Goals as goal
 
 pub loop-at-init : goal.loop-at-init
-loop-at-init c = (omega arith, record { none = λ q h. absurd (omega arith) })
+loop-at-init c = record { none = λ q h. absurd (omega arith) }
 
 pub returns-then-m-i : goal.returns-then-m-i
 unfolding first_for
-returns-then-m-i c = let turn : (b : Bool) → c.loop-at.at < c.args.p.count → eqb (message_at c.args.p c.loop-at.at).dest c.args.i ≡ b → is_for (waiting c.args.p) c.args.i c.loop-at.at ≡ b = λ b h e. let p = c.args.p in
+returns-then-m-i c = let turn : (b : Bool) → c.loop-at.at < c.args.p.count → eqb (message_at c.args.p c.loop-at.at).dest c.args.i ≡ b
+    → is_for (waiting c.args.p) c.args.i c.loop-at.at ≡ b = λ b h e. let p = c.args.p in
     ap (λ (m : Message). eqb m.dest c.args.i) (get_or-take p.count p.places c.loop-at.at blank h) ∙ e in
     let whole : length (waiting c.args.p) ≡ c.args.p.count = waiting-counted c.args.p _ c.well_formed.0 c.requires in
     sym (first-at _ (is_for (waiting c.args.p) c.args.i) c.loop-at.at (omega (arith, whole))
-    (turn _ (omega arith) (eq-eqb _ _ c.if-m-i.true)) c.loop-at.invariant.1.none)
+    (turn _ (omega arith) (eq-eqb _ _ c.if-m-i.true)) c.loop-at.invariant.none)
 
 pub loop-at-preserved : goal.loop-at-preserved
-loop-at-preserved c = let turn : (b : Bool) → c.loop-at.at < c.args.p.count → eqb (message_at c.args.p c.loop-at.at).dest c.args.i ≡ b → is_for (waiting c.args.p) c.args.i c.loop-at.at ≡ b = λ b h e. let p = c.args.p in
+loop-at-preserved c = let turn : (b : Bool) → c.loop-at.at < c.args.p.count → eqb (message_at c.args.p c.loop-at.at).dest c.args.i ≡ b
+    → is_for (waiting c.args.p) c.args.i c.loop-at.at ≡ b = λ b h e. let p = c.args.p in
     ap (λ (m : Message). eqb m.dest c.args.i) (get_or-take p.count p.places c.loop-at.at blank h) ∙ e in
-    (omega arith, none_more _ _ c.loop-at.invariant.1 (turn _ (omega arith) (ne_eqb _ _ c.if-m-i.false)))
+    none_more _ _ c.loop-at.invariant (turn _ (omega arith) (ne_eqb _ _ c.if-m-i.false))
 
 pub returns : goal.returns
 unfolding first_for
 returns c = let whole : length (waiting c.args.p) ≡ c.args.p.count = waiting-counted c.args.p _ c.well_formed.0 c.requires in
-    sym (first-nothing _ (is_for (waiting c.args.p) c.args.i) (λ q h. c.loop-at.invariant.1.none q (omega (arith, whole))))
+    sym (first-nothing _ (is_for (waiting c.args.p) c.args.i) (λ q h. c.loop-at.invariant.none q (omega (arith, whole))))

@@ -1,6 +1,8 @@
 -- `over_counts::first_message` meets its contract: the definition's tests, in its order. A valid table has at most 64 slots, and a valid pool at most 256
 -- messages. Assumes nothing.
-use mathlib.Core.Path.{◌≡◌, sym, ◌∙◌}
+use Rattle.marks.specs.Marks.{Found}
+use mathlib.Core.Path.{◌≡◌, sym, ◌∙◌, ap}
+use Rattle.std.specs.Prelude.{Ok}
 use mathlib.Core.Bool.{true}
 use Prim.Native.Nat.{◌<◌}
 use native.Mathlib.Omega.{arith}
@@ -34,11 +36,11 @@ overflow_cast-i c = let good : is_sound_counted c.args.x c.args.len ≡ true = s
     let low : c.args.i < 64 = omega (arith, (tells _ _ (good)).numbers.n-high) in
     omega (arith, low)
 
-pub first_said-requires : goal.first_said-requires
-first_said-requires c = let good : is_sound_counted c.args.x c.args.len ≡ true = sym c.is_sound.ensures ∙ c.if-not-is_sound.false in
+pub first_for-requires : goal.first_for-requires
+first_for-requires c = let good : is_sound_counted c.args.x c.args.len ≡ true = sym c.is_sound.ensures ∙ c.if-not-is_sound.false in
     (tells _ _ (good)).counted
 
 pub returns : goal.returns
 returns c = let good : is_sound_counted c.args.x c.args.len ≡ true = sym c.is_sound.ensures ∙ c.if-not-is_sound.false in
-    c.first_said.ensures
+    ap (λ (found : Found). Ok found) c.first_for.ensures
     ∙ first-walked _ _ (good) _ (omega arith) c.if-counts-i-eq0.false

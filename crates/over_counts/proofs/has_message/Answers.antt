@@ -4,7 +4,7 @@ use mathlib.Core.Bool.{true}
 use Prim.Native.Nat.{◌<◌}
 use native.Mathlib.Omega.{arith}
 use Rattle.counts.specs.Counts.{is_sound_counted}
-use Rattle.counts.proofs.ByCase.{tells, has-invalid, has-out, has-yes, has_no}
+use Rattle.counts.proofs.ByCase.{tells, has-invalid, has-out, has-told}
 use Rattle.over_counts.proofs.has_message.Goals as goal
 
 pub returns-then-not-is_sound : goal.returns-then-not-is_sound
@@ -24,10 +24,6 @@ bounds-counts-i c = let good : is_sound_counted c.args.x c.args.len ≡ true = s
     let low : c.args.i < 64 = omega (arith, (tells _ _ (good)).numbers.n-high) in
     low
 
-pub returns-then-counts-i-gt0 : goal.returns-then-counts-i-gt0
-returns-then-counts-i-gt0 c = let good : is_sound_counted c.args.x c.args.len ≡ true = sym c.is_sound.ensures ∙ c.if-not-is_sound.false in
-    has-yes _ _ (good) _ (omega arith) (omega arith)
-
-pub returns-else-counts-i-gt0 : goal.returns-else-counts-i-gt0
-returns-else-counts-i-gt0 c = let good : is_sound_counted c.args.x c.args.len ≡ true = sym c.is_sound.ensures ∙ c.if-not-is_sound.false in
-    has_no _ _ (good) _ (omega arith) (omega arith)
+pub returns : goal.returns
+returns c = let good : is_sound_counted c.args.x c.args.len ≡ true = sym c.is_sound.ensures ∙ c.if-not-is_sound.false in
+    has-told _ _ (good) _ (omega arith)

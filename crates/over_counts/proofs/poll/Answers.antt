@@ -1,7 +1,7 @@
 -- `over_counts::poll` meets its contract: the definition's test; a valid table has at most 64 slots. Assumes nothing.
 use mathlib.Core.Path.{◌≡◌, sym, ◌∙◌, ap}
 use mathlib.Core.Bool.{true}
-use Rattle.counts.specs.declared.Polled.TheVariants as polled
+use Rattle.std.specs.Prelude.{ℕ, Ok}
 use Rattle.counts.specs.Counts.{is_sound_counted}
 use Rattle.counts.proofs.ByCase.{tells, polled-invalid, polled-nodes}
 use Rattle.over_counts.proofs.poll.Goals as goal
@@ -15,4 +15,4 @@ nodes_counted-requires c = let good : is_sound_counted c.args.x c.args.len ≡ t
 
 pub returns : goal.returns
 returns c = let good : is_sound_counted c.args.x c.args.len ≡ true = sym c.is_sound.ensures ∙ c.if-not-is_sound.false in
-    ap polled.Nodes c.nodes_counted.ensures ∙ polled-nodes _ _ (good)
+    ap (λ (set : ℕ). Ok set) c.nodes_counted.ensures ∙ polled-nodes _ _ (good)

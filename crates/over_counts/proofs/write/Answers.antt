@@ -6,7 +6,7 @@ use Rattle.over_counts.proofs.write.Goals as goal
 pub returns-then-not-agree : goal.returns-then-not-agree
 returns-then-not-agree c = let a = c.args in
     let e = sym c.agree.ensures ∙ c.if-not-agree.true in
-    (c.not_written.ensures ∙ wrote-disagreed a.x a.len e _, written-disagreed a.x a.len e _)
+    (wrote-disagreed a.x a.len e _, written-disagreed a.x a.len e _)
 
 pub returns : goal.returns
 returns c = let a = c.args in

@@ -8,9 +8,9 @@ use native.Mathlib.Omega.{arith}
 use lib.Dec.{lit<}
 use lib.Pow.{shl_exact, pow_mono}
 use Rattle.table_type.specs.declared.Table.{Table}
-use Rattle.holder.specs.declared.Holding.{Holding}
-use Rattle.holder.specs.declared.Holding.TheVariants.{OutOfRange, Unsettled}
-use Rattle.holder.specs.Holder.{covered_by, held_at, holding_in}
+use Rattle.std.specs.Prelude.{Err}
+use Rattle.holder.specs.declared.Unheld.TheVariants.{OutOfRange, Unsettled}
+use Rattle.holder.specs.Holder.{Holding, covered_by, held_at, holding_in}
 use Rattle.over_holder.proofs.looked_for.Goals as goal
 
 module _ (t : Table) (settled : Bool) (k : ℕ) (h : t.m ≤ 32) where
@@ -18,7 +18,7 @@ module _ (t : Table) (settled : Bool) (k : ℕ) (h : t.m ≤ 32) where
   size : 1 * 2 ^ t.m % 2 ^ 64 ≡ 2 ^ t.m
   size = shl_exact 1 t.m 64 (lit< tt) (omega arith) ∙ one-mul (2 ^ t.m)
 
-  outside : 1 * 2 ^ t.m % 2 ^ 64 ≤ k → OutOfRange ≡ holding_in t settled k
+  outside : 1 * 2 ^ t.m % 2 ^ 64 ≤ k → Err OutOfRange ≡ holding_in t settled k
   outside l = rw (le-ltb k (2 ^ t.m) (rw size at l))
 
   module _ (l : k < 1 * 2 ^ t.m % 2 ^ 64) where
@@ -31,7 +31,7 @@ module _ (t : Table) (settled : Bool) (k : ℕ) (h : t.m ≤ 32) where
     looked : (r : Holding) → settled ≡ true → r ≡ held_at t (covered_by t k) → r ≡ holding_in t settled k
     looked r s e = e ∙ rw (s, lt-ltb k (2 ^ t.m) inside)
 
-    not-settled : settled ≡ false → Unsettled ≡ holding_in t settled k
+    not-settled : settled ≡ false → Err Unsettled ≡ holding_in t settled k
     not-settled s = rw (s, lt-ltb k (2 ^ t.m) inside)
 
 pub returns-then-k-t : goal.returns-then-k-t

@@ -4,12 +4,12 @@ use Rattle.rehearsal.specs.Rehearsal.{agrees_with}
 use Rattle.over_rehearsal.proofs.agrees.Goals as goal
 
 pub gives-requires : goal.gives-requires
-gives-requires c = c.requires c.in-Done.is
+gives-requires c = c.requires c.in-Ok.is
 
-pub returns-in-Done : goal.returns-in-Done
+pub returns-in-Ok : goal.returns-in-Ok
 unfolding agrees_with
-returns-in-Done c = c.gives.ensures ∙ simp c.in-Done.is
+returns-in-Ok c = c.gives.ensures ∙ simp c.in-Ok.is
 
-pub returns-in-Refused : goal.returns-in-Refused
+pub returns-in-Err : goal.returns-in-Err
 unfolding agrees_with
-returns-in-Refused c = simp c.in-Refused.is
+returns-in-Err c = simp c.in-Err.is

@@ -5,7 +5,7 @@ use native.Mathlib.Omega.{arith}
 use lib.ListN.{get_or}
 use Rattle.water.specs.declared.Record.{Record}
 use Rattle.water.specs.declared.Held.{Held}
-use Rattle.water.specs.declared.Looked.TheVariants.{At, Nothing}
+use Rattle.std.specs.Prelude.{Some, None}
 use Rattle.water.specs.declared.Store.{Store}
 use Rattle.water.specs.Water.{none_held, count_of, held_of, seat_of, found_in}
 use Rattle.water.proofs.Seats.{count_most}
@@ -13,12 +13,12 @@ use Rattle.over_water.proofs.Places.{Full, full, held-length, held-at, look-foun
 use Rattle.over_water.proofs.look_up.Goals as goal
 
 module _ (s : Store) (f : Full s) (r : Record) (i n : ℕ) (e : i ≡ seat_of (held_of s) r) (q : n ≡ count_of s.count) where
-  there : i < n → At (get_or s.places i none_held) ≡ found_in (held_of s) r
+  there : i < n → Some (get_or s.places i none_held) ≡ found_in (held_of s) r
   there l =
-      ap (λ (h : Held). At h) (sym (held-at s f i (omega arith)) ∙ ap (λ (j : ℕ). get_or (held_of s) j none_held) e)
+      ap (λ (h : Held). Some h) (sym (held-at s f i (omega arith)) ∙ ap (λ (j : ℕ). get_or (held_of s) j none_held) e)
       ∙ sym (look-found (held_of s) r (omega (arith, held-length s f)))
 
-  not_there : n ≤ i → Nothing ≡ found_in (held_of s) r
+  not_there : n ≤ i → None ≡ found_in (held_of s) r
   not_there l = sym (look_none (held_of s) r (omega (arith, held-length s f)))
 
 pub offset_bounds-s-i : goal.offset_bounds-s-i

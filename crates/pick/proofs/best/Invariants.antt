@@ -6,8 +6,8 @@ use Rattle.rules.specs.Pick.{ahead_of}
 use Rattle.pick.proofs.Laws.{Looked}
 use Rattle.pick.proofs.best.Given as goal
 
-abbrev pub invariant-members : goal.invariant-members
-invariant-members l = Looked (ahead_of l.w (2 ^ l.m) l.k l.ids) l.set l.found l.rest
+abbrev pub invariant-loop-s : goal.invariant-loop-s
+invariant-loop-s l = Looked (ahead_of l.w (2 ^ l.m) l.k l.ids) l.set l.found l.rest
 
-abbrev pub decreases-members : goal.decreases-members
-decreases-members l = size_of l.rest
+abbrev pub decreases-loop-s : goal.decreases-loop-s
+decreases-loop-s l = size_of l.rest

@@ -1,16 +1,13 @@
 -- `pool::first_equal` meets its contract. At a place of what is left: none before it has m's fields (Passed). At a field: those before it
--- are equal. The measures: the places and the fields left. Assumes nothing.
+-- are equal. The measure: the places left. Assumes nothing.
 use Prim.Native.Nat.{◌≤◌, ◌-◌}
 use mathlib.Core.Path.{◌≡◌}
 use Rattle.pool_laws.specs.InnerSending.{left_of}
 use Rattle.pool_laws.proofs.Places.{Same, Passed}
 use Rattle.pool.proofs.first_equal.Given as goal
 
-abbrev pub invariant-fields : goal.invariant-fields
-invariant-fields l = (l.at ≡ l.initial.at) × (l.f ≤ 9) × Same l.f l.a l.b
-
-abbrev pub decreases-fields : goal.decreases-fields
-decreases-fields l = 9 - l.f
+abbrev pub invariant-loop-f : goal.invariant-loop-f
+invariant-loop-f l = (l.at ≡ l.initial.at) × Same l.f l.a l.b
 
 abbrev pub invariant-places : goal.invariant-places
 invariant-places l = (l.at ≤ l.n) × Passed l.b (left_of l.p l.gone) l.at

@@ -1,13 +1,8 @@
--- `pool::held` meets its contract. The invariant: the set is that of the messages before `at` of what is left. The measure: the messages
--- left. Assumes nothing.
+-- `pool::held` meets its contract. The invariant: the set is that of the messages before `at` of what is left. Assumes nothing.
 use mathlib.Core.Path.{◌≡◌}
-use Prim.Native.Nat.{◌-◌, ◌≤◌}
 use lib.ListN.{take}
 use Rattle.pool_laws.specs.InnerSending.{left_of, held_of}
 use Rattle.pool.proofs.held.Given as goal
 
 abbrev pub invariant-loop-at : goal.invariant-loop-at
-invariant-loop-at l = (l.at ≤ l.n) × (l.set ≡ held_of l.m (take l.at (left_of l.p l.gone)))
-
-abbrev pub decreases-loop-at : goal.decreases-loop-at
-decreases-loop-at l = l.n - l.at
+invariant-loop-at l = l.set ≡ held_of l.m (take l.at (left_of l.p l.gone))

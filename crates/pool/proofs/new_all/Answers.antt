@@ -12,7 +12,8 @@ pub returns-in_default : goal.returns-in_default
 returns-in_default c = all-alone (left_of c.args.p c.args.gone) c.args.first c.args.one c.args.m c.args.set _ _ c.held-have.ensures c.in_default.is c.less.ensures
 
 pub overflow_cast-s : goal.overflow_cast-s
-overflow_cast-s c = omega (arith, slot-low _ _ c.in-At.is c.requires.1)
+overflow_cast-s c = omega (arith, slot-low _ _ c.in-Some.is c.requires.1)
 
 pub returns : goal.returns
-returns c = all_after (left_of c.args.p c.args.gone) c.args.first c.args.one c.args.m c.args.set _ _ _ _ _ c.held-have.ensures c.in-At.is c.to_slot-q.ensures c.held_with.ensures c.less-2.ensures
+returns c = all_after (left_of c.args.p c.args.gone) c.args.first c.args.one c.args.m c.args.set _ _ _ _ _ c.held-have.ensures c.in-Some.is
+    c.to_slot-q.ensures c.held_with.ensures c.less-2.ensures

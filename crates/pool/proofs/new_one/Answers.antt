@@ -9,10 +9,10 @@ pub returns-in_default : goal.returns-in_default
 returns-in_default c = to-nowhere c.args.m _ _ c.in_default.is
 
 pub overflow_cast-s : goal.overflow_cast-s
-overflow_cast-s c = omega (arith, slot-low _ _ c.in-At.is c.requires.1)
+overflow_cast-s c = omega (arith, slot-low _ _ c.in-Some.is c.requires.1)
 
 pub returns-then-waits : goal.returns-then-waits
-returns-then-waits c = to-equal c.args.m _ _ _ c.in-At.is (ap (waits _) (sym c.to_slot.ensures) ∙ sym c.waits.ensures ∙ c.if-waits.true)
+returns-then-waits c = to-equal c.args.m _ _ _ c.in-Some.is (ap (waits _) (sym c.to_slot.ensures) ∙ sym c.waits.ensures ∙ c.if-waits.true)
 
 pub returns-else-waits : goal.returns-else-waits
-returns-else-waits c = to-new c.args.m _ _ _ c.in-At.is (ap (waits _) (sym c.to_slot.ensures) ∙ sym c.waits.ensures ∙ c.if-waits.false)
+returns-else-waits c = to-new c.args.m _ _ _ c.in-Some.is (ap (waits _) (sym c.to_slot.ensures) ∙ sym c.waits.ensures ∙ c.if-waits.false)

@@ -3,10 +3,10 @@ use mathlib.Core.Path.{sym, ◌∙◌, ap}
 use Rattle.rules.specs.Mail.{is_found, waits}
 use Rattle.pool.proofs.waits.Goals as goal
 
-pub returns-in-At : goal.returns-in-At
+pub returns-in-Some : goal.returns-in-Some
 unfolding waits
-returns-in-At c = ap is_found (sym c.in-At.is ∙ c.first_equal-at.ensures)
+returns-in-Some c = ap is_found (sym c.in-Some.is ∙ c.first_equal-at.ensures)
 
-pub returns-in-Nothing : goal.returns-in-Nothing
+pub returns-in-None : goal.returns-in-None
 unfolding waits
-returns-in-Nothing c = ap is_found (sym c.in-Nothing.is ∙ c.first_equal-at.ensures)
+returns-in-None c = ap is_found (sym c.in-None.is ∙ c.first_equal-at.ensures)

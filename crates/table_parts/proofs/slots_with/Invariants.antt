@@ -1,9 +1,8 @@
--- `table_parts::slots_with` meets its contract. The invariant: the slots below s with that number are gathered. The measure: the slots left.
--- Assumes nothing.
+-- `table_parts::slots_with` meets its contract. The invariant: the slots below s with that number are gathered. Assumes nothing.
 use mathlib.Core.Path.{◌≡◌}
 use mathlib.Core.Bool.{Bool}
 use lib.Dec.{eqb}
-use Prim.Native.Nat.{ℕ, ◌-◌, ◌≤◌}
+use Prim.Native.Nat.{ℕ}
 use Rattle.marks.specs.Marks.{gather}
 use Rattle.rules.specs.Numbers.{status_number}
 use Rattle.table_type.specs.declared.Table.{Table}
@@ -14,7 +13,4 @@ abbrev pub is_with : Table → ℕ → ℕ → Bool
 is_with t number s = eqb (status_number (node_at t s).status) number
 
 abbrev pub invariant-loop-s : goal.invariant-loop-s
-invariant-loop-s l = (l.s ≤ l.n) × (l.out ≡ gather l.s (is_with l.t l.number))
-
-abbrev pub decreases-loop-s : goal.decreases-loop-s
-decreases-loop-s l = l.n - l.s
+invariant-loop-s l = l.out ≡ gather l.s (is_with l.t l.number)

@@ -1,24 +1,9 @@
 -- `plan_of_deliver` meets its contract: a Lookup's key is in range, as the message obeys its kind. Assumes nothing.
-use mathlib.Core.Path.{◌∙◌, ap}
-use native.Mathlib.Nat.{lt_of_lt_of_le}
+use mathlib.Core.Path.{ap}
+use native.Mathlib.Omega.{arith}
 use Rattle.rules.specs.Fits.{has_key}
 use Rattle.table_laws.proofs.Obeys.{obeys}
 use Rattle.table_plan.proofs.plan_of_deliver.Goals as goal
 
-pub node_at-v-requires : goal.node_at-v-requires
-node_at-v-requires c = lt_of_lt_of_le c.requires.1 c.requires.0.n-high
-
 pub plan_deliver-requires : goal.plan_deliver-requires
-plan_deliver-requires c = let g = c.ring_of.ensures in (
-  rw (g, c.ids-ids.ensures) c.requires.0,
-  lt_of_lt_of_le c.requires.1 c.requires.0.n-high,
-  λ k. rw g ((obeys _ _ c.requires.2).key_in (ap has_key k)),
-)
-
-pub returns : goal.returns
-returns c = c.plan_deliver.ensures
-    ∙ rw (
-      c.ring_of.ensures,
-      c.ids-ids.ensures,
-      c.node_at-v.ensures,
-    )
+plan_deliver-requires c = (omega (arith, c.requires.0.n-high), λ k. rw c.roster-r.ensures.ring ((obeys _ _ c.requires.2).key_in (ap has_key k)))

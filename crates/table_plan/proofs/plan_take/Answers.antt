@@ -1,5 +1,7 @@
 -- `plan_take` meets its contract: the kind that was matched decides the definition's tests, and what each kind's plan asks is told by the message's validity.
 -- Assumes nothing.
+use Rattle.rules.specs.Shapes.{Planned}
+use Rattle.std.specs.Prelude.{Err}
 use borrow.Author.Tests.{ne_eqb}
 use mathlib.Core.Path.{◌≡◌, refl, sym, ◌∙◌, ap}
 use mathlib.Core.Bool.{Bool, true, false, cond}
@@ -10,8 +12,6 @@ use native.Mathlib.Omega.{arith}
 use Rattle.rules.specs.declared.Ring.{Ring}
 use Rattle.rules.specs.declared.Node.{Node}
 use Rattle.rules.specs.declared.Message.{Message}
-use Rattle.rules.specs.declared.Planned.{Planned}
-use Rattle.rules.specs.declared.Planned.TheVariants.{No}
 use Rattle.rules.specs.declared.Refusal.TheVariants as no
 use Rattle.rules.specs.Fits.{has_node}
 use Rattle.take.specs.Take.{plan_take}
@@ -24,45 +24,45 @@ either false x = refl
 
 -- no other kind has a plan
 none : (k : ℕ) (g : Ring) (ids : List ℕ) (dead i : ℕ) (v : Node) (m : Message) → (k ≡ 2 → ⊥) → (k ≡ 3 → ⊥) → (k ≡ 4 → ⊥) → (k ≡ 5 → ⊥)
-    → (k ≡ 7 → ⊥) → (k ≡ 8 → ⊥) → No no.Partner ≡ plan_take k g ids dead i v m
+    → (k ≡ 7 → ⊥) → (k ≡ 8 → ⊥) → Err no.Partner ≡ plan_take k g ids dead i v m
 unfolding plan_take
 none k g ids dead i v m b c d e f h =
     rw (ne_eqb k 2 b, ne_eqb k 3 c, ne_eqb k 4 d, ne_eqb k 5 e, ne_eqb k 7 f, ne_eqb k 8 h)
-    (rw (← either (eqb k 6) (No no.Partner)) (either (eqb k 1) (No no.Partner)))
+    (rw (← either (eqb k 6) (Err no.Partner)) (either (eqb k 1) (Err no.Partner)))
 
 pub plan_take_join_request-requires : goal.plan_take_join_request-requires
-plan_take_join_request-requires c = let n = c.requires.0.n-high in
-    let j = (obeys _ _ c.requires.2).node_in_lem (ap has_node c.in-2.is) in
-    (c.requires.0, omega (arith, c.requires.1), omega (arith, j))
+plan_take_join_request-requires c = let n = c.args.r.now.listed.n-high in
+    let j = (obeys _ _ c.requires.1).node_in_lem (ap has_node c.in-2.is) in
+    (omega arith, omega (arith, j))
 
 pub returns-in-2 : goal.returns-in-2
 unfolding plan_take
-returns-in-2 c = let by : ℕ → Planned = λ k. let a = c.args in plan_take k a.g a.ids.now a.dead a.i a.v a.m in
+returns-in-2 c = let by : ℕ → Planned = λ k. let a = c.args in plan_take k a.r.now.ring a.r.now.ids a.dead a.i a.v a.m in
     c.plan_take_join_request.ensures ∙ sym (ap (by) c.in-2.is)
 
 pub returns-in-3 : goal.returns-in-3
 unfolding plan_take
-returns-in-3 c = let by : ℕ → Planned = λ k. let a = c.args in plan_take k a.g a.ids.now a.dead a.i a.v a.m in
+returns-in-3 c = let by : ℕ → Planned = λ k. let a = c.args in plan_take k a.r.now.ring a.r.now.ids a.dead a.i a.v a.m in
     c.plan_take_join_reply.ensures ∙ sym (ap (by) c.in-3.is)
 
 pub returns-in-4 : goal.returns-in-4
 unfolding plan_take
-returns-in-4 c = let by : ℕ → Planned = λ k. let a = c.args in plan_take k a.g a.ids.now a.dead a.i a.v a.m in
+returns-in-4 c = let by : ℕ → Planned = λ k. let a = c.args in plan_take k a.r.now.ring a.r.now.ids a.dead a.i a.v a.m in
     c.plan_take_probe.ensures ∙ sym (ap (by) c.in-4.is)
 
 pub returns-in-5 : goal.returns-in-5
 unfolding plan_take
-returns-in-5 c = let by : ℕ → Planned = λ k. let a = c.args in plan_take k a.g a.ids.now a.dead a.i a.v a.m in
+returns-in-5 c = let by : ℕ → Planned = λ k. let a = c.args in plan_take k a.r.now.ring a.r.now.ids a.dead a.i a.v a.m in
     c.plan_take_probe_reply.ensures ∙ sym (ap (by) c.in-5.is)
 
 pub returns-in-7 : goal.returns-in-7
 unfolding plan_take
-returns-in-7 c = let by : ℕ → Planned = λ k. let a = c.args in plan_take k a.g a.ids.now a.dead a.i a.v a.m in
+returns-in-7 c = let by : ℕ → Planned = λ k. let a = c.args in plan_take k a.r.now.ring a.r.now.ids a.dead a.i a.v a.m in
     c.plan_take_lease_request.ensures ∙ sym (ap (by) c.in-7.is)
 
 pub returns-in-8 : goal.returns-in-8
 unfolding plan_take
-returns-in-8 c = let by : ℕ → Planned = λ k. let a = c.args in plan_take k a.g a.ids.now a.dead a.i a.v a.m in
+returns-in-8 c = let by : ℕ → Planned = λ k. let a = c.args in plan_take k a.r.now.ring a.r.now.ids a.dead a.i a.v a.m in
     c.plan_take_broadcast.ensures ∙ sym (ap (by) c.in-8.is)
 
 pub returns-in_default : goal.returns-in_default

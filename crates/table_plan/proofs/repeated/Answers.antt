@@ -4,7 +4,7 @@ use denote.Enum.Declared
 use mathlib.Core.Bool.{Bool, true, false, ◌&&◌, not}
 use mathlib.Core.List.{List, [], ◌∷◌}
 use mathlib.Core.Logic.{inl, inr}
-use mathlib.Core.Path.{◌≡◌, refl, sym, ◌∙◌, ap, subst}
+use mathlib.Core.Path.{◌≡◌, refl, sym, ◌∙◌, ap}
 use Prim.Native.Nat.{ℕ, ◌≤◌}
 use native.Mathlib.Omega.{arith}
 use lib.Dec.{eqb, leb}
@@ -19,9 +19,8 @@ use Rattle.rules.specs.declared.Action.TheVariants.{NodeLeft, SuspectFaulty, Pro
 use Rattle.rules.specs.declared.Pool.{Pool}
 use Rattle.table_type.specs.declared.Table.{Table}
 use Rattle.step.specs.Step.{asked}
-use Rattle.table_plan.specs.InnerAsked.{Called}
 use Rattle.table_plan.proofs.Asks.{nothing-gone}
-use Rattle.table_plan.proofs.Called.{counted, slot-low, key-low}
+use Rattle.table_plan.proofs.Called.{counted, slot_as, key-low, called_as}
 use Rattle.table_plan.proofs.repeated.Goals as goal
 
 -- one of some numbers is as high as all of them
@@ -64,26 +63,22 @@ unasked t p (ResignNode i n) h d = absurd (d refl)
 unasked t p (Recover i) h d = refl
 
 pub overflow_cast-k : goal.overflow_cast-k
-overflow_cast-k c = let called : (b : Action) → c.args.a ≡ b → Called c.requires.0 c.args.p b = λ b e. subst (Called c.requires.0 c.args.p) e c.requires.1 in
-    record { fits = key-low (called _ c.in-Lookup.is) }
+overflow_cast-k c = record { fits = key-low (called_as c.requires.1 c.in-Lookup.is) }
 
 pub overflow_cast-i : goal.overflow_cast-i
-overflow_cast-i c = let called : (b : Action) → c.args.a ≡ b → Called c.requires.0 c.args.p b = λ b e. subst (Called c.requires.0 c.args.p) e c.requires.1 in
-    omega (arith, slot-low (called _ c.in-Lookup.is))
+overflow_cast-i c = omega (arith, slot_as c.requires.1 c.in-Lookup.is)
 
 pub waits-requires : goal.waits-requires
 waits-requires c = counted c.requires.1
 
 pub overflow_cast-i-in-Join : goal.overflow_cast-i-in-Join
-overflow_cast-i-in-Join c = let called : (b : Action) → c.args.a ≡ b → Called c.requires.0 c.args.p b = λ b e. subst (Called c.requires.0 c.args.p) e c.requires.1 in
-    omega (arith, slot-low (called _ c.in-Join.is))
+overflow_cast-i-in-Join c = omega (arith, slot_as c.requires.1 c.in-Join.is)
 
 pub join_waits-requires : goal.join_waits-requires
 join_waits-requires c = counted c.requires.1
 
 pub overflow_cast-i-in-ResignNode : goal.overflow_cast-i-in-ResignNode
-overflow_cast-i-in-ResignNode c = let called : (b : Action) → c.args.a ≡ b → Called c.requires.0 c.args.p b = λ b e. subst (Called c.requires.0 c.args.p) e c.requires.1 in
-    omega (arith, slot-low (called _ c.in-ResignNode.is))
+overflow_cast-i-in-ResignNode c = omega (arith, slot_as c.requires.1 c.in-ResignNode.is)
 
 pub reply_waits-requires : goal.reply_waits-requires
 reply_waits-requires c = counted c.requires.1

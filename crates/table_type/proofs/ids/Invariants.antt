@@ -1,6 +1,6 @@
--- `table_type::ids` meets its contract. The invariant: the first s ids are written. The measure: the slots left. Assumes nothing.
+-- `table_type::ids` meets its contract. The invariant: the first s ids are written. Assumes nothing.
 use mathlib.Core.List.{List}
-use Prim.Native.Nat.{ℕ, ◌-◌}
+use Prim.Native.Nat.{ℕ}
 use lib.ListN.{get_or}
 use Rattle.rules.specs.declared.Node.{Node}
 use Rattle.rules.specs.Nodes.{no_node}
@@ -12,6 +12,3 @@ id_in vs i = (get_or vs i no_node).id
 
 abbrev pub invariant-loop-s : goal.invariant-loop-s
 invariant-loop-s l = Filled 0 (id_in l.t.nodes) l.s l.r
-
-abbrev pub decreases-loop-s : goal.decreases-loop-s
-decreases-loop-s l = 64 - l.s

@@ -9,19 +9,16 @@ use Rattle.table_type.proofs.ids_rise.Goals as goal
 
 pub loop-s-init : goal.loop-s-init
 unfolding all_to
-loop-s-init c = (omega arith, refl)
+loop-s-init c = refl
 
 pub returns-then-not-id_rises : goal.returns-then-not-id_rises
 returns-then-not-id_rises c = let a = c.args in
-    rw ids-rising (sym (fails a.n (id_rises a.m a.ids.now) c.loop-s.s (omega arith)
-    (sym c.id_rises.ensures ∙ c.if-not-id_rises.true)))
+    rw ids-rising (sym (fails a.n (id_rises a.m a.ids.now) c.loop-s.s (omega arith) (sym c.id_rises.ensures ∙ c.if-not-id_rises.true)))
 
 pub loop-s-preserved : goal.loop-s-preserved
-loop-s-preserved c = let a = c.args in (
-  omega arith,
-  more c.loop-s.s (id_rises a.m a.ids.now) c.loop-s.invariant.1 (sym c.id_rises.ensures ∙ c.if-not-id_rises.false),
-)
+loop-s-preserved c = let a = c.args in
+    more c.loop-s.s (id_rises a.m a.ids.now) c.loop-s.invariant (sym c.id_rises.ensures ∙ c.if-not-id_rises.false)
 
 pub returns : goal.returns
 returns c = let e : c.loop-s.s ≡ c.args.n = omega arith in
-    rw ids-rising (sym (rw e at c.loop-s.invariant.1))
+    rw ids-rising (sym (rw e at c.loop-s.invariant))

@@ -1,20 +1,21 @@
--- The answers. Assumes nothing.
-use mathlib.Core.Path.{refl}
+-- `table_type::slot_ids` meets its contract: the ids, and what is left of 64 zeros behind them. Assumes nothing.
+use mathlib.Core.Path.{◌≡◌, sym, ◌∙◌, ap}
+use mathlib.Core.List.{List, ◌++◌}
+use Prim.Native.Nat.{ℕ, ◌+◌, ◌-◌, ◌≤◌}
 use native.Mathlib.Omega.{arith}
-use Rattle.rules.specs.Pick.{id_at}
-use Rattle.table_type.proofs.Starts.{slot-ids-long, slot-ids-at, slot-ids-past}
-use Rattle.table_type.proofs.Laws.{fill-begin, fill_more, fill_end}
+use lib.ListN.{length, take, drop, replicate}
+use Rattle.std.proofs.Math.Seq.{take-append-add}
+use Rattle.std.proofs.lemmas.List.{drop-replicate, take-replicate}
+use Rattle.start.specs.Start.{slot_ids}
 use Rattle.table_type.proofs.slot_ids.Goals as goal
 
-pub loop-s-init : goal.loop-s-init
-loop-s-init c = (omega arith, fill-begin 0 (id_at c.args.ids.now) 0 refl)
-
-pub loop-s-preserved : goal.loop-s-preserved
-loop-s-preserved c = let l = c.loop-s in
-    (omega arith, fill_more 0 (id_at c.args.ids.now) l.s l.out (omega arith) l.invariant.1)
+copied : (ids : List ℕ) → length ids ≤ 64 → ids ++ drop (length ids) (replicate 64 0) ≡ slot_ids ids
+unfolding slot_ids
+copied ids h =
+    let e : length ids + (64 - length ids) ≡ 64 = omega arith in
+    ap (λ (l : List ℕ). ids ++ l) (drop-replicate (length ids) 64 0 ∙ sym (take-replicate (64 - length ids) 64 0 (omega arith)))
+    ∙ sym (take-append-add ids (replicate 64 0) (64 - length ids))
+    ∙ ap (λ (n : ℕ). take n (ids ++ replicate 64 0)) e
 
 pub returns : goal.returns
-returns c = let l = c.loop-s in
-    let ids = c.args.ids.now in
-    fill_end 0 (id_at ids) l.s l.out _ l.invariant.1 (slot-ids-long ids)
-    (λ i h. slot-ids-at ids i (omega arith)) (λ i h k. slot-ids-past ids i (omega arith) k)
+returns c = rw c.copy_from_slice.ensures.after (copied c.args.ids.now c.requires)

@@ -8,20 +8,14 @@ use Rattle.table_type.proofs.start_nodes.Goals as goal
 
 pub loop-s-init : goal.loop-s-init
 loop-s-init c = let a = c.args in
-    (omega arith, fill-begin no_node (start_node a.g a.ids.now a.a) c.no_node-none.result c.no_node-none.ensures)
-
-pub start_node-v-requires : goal.start_node-v-requires
-start_node-v-requires c = (c.requires, c.loop-s-test.true)
+    fill-begin no_node (start_node a.r.now.ring a.r.now.ids a.a) c.no_node-none.result c.no_node-none.ensures
 
 pub loop-s-preserved : goal.loop-s-preserved
-loop-s-preserved c = let a = c.args in (
-  omega arith,
-  rw c.start_node-v.ensures
-      (fill_more no_node (start_node a.g a.ids.now a.a) c.loop-s.s c.loop-s.nodes (omega arith) c.loop-s.invariant.1),
-)
+loop-s-preserved c = let a = c.args in
+    rw c.start_node.ensures (fill_more no_node (start_node a.r.now.ring a.r.now.ids a.a) c.loop-s.s c.loop-s.nodes (omega arith) c.loop-s.invariant)
 
 pub returns : goal.returns
 returns c = let a = c.args in
-    fill_end no_node (start_node a.g a.ids.now a.a) c.loop-s.s c.loop-s.nodes _ c.loop-s.invariant.1
-    (start-nodes-long a.g a.ids.now a.a) (λ i h. start-node-at a.g a.ids.now a.a i (omega arith) (omega arith))
-    (λ i h k. start-node-past a.g a.ids.now a.a i (omega arith) k)
+    fill_end no_node (start_node a.r.now.ring a.r.now.ids a.a) c.loop-s.s c.loop-s.nodes _ c.loop-s.invariant
+    (start-nodes-long a.r.now.ring a.r.now.ids a.a) (λ i h. start-node-at a.r.now.ring a.r.now.ids a.a i (omega arith) (omega arith))
+    (λ i h k. start-node-past a.r.now.ring a.r.now.ids a.a i (omega arith) k)

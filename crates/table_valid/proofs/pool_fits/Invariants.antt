@@ -1,7 +1,7 @@
 -- `table_valid::pool_fits` meets its contract: the definition's three tests, in its order. Before place k the messages passed fit, hops included. Before
 -- place j the table has every place below j in its chain (Chained), and no two of them are equal (Differ); on the way down a chain all at or
--- above the link differ from j's message (Walk). The measures: the places left, of each loop over places, and the link. Assumes nothing.
-use Prim.Native.Nat.{ℕ, ◌-◌, ◌≤◌}
+-- above the link differ from j's message (Walk). The measure: the link. Assumes nothing.
+use Prim.Native.Nat.{ℕ}
 use mathlib.Core.Path.{◌≡◌}
 use mathlib.Core.Bool.{Bool, true, ◌&&◌}
 use mathlib.Core.List.{List}
@@ -16,11 +16,8 @@ use Rattle.table_valid.proofs.pool_fits.Given as goal
 abbrev pub fits_at : Ring → List ℕ → Pool → ℕ → Bool
 fits_at g ids p q = message_fits g (message_at p q) && hops_fit g ids (message_at p q)
 
-abbrev pub invariant-tests : goal.invariant-tests
-invariant-tests l = (l.k ≤ l.n) × (all_to l.k (fits_at l.g l.ids l.p) ≡ true)
-
-abbrev pub decreases-tests : goal.decreases-tests
-decreases-tests l = l.n - l.k
+abbrev pub invariant-loop-k : goal.invariant-loop-k
+invariant-loop-k l = all_to l.k (fits_at l.g l.ids l.p) ≡ true
 
 abbrev pub invariant-chain : goal.invariant-chain
 invariant-chain l = Walk l.p.places l.j l.at
@@ -28,8 +25,5 @@ invariant-chain l = Walk l.p.places l.j l.at
 abbrev pub decreases-chain : goal.decreases-chain
 decreases-chain l = l.at
 
-abbrev pub invariant-places : goal.invariant-places
-invariant-places l = (l.j ≤ l.n) × Chained l.p.places l.j l.heads l.next × Differ l.p.places l.j
-
-abbrev pub decreases-places : goal.decreases-places
-decreases-places l = l.n - l.j
+abbrev pub invariant-loop-j : goal.invariant-loop-j
+invariant-loop-j l = Chained l.p.places l.j l.heads l.next × Differ l.p.places l.j

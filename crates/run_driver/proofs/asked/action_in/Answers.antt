@@ -4,4 +4,4 @@ use Rattle.run_driver.proofs.Saying.{action-is}
 use Rattle.run_driver.proofs.asked.action_in.Goals as goal
 
 pub returns : goal.returns
-returns c = c.action_of.ensures ∙ action-is _ c.read64-action.ensures c.read64-x.ensures c.read64-y.ensures
+returns c = c.action_of.ensures ∙ action-is _ c.read-action.ensures c.read-x.ensures c.read-y.ensures

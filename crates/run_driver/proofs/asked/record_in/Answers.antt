@@ -6,12 +6,12 @@ pub returns : goal.returns
 unfolding record_in
 returns c = rw (
   c.field-runoff.ensures,
-  c.read64-4.ensures,
+  c.read-4.ensures,
   c.field-evapotranspiration.ensures,
-  c.read64-3.ensures,
+  c.read-3.ensures,
   c.field-rain.ensures,
-  c.read64-2.ensures,
+  c.read-2.ensures,
   c.field-month.ensures,
-  c.read64.ensures,
-  c.read64-key.ensures,
+  c.read.ensures,
+  c.read-key.ensures,
 )

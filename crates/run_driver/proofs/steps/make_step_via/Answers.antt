@@ -8,5 +8,5 @@ returns-then-rest-lt24 c = step-via-short _ _ c.if-rest-lt24.true c.malformed-re
 
 pub returns : goal.returns
 returns c = let rest = c.args.rest.now in
-    step-via-says rest _ (omega arith) c.read64-action.ensures c.read64-x.ensures c.read64-y.ensures (part-whole rest 24) c.unlettered.ensures
+    step-via-says rest _ (omega arith) c.read-action.ensures c.read-x.ensures c.read-y.ensures (part-whole rest 24) c.unlettered.ensures
     c.tarpudhriv_step_via.ensures.r c.tarpudhriv_step_via.ensures.left

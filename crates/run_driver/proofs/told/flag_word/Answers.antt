@@ -8,4 +8,4 @@ pub returns-then-out-lt5 : goal.returns-then-out-lt5
 returns-then-out-lt5 c = no_room_lem _ _ 5 (flag-word-size 0 _) (omega arith) c.refused.ensures
 
 pub returns : goal.returns
-returns c = put-says _ _ (follow c.put_byte-at.ensures c.write32-count.ensures)
+returns c = put-says _ _ (follow c.put_byte-at.ensures c.write-count.ensures)

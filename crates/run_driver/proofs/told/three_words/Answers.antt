@@ -8,4 +8,4 @@ pub returns-then-out-lt20 : goal.returns-then-out-lt20
 returns-then-out-lt20 c = no_room_lem _ _ 20 (three-size _ _ _) (omega arith) c.refused.ensures
 
 pub returns : goal.returns
-returns c = put-says _ _ (follow c.write32-a1.ensures (follow c.write64-a2.ensures c.write64-count.ensures))
+returns c = put-says _ _ (follow c.write-a1.ensures (follow c.write-a2.ensures c.write-count.ensures))

@@ -8,4 +8,4 @@ pub returns-then-out-lt12 : goal.returns-then-out-lt12
 returns-then-out-lt12 c = no_room_lem _ _ 12 (two_size _ _) (omega arith) c.refused.ensures
 
 pub returns : goal.returns
-returns c = put-says _ _ (follow c.write32-at.ensures c.write64-count.ensures)
+returns c = put-says _ _ (follow c.write-at.ensures c.write-count.ensures)

@@ -26,12 +26,12 @@ returns-then-not-list_fits c = let numbers : let a = c.args in start_fits a.m a.
     c.not_started-then-not-list_fits.ensures ∙ sym (start-invalid _ _ _ _ (numbers)
     (rw (← c.slot_ids-all.ensures) (sym c.list_fits.ensures ∙ c.if-not-list_fits.true)))
 
-pub start_nodes-nodes-requires : goal.start_nodes-nodes-requires
-start_nodes-nodes-requires c = let numbers : let a = c.args in start_fits a.m a.l (length a.ids.now) ≡ true = sym c.start_fits.ensures ∙ c.if-not-start_fits.false in
+pub invariant_of-roster : goal.invariant_of-roster
+invariant_of-roster c = let numbers : let a = c.args in start_fits a.m a.l (length a.ids.now) ≡ true = sym c.start_fits.ensures ∙ c.if-not-start_fits.false in
     let numbers_fit_lem : let a = c.args in StartFits a.m a.l (length a.ids.now) = start_fits_lem _ _ _ (numbers) in
     let list : let a = c.args in
     list_fits a.m (length a.ids.now) (slot_ids a.ids.now) a.a ≡ true = rw (← c.slot_ids-all.ensures) (sym c.list_fits.ensures ∙ c.if-not-list_fits.false) in
-    rw c.slot_ids-all.ensures (start-listed _ _ _ (numbers_fit_lem) (list-fits _ _ _ _ (list)).rise)
+    record { listed = rw c.slot_ids-all.ensures (start-listed _ _ _ (numbers_fit_lem) (list-fits _ _ _ _ (list)).rise) }
 
 pub returns : goal.returns
 returns c = let numbers : let a = c.args in start_fits a.m a.l (length a.ids.now) ≡ true = sym c.start_fits.ensures ∙ c.if-not-start_fits.false in

@@ -1,5 +1,0 @@
--- `plan_leave::lacks_both` meets its contract. Assumes nothing.
-use Rattle.plan_leave.proofs.lacks_both.Goals as goal
-
-pub returns : goal.returns
-returns c = rw (c.count-2.ensures, c.count.ensures)

@@ -1,9 +1,0 @@
--- `plan_of_leaving` meets its contract. Assumes nothing.
-use mathlib.Core.Path.{◌∙◌}
-use Rattle.table_plan.proofs.plan_of_leaving.Goals as goal
-
-pub node_at-requires : goal.node_at-requires
-node_at-requires c = c.requires
-
-pub returns : goal.returns
-returns c = c.plan_node_left.ensures ∙ rw c.node_at.ensures

@@ -1,7 +1,0 @@
--- `text::put_byte` meets its contract: one store. Assumes nothing.
-use native.Mathlib.Omega.{arith}
-use Rattle.text.proofs.Runs.{one_byte}
-use Rattle.text.proofs.put_byte.Goals as goal
-
-pub returns : goal.returns
-returns c = one_byte c.args.b.now c.args.at c.args.x (omega arith)
