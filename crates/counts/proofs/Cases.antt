@@ -25,7 +25,7 @@ use Rattle.rules.specs.Plans.{mailed}
 use Rattle.rules.specs.Pool.{waiting, laid}
 use Rattle.table_type.specs.declared.Table.{Table}
 use Rattle.start.specs.Start.{slot_ids, slots_to, start_node, start_nodes, start_fits, ids_rise, list_fits}
-use Rattle.table_type.specs.Start.{start_of}
+use Rattle.table_type.specs.Start.{start_of, table_of}
 use Rattle.take.specs.Take.{plan_deliver, plan_forward}
 use Rattle.table.specs.Settle.{carried_out, settle}
 use Rattle.table.specs.Settled.{dead_set}
@@ -78,7 +78,7 @@ none-for-one = refl
 -- ---- on a ring of three ready nodes
 
 abbrev nodes : Table
-nodes = (start_of 8 1 (17 ∷ 18 ∷ 65 ∷ []) 7).table
+nodes = table_of (start_of 8 1 (17 ∷ 18 ∷ 65 ∷ []) 7)
 
 abbrev here : Counted
 here = record { table = nodes; pool = three; counts = (1 ∷ 0 ∷ 2 ∷ []) ++ zeros }

@@ -1,7 +1,7 @@
 -- The counts are true after each call, and the table is valid. The idea: in what a done call leaves, and in a valid table, each place that is counted
 -- is there, so that the counts that agree with what waits are those of the places. A refusal leaves all as it was. Assumes nothing.
 use Rattle.rules.specs.Shapes.{Answer}
-use Rattle.std.specs.Prelude.{Ok, Err}
+use Rattle.std.specs.Prelude.{Result, Ok, Err}
 use mathlib.Core.Path.{◌≡◌, refl, sym, ◌∙◌, ap}
 use mathlib.Core.Bool.{Bool, true, false, cond}
 use mathlib.Core.List.{List, [], ◌∷◌}
@@ -77,11 +77,10 @@ sound-exactly x len =
 
 start-step-valid : (t : Table) (p : Pool) (len m l : ℕ) (ids : List ℕ) (a : ℕ) → ValidDone (start_step t p len m l ids a)
 unfolding start_step
-start-step-valid t p len m l ids a = go (eqb len 256) (start_of m l ids a).answer refl
+start-step-valid t p len m l ids a = go (eqb len 256) (start_of m l ids a) refl
   where
-    go : (b : Bool) (w : Answer) → (start_of m l ids a).answer ≡ w
-        → ValidDone (cond b (began w (start_of m l ids a).table t p) (refused_of t p no.Invalid))
-    go true (Ok tt) q e = start-valid m l ids a q
+    go : (b : Bool) (w : Result Table Refusal) → start_of m l ids a ≡ w → ValidDone (cond b (began w t p) (refused_of t p no.Invalid))
+    go true (Ok u) q e = start-valid m l ids a u q
     go true (Err why) q e = absurd (never e)
     go false w q e = absurd (never e)
 

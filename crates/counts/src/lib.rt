@@ -12,7 +12,8 @@ pub struct Counted {
     pub counts: [u32; 64],
 }
 
-// What a step, a load or a start leaves, and where the next hop came from, as without counts. A refusal leaves the table too, so that it stands beside the answer.
+// What a step, a load or a start leaves, and where the next hop came from, as without counts.
+// Stays: `over_counts::step`, `load` and `start` promise the table after a refusal too, so that it stands beside the answer.
 #[derive(Clone, Copy)]
 pub struct After {
     pub answer: Result<(), Refusal>,

@@ -1,4 +1,5 @@
 // Distances between ids of at most 32 digits. Each function is the definition of the same name, for ids below 2^m; `face_dist` answers callers who may be out of range.
+// Stays: Inside is a clause of each. A type of ids with their number of digits would be made of a word at each call and taken apart for each difference: no plainer.
 #![tactic(auto)]
 
 ghost use Rattle.std.specs.Prelude.{◌≡◌, ◌^◌};

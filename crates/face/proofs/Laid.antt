@@ -1,7 +1,7 @@
 -- A step, a load or a start that is done leaves a pool that is laid out: its places past the count are blank; and a start that is refused leaves table
 -- and pool. Assumes nothing.
 use Rattle.rules.specs.Shapes.{Answer}
-use Rattle.std.specs.Prelude.{Ok, Err}
+use Rattle.std.specs.Prelude.{Result, Ok, Err}
 use mathlib.Core.Path.{◌≡◌, refl, sym, ap}
 use mathlib.Core.Bool.{Bool, true, false, cond}
 use mathlib.Core.List.{List, map}
@@ -54,10 +54,10 @@ module _ (t : Table) (p : Pool) (len : ℕ) where
 
   pub start-neat : (m l : ℕ) (ids : List ℕ) (a : ℕ) → Neat (start_step t p len m l ids a)
   unfolding start_step
-  start-neat m l ids a = go (eqb len 256) (start_of m l ids a).answer
+  start-neat m l ids a = go (eqb len 256) (start_of m l ids a)
     where
-      go : (b : Bool) (w : Answer) → Neat (cond b (began w (start_of m l ids a).table t p) (refused_of t p no.Invalid))
-      go true (Ok tt) e = refl
+      go : (b : Bool) (w : Result Table Refusal) → Neat (cond b (began w t p) (refused_of t p no.Invalid))
+      go true (Ok u) e = refl
       go true (Err why) e = refused-neat t p why e
       go false w e = refused-neat t p no.Invalid e
 
@@ -66,11 +66,11 @@ module _ (t : Table) (p : Pool) (len : ℕ) where
 pub start-leaves : (t : Table) (p : Pool) (len m l : ℕ) (ids : List ℕ) (a : ℕ) (why : Refusal)
     → (start_step t p len m l ids a).answer ≡ Err why → start_step t p len m l ids a ≡ refused_of t p why
 unfolding start_step
-start-leaves t p len m l ids a why h = go (eqb len 256) (start_of m l ids a).answer h
+start-leaves t p len m l ids a why h = go (eqb len 256) (start_of m l ids a) h
   where
-    go : (b : Bool) (w : Answer) → (cond b (began w (start_of m l ids a).table t p) (refused_of t p no.Invalid)).answer ≡ Err why
-        → cond b (began w (start_of m l ids a).table t p) (refused_of t p no.Invalid) ≡ refused_of t p why
-    go true (Ok tt) e = absurd (let z : ◌≡◌ {A = ℕ} 0 1 = cc in omega arith)
+    go : (b : Bool) (w : Result Table Refusal) → (cond b (began w t p) (refused_of t p no.Invalid)).answer ≡ Err why
+        → cond b (began w t p) (refused_of t p no.Invalid) ≡ refused_of t p why
+    go true (Ok u) e = absurd (let z : ◌≡◌ {A = ℕ} 0 1 = cc in omega arith)
     go true (Err w) e = ap (λ (x : Answer). record { answer = x; table = t; pool = p; via = Unrouted }) e
     go false w e = ap (λ (x : Answer). record { answer = x; table = t; pool = p; via = Unrouted }) e
 

@@ -2,14 +2,15 @@
 // set after it, and an empty one where n or the owner's slot is out of range.
 #![tactic(auto)]
 
-ghost use Rattle.std.specs.Prelude.{◌≡◌, ℕ, ◌<◌, ◌≤◌};
+ghost use Rattle.std.specs.Prelude.{◌≡◌, ℕ, ◌<◌, ◌≤◌, IfSome};
+ghost use Rattle.rules.specs.declared.Roster.{Roster};
 ghost use Rattle.rules.specs.Pick.{id_at};
 
 use rules::{Ring, Roster, Sides};
 
 // A leaf set as it crosses to another language.
 #[repr(C)]
-#[derive(Clone, Copy)]
+#[derive(Clone, Copy, Debug, PartialEq, Eq)]
 pub struct Leaf {
     pub left: u64,
     pub right: u64,
@@ -27,6 +28,7 @@ fn slot_ids() -> [u32; 64]
 }
 
 // A ring of n nodes with these ids.
+// Stays a clause: n ≤ 64. It has one caller, which tests it.
 fn roster(l: u32, n: usize) -> Roster
     requires { n ≤ 64 }
     ensures { result.ring.n ≡ n }
@@ -37,15 +39,28 @@ fn roster(l: u32, n: usize) -> Roster
     }
 }
 
-fn crossing(s: Sides) -> Leaf {
-    Leaf {
-        left: s.left,
-        right: s.right,
+// The ring of slot i, if n and i are in range.
+fn ring_around(n: usize, l: u32, i: usize) -> Option<Roster>
+    ensures { IfSome result (λ (r : Roster). i < r.ring.n) }
+{
+    if n > 64 || i >= n {
+        return None;
+    }
+    Some(roster(l, n))
+}
+
+impl From<Sides> for Leaf {
+    fn from(s: Sides) -> Leaf {
+        Leaf {
+            left: s.left,
+            right: s.right,
+        }
     }
 }
 
-fn none() -> Leaf {
-    Leaf { left: 0, right: 0 }
+// An empty leaf set where there is no ring.
+fn crossing(added: Option<Sides>) -> Leaf {
+    added.unwrap_or(Sides { left: 0, right: 0 }).into()
 }
 
 #[unsafe(no_mangle)]
@@ -57,10 +72,7 @@ pub extern "C" fn tarpudhriv_with_set(
     right: u64,
     d: u64,
 ) -> Leaf {
-    if n > 64 || i >= n {
-        return none();
-    }
-    crossing(leaf::with_set(&roster(l, n), i, Sides { left, right }, d))
+    crossing(ring_around(n, l, i).map(|r| leaf::with_set(&r, i, Sides { left, right }, d)))
 }
 
 #[unsafe(no_mangle)]
@@ -72,8 +84,5 @@ pub extern "C" fn tarpudhriv_with_one(
     right: u64,
     j: usize,
 ) -> Leaf {
-    if n > 64 || i >= n {
-        return none();
-    }
-    crossing(leaf::with_one(&roster(l, n), i, Sides { left, right }, j))
+    crossing(ring_around(n, l, i).map(|r| leaf::with_one(&r, i, Sides { left, right }, j)))
 }

@@ -14,6 +14,7 @@ use file::Wrote;
 use rules::{Action, Refusal};
 
 // The action of a number, with its two words, if the number is an action's.
+// Stays: the number is what C hands in, a `uint64_t` (include/).
 #[tactic(auto, unfolding(crate::specs::Words::asked_of))]
 pub fn action_of(k: u64, x: u64, y: u64) -> Option<Action>
     ensures { result ≡ asked_of k x y }

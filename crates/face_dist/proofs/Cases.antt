@@ -21,7 +21,8 @@ pub record Answers : Type 0 where
   -- M outside 2 to 32, and an id or a key at 2^M
   pub out_of_range : (ask_fall 1 0 0 ≡ None) × (ask_fall 33 0 0 ≡ None) × (ask_fall 8 256 0 ≡ None) × (ask_fall 8 0 256 ≡ None)
       × (ask_signed 8 0 256 ≡ None) × (ask_abs_dist 8 256 0 ≡ None) × (ask_nearer 8 256 0 1 ≡ None) × (ask_covers 8 0 0 0 256 ≡ None)
-  pub numbers : (asked_number {A = ℤ} None ≡ 1) × (asked_number (Some (pos 7)) ≡ 0) × (asked_number {A = Bool} None ≡ 1) × (asked_number (Some true) ≡ 0) × (asked_number (Some false) ≡ 0)
+  pub numbers : (asked_number {A = ℤ} None ≡ 1)
+      × (asked_number (Some (pos 7)) ≡ 0) × (asked_number {A = Bool} None ≡ 1) × (asked_number (Some true) ≡ 0) × (asked_number (Some false) ≡ 0)
 
 pub answers : Answers
 unfolding fall_of signed_of abs_dist_of rises_to nearer left_cover_of right_cover_of covers_key

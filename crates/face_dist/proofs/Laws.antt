@@ -1,6 +1,7 @@
 -- What the test of the ranges tells: what crate dist asks. Assumes nothing.
-use mathlib.Core.Path.{◌≡◌}
-use mathlib.Core.Bool.{true, and-eq-true_iff}
+use mathlib.Core.Path.{◌≡◌, refl, ap, ◌∙◌}
+use mathlib.Core.Bool.{Bool, true, false, ◌&&◌, and-eq-true_iff}
+use Rattle.std.specs.List.{list_all}
 use mathlib.Core.List.{List, [], ◌∷◌}
 use Prim.Native.Nat.{ℕ, ◌^◌, ◌<◌}
 use native.Mathlib.Omega.{arith}
@@ -36,3 +37,12 @@ four m w x y z e =
     let t = tail-in m w (x ∷ y ∷ z ∷ []) e in
     let i = two m y z (tail-in m x (y ∷ z ∷ []) t) in
     (record { width = i.width; first = head_in m w (x ∷ y ∷ z ∷ []) e; second = head_in m x (y ∷ z ∷ []) t }, i)
+
+and-assoc : (a b c : Bool) → ((a && b) && c) ≡ (a && (b && c))
+and-assoc true b c = refl
+and-assoc false b c = refl
+
+-- one after the other, and then the width
+pub all_with : (m : ℕ) (xs : List ℕ) → (list_all (λ x. ltb x (2 ^ m)) xs && all_inside m []) ≡ all_inside m xs
+all_with m [] = refl
+all_with m (x ∷ xs) = and-assoc (ltb x (2 ^ m)) _ _ ∙ ap (λ b. ltb x (2 ^ m) && b) (all_with m xs)

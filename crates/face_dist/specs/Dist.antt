@@ -1,4 +1,4 @@
--- The answers to callers outside: what ring's definitions give at N = 2^M if all is in range, else OutOfRange. Assumes nothing.
+-- The answers to callers outside: what ring's definitions give at N = 2^M if all is in range, else None. Assumes nothing.
 use Rattle.std.specs.Prelude.{Bool, cond, ◌&&◌, List, [], ◌∷◌, ℕ, ◌^◌, leb, ltb, ℤ, pos, Option, Some, None}
 use Rattle.ring.specs.Distance.{fall_of, signed_of, abs_dist_of, nearer, covers_key}
 use Rattle.rules.specs.Names.{Id, Key}

@@ -46,11 +46,8 @@ fn next(s: Stepped, a: Action) -> Stepped
 fn written(s: Stepped, out: &mut [u8]) -> Wrote
     ensures { (result ≡ wrote_by s out.old) × (out.new ≡ left_by s out.old) }
 {
-    let answer = s.answer;
-    match answer {
-        Ok(()) => file_write::write(s.table, s.pool, 256, out),
-        Err(why) => Err(why),
-    }
+    s.answer?;
+    file_write::write(s.table, s.pool, 256, out)
 }
 
 // The start; 8 for M or L at or above 2^32.
@@ -59,13 +56,13 @@ fn begun(m: u64, l: u64, a: u64, ids: &[u32]) -> Stepped
 {
     let t = table_parts::no_table();
     let p = table_parts::no_messages();
-    if m >= 4294967296 {
+    let Ok(m) = u32::try_from(m) else {
         return table_parts::refused(t, p, Refusal::Header);
-    }
-    if l >= 4294967296 {
+    };
+    let Ok(l) = u32::try_from(l) else {
         return table_parts::refused(t, p, Refusal::Header);
-    }
-    face_table::start(t, p, 256, m as u32, l as u32, ids, a)
+    };
+    face_table::start(t, p, 256, m, l, ids, a)
 }
 
 // Reads a table file and writes it back. A refusal of either leaves `out` as it is.
@@ -100,9 +97,6 @@ pub fn settled_file(file: &[u8]) -> Rest
     ensures { result ≡ rest_by (loaded_of file.now) }
 {
     let s = loaded(file);
-    let answer = s.answer;
-    match answer {
-        Ok(()) => face_table::settled(s.table, s.pool, 256),
-        Err(why) => Err(why),
-    }
+    s.answer?;
+    face_table::settled(s.table, s.pool, 256)
 }

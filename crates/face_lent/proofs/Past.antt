@@ -1,8 +1,8 @@
 -- What lies in the places past the count is not looked at: of two lists of 256 places that agree on the first count of them, each function says the same, and
 -- what is done leaves the same 256 places. And what is done leaves blank places past the count that it tells. The idea: the definitions look at a pool through
 -- its count and its waiting messages alone. What a refusal leaves, and lists without 256 places, are in Kept. Assumes nothing.
-use Rattle.rules.specs.Shapes.{Planned, Answer}
-use Rattle.std.specs.Prelude.{Ok, Err}
+use Rattle.rules.specs.Shapes.{Planned}
+use Rattle.std.specs.Prelude.{Result, Ok, Err}
 use mathlib.Core.Path.{◌≡◌, refl, sym, ◌∙◌, ap, subst}
 use mathlib.Core.Bool.{Bool, true, false, cond, ◌&&◌, not}
 use mathlib.Core.List.{List}
@@ -124,10 +124,10 @@ module _ (t : Table) (n : ℕ) (xs ys : List Message) (same : take n xs ≡ take
 
   start-alike : (len m l : ℕ) (ids : List ℕ) (a : ℕ) → Alike (start_step t (pool_of n xs) len m l ids a) (start_step t (pool_of n ys) len m l ids a)
   unfolding start_step
-  start-alike len m l ids a = cond-alike (eqb len 256) (λ e. go (start_of m l ids a).answer) (refused-alike no.Invalid)
+  start-alike len m l ids a = cond-alike (eqb len 256) (λ e. go (start_of m l ids a)) (refused-alike no.Invalid)
     where
-      go : (w : Answer) → Alike (began w (start_of m l ids a).table t (pool_of n xs)) (began w (start_of m l ids a).table t (pool_of n ys))
-      go (Ok tt) = same_alike _
+      go : (w : Result Table Refusal) → Alike (began w t (pool_of n xs)) (began w t (pool_of n ys))
+      go (Ok u) = same_alike _
       go (Err why) = refused-alike why
 
   load-alike : (bs : List ℕ) (len : ℕ) → Alike (load_of bs t (pool_of n xs) len) (load_of bs t (pool_of n ys) len)

@@ -1,5 +1,6 @@
 // The bench as a caller has it: a table by value, and the waiting messages in a list that the caller lends, with their count. Each function copies the
 // list in, lets the core do the work on values, and copies the list back; its reply and what the list then holds are stated for every input.
+// Stay, in every call: the table, the list and its count as three parameters, which docs/CLAIMS names. The list is the caller's memory, of any length.
 #![tactic(auto)]
 
 ghost use Rattle.std.specs.Prelude.{◌≡◌};
@@ -12,6 +13,7 @@ use table_type::{Stepped, Table};
 
 // What the caller gets beside its list: the answer, the table and the count of waiting messages; and where the next hop came from, if a step routed a
 // message to one.
+// Stays: each call promises the table and the list after a refusal too (specs/Lent, Handed), so that they stand beside the answer.
 #[derive(Clone, Copy)]
 pub struct Reply {
     pub answer: Result<(), Refusal>,
@@ -38,6 +40,7 @@ fn blank_pool(count: usize) -> Pool
 }
 
 // What the caller gets of what the core leaves.
+// Stays a function: an impl of From would state the same clause as a ghost relation of the trait, which is no plainer.
 fn replied(g: Stepped) -> Reply
     ensures { result ≡ reply_of g }
 {

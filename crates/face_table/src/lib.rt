@@ -23,11 +23,8 @@ pub fn start(t: Table, p: Pool, len: usize, m: u32, l: u32, ids: &[u32], a: u64)
     if len != 256 {
         return table_parts::refused(t, p, Refusal::Invalid);
     }
-    let made = Table::start(m, l, ids, a);
-    let answer = made.answer;
-    let table = made.table;
-    match answer {
-        Ok(()) => table_parts::done(table, table_parts::no_messages()),
+    match Table::start(m, l, ids, a) {
+        Ok(made) => table_parts::done(made, table_parts::no_messages()),
         Err(why) => table_parts::refused(t, p, why),
     }
 }

@@ -8,27 +8,18 @@ ghost use Rattle.face_lent.specs.Lent.{lent_step, reply_of};
 
 use face_lent::Reply;
 use file::Wrote;
-use rules::{Action, Message, Node, Pool};
+use rules::{Action, Pool, Refusal};
 use table_type::{Stepped, Table};
 
 // The action of a number, with its two words; a Take where the number is no action's.
 fn action_of(kind: u64, x: u64, y: u64) -> Action {
-    match face_c::action_of(kind, x, y) {
-        Some(a) => a,
-        None => Action::Take(x as usize),
-    }
+    face_c::action_of(kind, x, y).unwrap_or(Action::Take(x as usize))
 }
 
-fn turned_node(v: Node) -> Node {
-    let mut u = v;
-    u.grant = u.grant ^ 1;
-    u
-}
-
-fn turned_message(m: Message) -> Message {
-    let mut u = m;
-    u.word = u.word ^ 1;
-    u
+// Turns the lowest bit of the last node's grant and of the last place's word.
+fn turn(s: &mut Stepped) {
+    s.table.nodes[63].grant ^= 1;
+    s.pool.places[255].word ^= 1;
 }
 
 fn loaded(file: &[u8]) -> Stepped {
@@ -40,18 +31,33 @@ fn loaded(file: &[u8]) -> Stepped {
     )
 }
 
+// The sum of what the rounds answer, modulo 2^32.
+fn summed<F: FnMut() -> u32>(times: u32, mut round: F) -> u64
+    requires { F.IsAlwaysCallable round }
+{
+    let mut sum: u32 = 0;
+    for _ in 0..times {
+        sum = sum.wrapping_add(round());
+    }
+    u64::from(sum)
+}
+
+// What a round answers: the number of its answer and how many messages it leaves.
+fn left(answer: Result<(), Refusal>, count: usize) -> u32 {
+    parts::answer_number(answer) % 16 + (count % 65536) as u32
+}
+
+// Stays: a loop of its own. Over a closure each step by value copies table and pool once more, 18,472 bytes, which its figure would count (docs/BENCHMARKS.md).
 fn steps(s: Stepped, a: Action, times: u32) -> u64 {
     let t = s.table;
     let p = s.pool;
-    let mut sum: u64 = 0;
+    let mut sum: u32 = 0;
     for _ in 0..times {
         let r = table_step::step(t, p, 256, a);
-        let answer = r.answer;
         let q = r.pool;
-        let number = parts::answer_number(answer) as u64;
-        sum = (sum + number + q.count as u64 % 65536) % 4294967296;
+        sum = sum.wrapping_add(left(r.answer, q.count));
     }
-    sum
+    u64::from(sum)
 }
 
 // Steps by value: the number answered and the messages left.
@@ -68,95 +74,56 @@ fn lent_step(t: Table, p: Pool, a: Action) -> Reply
     face_lent::step(t, &mut places, p.count, a)
 }
 
-fn lent_steps(s: Stepped, a: Action, times: u32) -> u64 {
-    let t = s.table;
-    let p = s.pool;
-    let mut sum: u64 = 0;
-    for _ in 0..times {
-        let r = lent_step(t, p, a);
-        let answer = r.answer;
-        let number = parts::answer_number(answer) as u64;
-        sum = (sum + number + r.count as u64 % 65536) % 4294967296;
-    }
-    sum
-}
-
 // Steps over a lent list, which is made anew for each: the number answered and the messages left.
 #[unsafe(no_mangle)]
 pub extern "C" fn tarpudhriv_lent_steps(file: &[u8], kind: u64, x: u64, y: u64, times: u32) -> u64 {
-    lent_steps(loaded(file), action_of(kind, x, y), times)
-}
-
-fn one_if(ok: bool) -> u64 {
-    if ok { 1 } else { 0 }
-}
-
-fn validity(s: Stepped, times: u32) -> u64 {
-    let mut t = s.table;
-    let mut p = s.pool;
-    let mut sum: u64 = 0;
-    for _ in 0..times {
-        t.nodes[63] = turned_node(t.nodes[63]);
-        p.places[255] = turned_message(p.places[255]);
-        let x = one_if(table_valid::is_valid(t, p)) % 2;
-        sum = (sum + x) % 4294967296;
-    }
-    sum
+    let s = loaded(file);
+    let a = action_of(kind, x, y);
+    summed(times, || {
+        let r = lent_step(s.table, s.pool, a);
+        left(r.answer, r.count)
+    })
 }
 
 // Validity: 1 for a valid table.
 #[unsafe(no_mangle)]
 pub extern "C" fn tarpudhriv_validity(file: &[u8], times: u32) -> u64 {
-    validity(loaded(file), times)
+    let mut s = loaded(file);
+    summed(times, || {
+        turn(&mut s);
+        u32::from(table_valid::is_valid(s.table, s.pool))
+    })
 }
 
 // Loads: the number answered and the messages loaded.
 #[unsafe(no_mangle)]
 pub extern "C" fn tarpudhriv_loads(file: &[u8], times: u32) -> u64 {
-    let mut sum: u64 = 0;
-    for _ in 0..times {
+    summed(times, || {
         let r = loaded(file);
-        let answer = r.answer;
-        let q = r.pool;
-        let number = parts::answer_number(answer) as u64;
-        sum = (sum + number + q.count as u64 % 65536) % 4294967296;
-    }
-    sum
+        left(r.answer, r.pool.count)
+    })
 }
 
-fn told(w: Wrote) -> u64 {
+// What a round that writes answers: its number, or how many bytes it wrote.
+fn told(w: Wrote) -> u32 {
     match w {
-        Ok(count) => count as u64 % 65536,
-        Err(why) => parts::answer_number(Err(why)) as u64 % 16,
+        Ok(count) => (count % 65536) as u32,
+        Err(why) => parts::answer_number(Err(why)),
     }
-}
-
-fn writes(s: Stepped, out: &mut [u8], times: u32) -> u64 {
-    let mut t = s.table;
-    let mut p = s.pool;
-    let mut sum: u64 = 0;
-    for _ in 0..times {
-        t.nodes[63] = turned_node(t.nodes[63]);
-        p.places[255] = turned_message(p.places[255]);
-        let x = told(file_write::write(t, p, 256, out)) % 131072;
-        sum = (sum + x) % 4294967296;
-    }
-    sum
 }
 
 // Writes: the number answered and the bytes written.
 #[unsafe(no_mangle)]
 pub extern "C" fn tarpudhriv_writes(file: &[u8], out: &mut [u8], times: u32) -> u64 {
-    writes(loaded(file), out, times)
+    let mut s = loaded(file);
+    summed(times, || {
+        turn(&mut s);
+        told(file_write::write(s.table, s.pool, 256, out))
+    })
 }
 
 // Listings: the number answered and the bytes written.
 #[unsafe(no_mangle)]
 pub extern "C" fn tarpudhriv_lists(file: &[u8], out: &mut [u8], times: u32) -> u64 {
-    let mut sum: u64 = 0;
-    for _ in 0..times {
-        let x = told(file_list::list(file, out)) % 131072;
-        sum = (sum + x) % 4294967296;
-    }
-    sum
+    summed(times, || told(file_list::list(file, out)))
 }

@@ -12,7 +12,7 @@ use lib.Seq.{take-suc-set}
 use Rattle.rules.specs.declared.Message.{Message}
 use Rattle.rules.specs.declared.Node.{Node}
 use Rattle.rules.specs.declared.Ring.{Ring}
-use Rattle.rules.specs.InnerAsks.{Listed, Below}
+use Rattle.rules.specs.InnerAsks.{Below}
 use Rattle.table_type.specs.declared.Table.{Table}
 use Rattle.table_type.specs.Table.{ring_of, ids_of}
 use Rattle.file_list.specs.declared.Turn.TheVariants.{Delivers, Stops, Goes}

@@ -111,8 +111,7 @@ fn put_line(
 }
 
 // Follows each waiting lookup, in pool order, as the only message of the table, with no other step, and writes its line: by the rules alone, with no
-// pool and no test of validity at each hop. The table is looked at here alone, since a call for each lookup would copy it. A `for` over the hops would not
-// leave how many they were.
+// pool and no test of validity at each hop. The table is looked at here alone, since a call for each lookup would copy it.
 fn follow(b: &mut [u8], start: usize, t: Table, p: Pool) -> usize
     requires { (valid_of t p ≡ true) × (start + 100 * 256 ≤ length b.old) }
     ensures { Prints b.old start (lines_of t (waiting p)) result b.new }
@@ -128,7 +127,7 @@ fn follow(b: &mut [u8], start: usize, t: Table, p: Pool) -> usize
             let mut hops: usize = 0;
             let mut letters = [0u8; 64];
             let mut end = None;
-            'hops: while hops < 64 {
+            'hops: for n in 0..64 {
                 let v = t.nodes[i];
                 let turn = turn_at(&r, dead, i, v, m.word);
                 match turn {
@@ -138,9 +137,9 @@ fn follow(b: &mut [u8], start: usize, t: Table, p: Pool) -> usize
                     }
                     Turn::Stops => break 'hops,
                     Turn::Goes(h) => {
-                        letters[hops] = letter_of(i, v, h);
+                        letters[n] = letter_of(i, v, h);
                         i = h;
-                        hops += 1;
+                        hops = n + 1;
                     }
                 }
             }
@@ -151,6 +150,7 @@ fn follow(b: &mut [u8], start: usize, t: Table, p: Pool) -> usize
 }
 
 // Writes the listing of a loaded table: the header line, and the line of each waiting lookup.
+// Stays a clause, here and in `follow`: `valid_of t p`. A type of valid tables would be made and taken apart once, for the table that a load leaves.
 fn print(t: Table, p: Pool, out: &mut [u8]) -> usize
     requires { (valid_of t p ≡ true) × (65536 ≤ length out.old) }
     ensures { Prints out.old 0 (headline ++ lines_of t (waiting p)) result out.new }

@@ -9,8 +9,27 @@ ghost use Rattle.file_read.specs.InnerRecords.{Fitting, records_of};
 
 use rules::{Message, Node, Pool, Refusal, Status};
 use table_type::{Stepped, Table};
+use table_valid::Waiting;
+
+// A file past the tests of its header and its offsets.
+#[derive(Clone, Copy)]
+pub struct Fit<'a> {
+    pub bytes: &'a [u8],
+    pub ghost fits: { Fitting bytes.now },
+}
+
+// The messages of a file: the first `count` records of the bytes, which may go on behind them.
+// Stays a slice with a count: the lent bytes have room behind the messages, and are lent whole (crate image_pool).
+#[derive(Clone, Copy)]
+pub struct Part<'a> {
+    pub bytes: &'a [u8],
+    pub count: usize,
+    pub ghost few: { count ≤ 256 },
+    pub ghost room: { 56 * count ≤ length bytes.now },
+}
 
 // Word i of the header, from 0.
+// Stays a clause, here and in the three tests below: that there are 32 bytes. A type for it would be opened at every read of a record, which takes bytes.
 pub fn word(bs: &[u8], i: usize) -> u32
     requires { (i < 8) × (32 ≤ length bs.now) }
     ensures { result ≡ header_word bs.now i }
@@ -18,7 +37,7 @@ pub fn word(bs: &[u8], i: usize) -> u32
     words::read::<u32>(bs, 4 * i)
 }
 
-// The status of a number from 0 to 3, and dead for any other. No `From`: neither type is of this crate.
+// The status of a number from 0 to 3, and dead for any other. Stays a function: `From` wants one of its two types in this crate.
 fn status_of(x: u32) -> Status
     ensures { result ≡ status_of x }
 {
@@ -31,6 +50,7 @@ fn status_of(x: u32) -> Status
 }
 
 // A record of the file: a row of numbers, each of its width.
+// Stays beside the writer's trait of that name (crate file_write): the two share the widths alone, and the crate below both (`file`) is without code.
 trait Record: Copy {
     // How many bytes it takes.
     const SIZE: usize;
@@ -167,45 +187,63 @@ pub fn statuses_fit(bs: &[u8]) -> bool
 
 // The table of the file: its nodes in the slots 0 to n - 1, and no node in the others.
 #[tactic(auto, using(crate::proofs::Laws::fits_told))]
-fn read_table(bs: &[u8]) -> Table
-    requires { Fitting bs.now }
-    ensures { result ≡ file_table bs.now }
+fn read_table(file: Fit) -> Table
+    ensures { result ≡ file_table file.entry.bytes.now }
 {
-    let m = word(bs, 0);
-    let l = word(bs, 1);
-    let n = word(bs, 2) as usize;
+    let m = word(file.bytes, 0);
+    let l = word(file.bytes, 1);
+    let n = word(file.bytes, 2) as usize;
     let mut nodes = [table_type::no_node(); 64];
-    fill(&mut nodes, &bs[32..], n);
+    fill(&mut nodes, &file.bytes[32..], n);
     Table { m, l, n, nodes }
 }
 
-// The messages of the part of the file that begins at the message offset.
-fn read_pool(part: &[u8], count: usize) -> Pool
-    requires { (56 * count ≤ length part.now) × (count ≤ 256) }
-    ensures { result ≡ part_pool count part.now }
+// The messages of the file: the part that begins at the message offset.
+#[tactic(auto, using(crate::proofs::Laws::fits_told))]
+pub fn messages<'a>(file: Fit<'a>) -> Part<'a>
+    ensures { part_pool result.count result.bytes.now ≡ file_pool file.entry.bytes.now }
+{
+    let count = word(file.bytes, 3) as usize;
+    let at = word(file.bytes, 5) as usize;
+    let bytes = &file.bytes[at..];
+    Part { bytes, count }
+}
+
+// Reads the messages of a part.
+fn read_pool(part: Part) -> Pool
+    ensures { result ≡ part_pool part.entry.count part.entry.bytes.now }
 {
     let mut places = [parts::blank_message(); 256];
-    fill(&mut places, part, count);
+    fill(&mut places, part.bytes, part.count);
+    let count = part.count;
     Pool { count, places }
 }
 
-// The messages of the file: the part that begins at the message offset is handed on.
-#[tactic(auto, using(crate::proofs::Laws::fits_told))]
-fn read_messages(file: &[u8]) -> Pool
-    requires { Fitting file.now }
-    ensures { result ≡ file_pool file.now }
+// The messages of the file, by value. 01 names this form: the middle part of the file passed to the message reader (docs/DECISIONS.md, "01's code places").
+fn read_messages(file: Fit) -> Pool
+    ensures { result ≡ file_pool file.entry.bytes.now }
 {
-    let count = word(file, 3) as usize;
-    let at = word(file, 5) as usize;
-    read_pool(&file[at..], count)
+    let part = messages(file);
+    read_pool(part)
+}
+
+impl Waiting for Part<'_> {
+    ghost pool = { λ p. part_pool p.count p.bytes.now };
+
+    fn count(&self) -> usize {
+        self.count
+    }
+
+    fn at(&self, q: usize) -> Message {
+        read_message(self.bytes, 56 * q)
+    }
 }
 
 // What the records leave: 10 if a status is none of 0 to 3 or validity is broken, else the table and the messages of the file.
-fn load_records(file: &[u8], t: Table, p: Pool) -> Stepped
-    requires { Fitting file.now }
-    ensures { result ≡ records_of file.now t p }
+fn load_records(file: Fit, t: Table, p: Pool) -> Stepped
+    ensures { result ≡ records_of file.entry.bytes.now t p }
 {
-    if !statuses_fit(file) {
+    if !statuses_fit(file.bytes) {
         return table_parts::refused(t, p, Refusal::Invalid);
     }
     let u = read_table(file);
@@ -234,5 +272,5 @@ pub fn load(file: &[u8], t: Table, p: Pool, len: usize) -> Stepped
     if len != 256 {
         return table_parts::refused(t, p, Refusal::Invalid);
     }
-    load_records(file, t, p)
+    load_records(Fit { bytes: file }, t, p)
 }

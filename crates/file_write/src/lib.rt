@@ -22,7 +22,7 @@ fn pair<W: Word>(b: &mut [u8], at: usize, x: W, y: W) -> usize
     words::write(b, mid, y)
 }
 
-// A record of the file: a row of numbers, each of its width.
+// A record of the file: a row of numbers, each of its width. Stays beside the reader's, as file_read::Record.
 trait Record: Copy {
     // How many bytes it takes.
     ghost size: { ℕ };
@@ -92,6 +92,7 @@ fn put_all<R: Record>(b: &mut [u8], at: usize, records: &[R]) -> usize
 }
 
 // Writes the header.
+// Stay clauses, here and in the two below: n ≤ 64 and count ≤ 256. They bound one sum, and a type of the two counts would be made for it alone.
 fn put_header(b: &mut [u8], m: u32, l: u32, n: u32, count: u32) -> usize
     requires { (n ≤ 64) × (count ≤ 256) × (32 ≤ length b.old) }
     ensures { Put 32 b.old 0 (encode header_widths (header_row m l n count)) result b.new }

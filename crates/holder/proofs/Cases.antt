@@ -18,7 +18,7 @@ use Rattle.rules.specs.Pool.{laid}
 use Rattle.table_type.specs.declared.Table.{Table}
 use Rattle.table_type.specs.Table.{node_at}
 use Rattle.start.specs.Start.{slot_ids, slots_to, start_node, start_nodes, start_fits, ids_rise, list_fits}
-use Rattle.table_type.specs.Start.{start_of}
+use Rattle.table_type.specs.Start.{start_of, table_of}
 use Rattle.table.specs.Settled.{ready_set, settled_at, is_settled}
 use Rattle.step.specs.Step.{is_sound}
 use Rattle.table.specs.Valid.{nodes_fit, messages_fit, pool_fits, valid_of}
@@ -28,7 +28,7 @@ use Rattle.holder.specs.Holder.{Holding, covered_by, copies_of, holding_of, hold
 
 -- who holds k on a start of these ids, ready where A has a mark
 abbrev held : List ℕ → ℕ → ℕ → Holding
-held ids a k = holding_of (start_of 8 1 ids a).table (laid []) 256 k
+held ids a k = holding_of (table_of (start_of 8 1 ids a)) (laid []) 256 k
 
 abbrev worked : List ℕ
 worked = 17 ∷ 18 ∷ 65 ∷ 95 ∷ []
@@ -36,7 +36,7 @@ worked = 17 ∷ 18 ∷ 65 ∷ 95 ∷ []
 -- all four ready but the one at slot 1, which is ok
 abbrev one_ok : Table
 one_ok =
-    let t : Table = (start_of 8 1 worked 15).table in
+    let t : Table = table_of (start_of 8 1 worked 15) in
     record { m = t.m; l = t.l; n = t.n; nodes = set t.nodes 1 (with_status (node_at t 1) status.Ok) }
 
 pub record Cases : Type 0 where

@@ -4,14 +4,14 @@
 use rules::Refusal;
 
 // The slot of the node that holds a key, and the slots of the copies.
-#[derive(Clone, Copy)]
+#[derive(Clone, Copy, Debug, PartialEq, Eq)]
 pub struct Holder {
     pub slot: usize,
     pub copies: u64,
 }
 
 // Why no node holds a key: the table is not valid or the list has not 256 places, the key is not below 2^M, or the table is not settled.
-#[derive(Clone, Copy)]
+#[derive(Clone, Copy, Debug, PartialEq, Eq)]
 pub enum Unheld {
     NotAsked(Refusal),
     OutOfRange,

@@ -1,17 +1,19 @@
 // The waiting messages in place: a lent part of bytes, 56 for each message. What is taken out closes the gap by one move, what is new is written behind the last.
 // Whole records are moved by their size alone. Each function asks of its callers that the part has room; what lies behind the messages afterwards is not told.
-// The count goes beside the part, which has room for more than the messages that wait.
+// Stays beside the part, in each function that writes: the count. The part is lent by its caller and has room for more than the messages that wait, and the count
+// changes with every call; a type of the two would be made and taken apart for each.
 #![tactic(auto)]
 
 ghost use Rattle.std.specs.Prelude.{◌≡◌, ◌+◌, ◌-◌, ◌*◌, ◌<◌, ◌≤◌, [], ◌∷◌, ◌++◌, length, drop};
 ghost use Rattle.std.proofs.Math.Seq.{paste};
-ghost use Rattle.rules.specs.Mail.{alike as alike_of, first_equal, removed_at, added, without_probes, sent};
+ghost use Rattle.rules.specs.Mail.{first_equal, removed_at, added, without_probes, sent};
 ghost use Rattle.marks.specs.Marks.{size_of};
-ghost use Rattle.pool_laws.specs.InnerSending.{held_of, held_with, copies};
+ghost use Rattle.pool_laws.specs.InnerSending.{held_of, copies};
 ghost use Rattle.file.specs.Held.{HeldMessage};
 ghost use Rattle.image.specs.InnerRecords.{records_in, closed_up, messages_in};
 ghost use Rattle.image_pool.specs.InnerTurns.{Keeps, Room};
 
+use file_read::Part;
 use rules::Message;
 
 // Moves n bytes down by size: those from at + size on come to stand from at on.
@@ -32,27 +34,16 @@ pub fn take_out(part: &mut [u8], size: usize, count: usize, p: usize)
     move_down(part, at, size, size * (count - 1 - p));
 }
 
-// Are the two equal in every field but the hops? The word first: it differs most often.
-fn same(a: Message, b: Message) -> bool
-    ensures { result ≡ alike_of a b }
+// The first message that equals m, in pool order, of those left once place `gone` is away.
+// Stays beside the search of crate pool, whose form 01 names (docs/DECISIONS.md, "01's code places"): that one reads messages, this one bytes.
+pub fn first_equal(part: Part, gone: usize, m: Message) -> Option<usize>
+    ensures { result ≡ first_equal (removed_at (messages_in part.entry.count part.entry.bytes.now) gone) m }
 {
-    if a.word != b.word {
-        return false;
-    }
-    pool::alike(a, b)
-}
-
-// The first message that equals m, in pool order, of those left once place `gone` is away. The pool's own search reads a `Pool` and this one bytes:
-// what they share is the loop alone.
-pub fn first_equal(part: &[u8], count: usize, gone: usize, m: Message) -> Option<usize>
-    requires { (count ≤ 256) × (56 * count ≤ length part.now) }
-    ensures { result ≡ first_equal (removed_at (messages_in count part.now) gone) m }
-{
-    let n = pool::left_count(count, gone);
+    let n = pool::left_count(part.count, gone);
     'places: for at in 0..n {
         let place = pool::place_of(gone, at);
-        let q = file_read::read_message(part, 56 * place);
-        if same(q, m) {
+        let q = file_read::read_message(part.bytes, 56 * place);
+        if pool::alike(q, m) {
             return Some(at);
         }
     }
@@ -78,7 +69,7 @@ pub fn replace(part: &mut [u8], count: usize, p: usize, m: Message) -> usize
     requires { (p < count) × (count ≤ 256) × (56 * count ≤ length part.old) }
     ensures { messages_in result part.new ≡ added (removed_at (messages_in count part.old) p) m }
 {
-    let at = first_equal(part, count, p, m);
+    let at = first_equal(Part { bytes: part, count }, p, m);
     take_out(part, 56, count, p);
     match at {
         Some(_) => count - 1,
@@ -114,32 +105,20 @@ pub fn take_probes_out(part: &mut [u8], count: usize, i: u32, j: u32) -> usize
     kept
 }
 
-// A set of slots, with q's if q equals m in all but the slot. As the pool's own, but with the quicker test of `same`.
-fn with_slot(set: u64, q: Message, m: Message) -> u64
-    ensures { result ≡ held_with m set q }
-{
-    let one = parts::to_slot(m, q.dest);
-    if same(q, one) {
-        marks::added(set, q.dest as usize)
-    } else {
-        set
-    }
-}
-
 // The slots to which an equal of m waits.
-fn held_slots(part: &[u8], count: usize, m: Message) -> u64
-    requires { (count ≤ 256) × (56 * count ≤ length part.now) }
-    ensures { result ≡ held_of m (messages_in count part.now) }
+fn held_slots(part: Part, m: Message) -> u64
+    ensures { result ≡ held_of m (messages_in part.entry.count part.entry.bytes.now) }
 {
     let mut set: u64 = 0;
-    for at in 0..count {
-        let q = file_read::read_message(part, 56 * at);
-        set = with_slot(set, q, m);
+    for at in 0..part.count {
+        let q = file_read::read_message(part.bytes, 56 * at);
+        set = pool::held_with(set, q, m);
     }
     set
 }
 
 // Writes m for each slot of a set behind the n messages that wait, in rising slot order, and tells how many wait then.
+// Stays a `while let`: each member is taken out of the set in its turn, and an iterator of members would be a type and a contract more (pick::best).
 pub fn append_all(part: &mut [u8], n: usize, m: Message, set: u64) -> usize
     requires { (n + size_of set ≤ 256) × (56 * (n + size_of set) ≤ length part.old) }
     ensures { messages_in result part.new ≡ messages_in n part.old ++ copies m set }
@@ -159,6 +138,6 @@ pub fn send_all(part: &mut [u8], count: usize, m: Message, set: u64) -> usize
     requires { Room 256 (sent m set (messages_in count part.old)) part.old }
     ensures { messages_in result part.new ≡ sent m set (messages_in count part.old) }
 {
-    let have = held_slots(part, count, m);
+    let have = held_slots(Part { bytes: part, count }, m);
     append_all(part, count, m, marks::less(set, have))
 }

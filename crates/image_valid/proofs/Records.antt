@@ -1,35 +1,30 @@
 -- The records of a table file where they lie: the node of a slot and the message of a place are those of their own bytes, slots at n and above are
 -- blank, and the ids stand at the head of their records. Assumes nothing.
-use mathlib.Core.Path.{◌≡◌, refl, sym, ◌∙◌, ap, ap₂}
+use mathlib.Core.Path.{◌≡◌, refl, sym, ◌∙◌, ap}
 use mathlib.Core.Logic.{⊎_elim}
 use mathlib.Core.Bool.{Bool, true, false, ◌&&◌}
 use mathlib.Core.List.{List, [], ◌∷◌, ◌++◌, map}
 use Prim.Native.Nat.{ℕ, zero, suc, ◌+◌, ◌-◌, ◌*◌, ◌^◌, ◌<◌, ◌≤◌}
 use native.Mathlib.Omega.{arith}
-use borrow.Author.Tests.{le-leb}
 use lib.Dec.{eqb, leb, ltb}
-use lib.ListN.{length, get_or, drop, set, replicate, length-append, length-replicate, get_or-append}
+use lib.ListN.{length, get_or, drop, set, replicate, length-replicate, get_or-append}
 use lib.Seq.{drop-drop}
 use Rattle.marks.specs.Marks.{all_to}
-use Rattle.marks.proofs.Bools.{lt-or-le, and_left, and_right, and_both, and-fails-left, and-fails-right}
+use Rattle.marks.proofs.Bools.{lt-or-le, and_left, and_right, and_both}
 use Rattle.marks.proofs.Laws.{each, all_of, fails}
-use Rattle.words.specs.Bytes.{decode, decode_all}
-use Rattle.words.proofs.Codec.{decode-all-length, decode-all-at}
+use Rattle.words.specs.Bytes.{decode}
+use Rattle.words.proofs.Codec.{decode-all-length}
 use Rattle.rules.specs.declared.Node.{Node}
 use Rattle.rules.specs.declared.Ring.{Ring}
-use Rattle.rules.specs.declared.Message.{Message}
-use Rattle.rules.specs.declared.Pool.{Pool}
 use Rattle.rules.specs.Limits.{m_low, m_high, l_low, l_high, nodes_high, messages_high}
-use Rattle.rules.specs.Fits.{between, numbers_fit, is_blank, node_fits, slot_fits, message_fits, hops_fit}
-use Rattle.rules.specs.Mail.{alike, all_different}
+use Rattle.rules.specs.Fits.{between, numbers_fit, is_blank, node_fits, slot_fits}
 use Rattle.rules.specs.Nodes.{no_node}
-use Rattle.rules.specs.Pool.{blank, message_at, waiting}
 use Rattle.table_type.specs.declared.Table.{Table}
 use Rattle.table_type.specs.Table.{node_at, id_of, ids_of, ring_of}
-use Rattle.table.specs.Valid.{nodes_fit, messages_fit, pool_fits}
+use Rattle.table.specs.Valid.{nodes_fit}
 use Rattle.table_valid.proofs.Slots.{low_at, low-next, slot-listed, slot-blank}
-use Rattle.file.specs.Format.{node_widths, message_widths, nodes_at, node_from, message_from, at}
-use Rattle.file.specs.Load.{header_word, file_m, file_l, file_n, file_count, header_fits, node_rows, file_table, part_pool}
+use Rattle.file.specs.Format.{node_widths, nodes_at, node_from, at}
+use Rattle.file.specs.Load.{header_word, file_m, file_l, file_n, file_count, header_fits, node_rows, file_table}
 use Rattle.file.proofs.Rows.{map_at}
 use Rattle.file.proofs.File.{node-row-at}
 use Rattle.std.proofs.lemmas.List.{drop-replicate}
@@ -117,6 +112,10 @@ module _ (bs : List ℕ) where
       let bcd = and_right a (b && (c && d)) h in
       and_both (and_left a (b && (c && d)) h) (and_both (and_left b (c && d) bcd) (and_left c d (and_right b (c && d) bcd)))
 
+  -- a slot below n is one of the file's
+  pub inside : (g : Ring) (s : ℕ) → g ≡ ring_of (file_table bs) → s < g.n → s < file_n bs
+  inside g s e h = omega (arith, h, ap (λ (g : Ring). g.n) e, n-is)
+
   -- one turn decides its slot
   pub slot_turn : (g : Ring) (low s : ℕ) (v : Node) (a b : Bool) → g ≡ ring_of (file_table bs) → low ≡ low_at (ids_of (file_table bs)) s
       → s < file_n bs → v ≡ node_from (decode node_widths (drop (nodes_at + 64 * s) bs))
@@ -145,61 +144,3 @@ module _ (bs : List ℕ) where
   ids-are =
       map-passed id_of node_from (node_rows bs) (64 - file_n bs) no_node
       ∙ ap (λ (l : List ℕ). map id_in (node_rows bs) ++ l) (sym (drop-replicate (file_n bs) 64 0))
-
--- ---- messages
-
--- the message of a place obeys its rules
-abbrev pub place_in : Ring → List ℕ → Pool → ℕ → Bool
-place_in g ids p q = message_fits g (message_at p q) && hops_fit g ids (message_at p q)
-
-module _ (count : ℕ) (part : List ℕ) where
-  pub message-in : (q : ℕ) → q < count → message_at (part_pool count part) q ≡ message_from (decode message_widths (drop (56 * q) part))
-  unfolding part_pool
-  message-in q h =
-      let rows = decode_all message_widths 56 count part in
-      let long = rows_long message_from message_widths 56 count part in
-      get_or-append (map message_from rows) (replicate (256 - length (map message_from rows)) blank) blank q (omega arith)
-      ∙ map_at message_from [] blank rows q (omega (arith, decode-all-length message_widths 56 count part))
-      ∙ ap message_from (decode-all-at message_widths 56 count q part h)
-
-  pub count-is : (part_pool count part).count ≡ count
-  unfolding part_pool
-  count-is = rows_long message_from message_widths 56 count part
-
-  pub places-are : count ≤ 256 → length (part_pool count part).places ≡ 256
-  unfolding part_pool
-  places-are h =
-      let long = rows_long message_from message_widths 56 count part in
-      rw (length-append, length-replicate) (omega arith)
-
-  pub messages-all : (g : Ring) (ids : List ℕ) (k : ℕ) → k ≡ count → all_to k (place_in g ids (part_pool count part)) ≡ true
-      → messages_fit g ids (part_pool count part) ≡ true
-  unfolding messages_fit
-  messages-all g ids k e f = ap (λ (i : ℕ). all_to i (place_in g ids (part_pool count part))) (count-is ∙ sym e) ∙ f
-
-  pub message-fails : (g : Ring) (ids : List ℕ) (q : ℕ) → q < count → place_in g ids (part_pool count part) q ≡ false
-      → messages_fit g ids (part_pool count part) ≡ false
-  unfolding messages_fit
-  message-fails g ids q h e = fails (part_pool count part).count (place_in g ids (part_pool count part)) q (omega (arith, count-is)) e
-
-  -- one turn decides its place
-  pub place-turn : (g : Ring) (ids : List ℕ) (q : ℕ) (m : Message) (r : Bool) → q < count
-      → m ≡ message_from (decode message_widths (drop (56 * q) part)) → r ≡ (message_fits g m && hops_fit g ids m)
-      → r ≡ place_in g ids (part_pool count part) q
-  place-turn g ids q m r h d e = e ∙ ap (λ (x : Message). message_fits g x && hops_fit g ids x) (d ∙ sym (message-in q h))
-
-  pub alike-turn : (i j : ℕ) (q m : Message) (r : Bool) → i < count → j < count
-      → q ≡ message_from (decode message_widths (drop (56 * i) part)) → m ≡ message_from (decode message_widths (drop (56 * j) part))
-      → r ≡ alike q m → alike (message_at (part_pool count part) i) (message_at (part_pool count part) j) ≡ r
-  alike-turn i j q m r h k d e f = ap₂ alike (message-in i h ∙ sym d) (message-in j k ∙ sym e) ∙ sym f
-
-  pub pool-fails : (g : Ring) (ids : List ℕ) → messages_fit g ids (part_pool count part) ≡ false → pool_fits g ids (part_pool count part) ≡ false
-  unfolding pool_fits
-  pool-fails g ids e =
-      and-fails-right (leb (part_pool count part).count messages_high) (and-fails-left (all_different (waiting (part_pool count part))) e)
-
-  -- where all fit, it is decided by whether they differ
-  pub pool-goes : (g : Ring) (ids : List ℕ) → count ≤ 256 → messages_fit g ids (part_pool count part) ≡ true
-      → all_different (waiting (part_pool count part)) ≡ pool_fits g ids (part_pool count part)
-  unfolding pool_fits
-  pool-goes g ids h e = rw (le-leb (part_pool count part).count 256 (omega (arith, count-is)), e)

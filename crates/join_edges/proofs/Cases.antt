@@ -30,7 +30,7 @@ use Rattle.take.specs.Take.{status_after_reply, reply_plan_of, plan_take_probe_r
 use Rattle.table_type.specs.declared.Table.{Table}
 use Rattle.table_type.specs.declared.Stepped.{Stepped}
 use Rattle.start.specs.Start.{slot_ids, slots_to, start_node, start_nodes, start_fits, ids_rise, list_fits}
-use Rattle.table_type.specs.Start.{start_of}
+use Rattle.table_type.specs.Start.{start_of, table_of}
 use Rattle.table.specs.Settle.{done_of, carried_out, settle}
 use Rattle.table.specs.Settled.{ready_set, dead_set}
 use Rattle.step.specs.Step.{is_sound, step_of}
@@ -45,7 +45,7 @@ use Rattle.join_laws.proofs.Tests.{Ran, ran}
 
 -- 0 and 14 are ready, 1, 2 and 9 dead
 abbrev pub begun : Stepped
-begun = done_of (start_of 4 1 (0 ∷ 1 ∷ 2 ∷ 9 ∷ 14 ∷ []) 17).table (laid [])
+begun = done_of (table_of (start_of 4 1 (0 ∷ 1 ∷ 2 ∷ 9 ∷ 14 ∷ []) 17)) (laid [])
 
 -- 1 joins by 0, then 2 by 0 while 1 is wait, until both are ok
 abbrev pub at_once : List Action
@@ -152,7 +152,7 @@ told r q e =
 -- ---- good things can happen: 17, 65 and 95 join by 18 one after the other, and all are ready
 
 abbrev pub alone : Stepped
-alone = done_of (start_of 8 1 (17 ∷ 18 ∷ 65 ∷ 95 ∷ []) 2).table (laid [])
+alone = done_of (table_of (start_of 8 1 (17 ∷ 18 ∷ 65 ∷ 95 ∷ []) 2)) (laid [])
 
 abbrev pub one_by_one : List Action
 one_by_one =
@@ -177,6 +177,6 @@ unfolding fall_of signed_of abs_dist_of rises_to nearer left_cover_of right_cove
     nodes_fit messages_fit pool_fits valid_of carried_out settle ready_set dead_set is_sound step_of nobody_waits guards introduces is_fair
 computed = (refl, refl)
 
-pub started : (start_of 4 1 (0 ∷ 1 ∷ 2 ∷ 9 ∷ 14 ∷ []) 17).answer ≡ Ok tt
+pub started : start_of 4 1 (0 ∷ 1 ∷ 2 ∷ 9 ∷ 14 ∷ []) 17 ≡ Ok begun.table
 unfolding start_of start_fits list_fits ids_rise listed all_to has slot_ids
 started = refl

@@ -9,6 +9,7 @@ use native.Mathlib.Omega.{arith}
 use Rattle.marks.proofs.Bools.{opposed}
 use Rattle.rules.specs.declared.Action.{Action}
 use Rattle.rules.specs.Pool.{laid}
+use Rattle.table_type.specs.declared.Table.{Table}
 use Rattle.table_type.specs.Start.{start_of}
 use Rattle.join_laws.specs.Clauses.{Clauses}
 use Rattle.join_laws.specs.Claims.{Patient, Throughout, Held}
@@ -39,11 +40,10 @@ at-end h =
 -- without the hypothesis on Join the promise is not kept
 abbrev pub AnyJoins : Type 0
 AnyJoins =
-    (m l : ℕ) (ids : List ℕ) (a : ℕ) (acts : List Action) → (start_of m l ids a).answer ≡ Ok tt
-    → Throughout Held (start_of m l ids a).table (laid []) acts
+    (m l : ℕ) (ids : List ℕ) (a : ℕ) (t : Table) (acts : List Action) → start_of m l ids a ≡ Ok t → Throughout Held t (laid []) acts
 
 pub joins-at-once : AnyJoins → ⊥
-joins-at-once any = at-end (after_first Held at_once in_turn begun (any 4 1 (0 ∷ 1 ∷ 2 ∷ 9 ∷ 14 ∷ []) 17 (at_once ++ in_turn) started))
+joins-at-once any = at-end (after_first Held at_once in_turn begun (any 4 1 (0 ∷ 1 ∷ 2 ∷ 9 ∷ 14 ∷ []) 17 begun.table (at_once ++ in_turn) started))
 
 -- and half-way, with nobody wait, the clauses are broken already: the rest joins in turn
 pub middle-broken : Clauses middle.table middle.pool → ⊥

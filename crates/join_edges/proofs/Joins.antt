@@ -30,7 +30,7 @@ use Rattle.table_type.specs.declared.Table.{Table}
 use Rattle.table_type.specs.declared.Stepped.{Stepped}
 use Rattle.table_type.specs.Table.{node_at}
 use Rattle.start.specs.Start.{slot_ids, slots_to, start_node, start_nodes, start_fits, ids_rise, list_fits}
-use Rattle.table_type.specs.Start.{start_of}
+use Rattle.table_type.specs.Start.{start_of, table_of}
 use Rattle.table.specs.Valid.{nodes_fit, messages_fit, pool_fits, valid_of}
 use Rattle.table.specs.Settle.{done_of, carried_out, settle}
 use Rattle.table.specs.Settled.{ready_set, dead_set, settled_at, is_settled}
@@ -50,7 +50,7 @@ statuses t = (node_at t 0).status ∷ (node_at t 1).status ∷ (node_at t 2).sta
 
 -- 18 alone is ready
 abbrev begun : Table
-begun = (start_of 8 1 (17 ∷ 18 ∷ 65 ∷ 95 ∷ []) 2).table
+begun = table_of (start_of 8 1 (17 ∷ 18 ∷ 65 ∷ 95 ∷ []) 2)
 
 -- the join of 17: its request, the reply, a probe, its reply (17 is ok), the lease asked for, granted and taken (17 is ready)
 abbrev joins : List Action
@@ -90,9 +90,9 @@ one_and_one = Join 1 0 ∷ Take 0 ∷ Take 0 ∷ Take 0 ∷ Take 0 ∷ RequestLe
 pub record Joined : Type 0 where
   pub one : ends (run joins begun (laid [])) ≡ (Ready ∷ Ready ∷ Dead ∷ Dead ∷ [], true, true)
   pub three : ends (run all begun (laid [])) ≡ (Ready ∷ Ready ∷ Ready ∷ Ready ∷ [], true, true)
-  pub three_and_one_lem : ends_at 3 (run three_and_one (start_of 8 4 (17 ∷ 18 ∷ 65 ∷ 95 ∷ []) 7).table (laid [])) ≡ (Ready, true, true)
-  pub two-and-one : ends_at 2 (run two_and_one (start_of 8 4 (17 ∷ 18 ∷ 65 ∷ []) 3).table (laid [])) ≡ (Ready, true, true)
-  pub one-and-one : ends_at 1 (run one_and_one (start_of 8 4 (17 ∷ 18 ∷ []) 1).table (laid [])) ≡ (Ready, true, true)
+  pub three_and_one_lem : ends_at 3 (run three_and_one (table_of (start_of 8 4 (17 ∷ 18 ∷ 65 ∷ 95 ∷ []) 7)) (laid [])) ≡ (Ready, true, true)
+  pub two-and-one : ends_at 2 (run two_and_one (table_of (start_of 8 4 (17 ∷ 18 ∷ 65 ∷ []) 3)) (laid [])) ≡ (Ready, true, true)
+  pub one-and-one : ends_at 1 (run one_and_one (table_of (start_of 8 4 (17 ∷ 18 ∷ []) 1)) (laid [])) ≡ (Ready, true, true)
 
 pub joined : Joined
 unfolding fall_of signed_of abs_dist_of rises_to nearer left_cover_of right_cover_of covers_key has gather tally first_to all_to single union meet

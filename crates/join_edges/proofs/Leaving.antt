@@ -38,7 +38,7 @@ use Rattle.plan.specs.Leave.{plan_node_left, plan_suspect_faulty, plan_probe_tim
 use Rattle.table_type.specs.declared.Table.{Table}
 use Rattle.table_type.specs.declared.Stepped.{Stepped}
 use Rattle.start.specs.Start.{slot_ids, slots_to, start_node, start_nodes, start_fits, ids_rise, list_fits}
-use Rattle.table_type.specs.Start.{start_of}
+use Rattle.table_type.specs.Start.{start_of, table_of}
 use Rattle.table_type.specs.Table.{node_at}
 use Rattle.table.specs.Settle.{done_of, carried_out, settle}
 use Rattle.table.specs.Settled.{ready_set, ok_set, dead_set}
@@ -56,7 +56,7 @@ use Rattle.join_laws.proofs.Tests.{is_join, Ran, ran}
 
 -- 5 and 17 are ready, 18 dead
 abbrev pub begun : Stepped
-begun = done_of (start_of 5 2 (5 ∷ 17 ∷ 18 ∷ []) 3).table (laid [])
+begun = done_of (table_of (start_of 5 2 (5 ∷ 17 ∷ 18 ∷ []) 3)) (laid [])
 
 -- 18 is answered by 17 and probes both; its probe of 17 times out, 5 replies (18 is ok) and grants a lease (18 is ready)
 abbrev pub rest : List Action
@@ -101,7 +101,7 @@ shows r = (nobody_waits begun.table && r.done) && shows_end r.left.table
 
 -- 5, 17 and 31 are ready
 abbrev three : ℕ → Stepped
-three l = done_of (start_of 5 l (5 ∷ 17 ∷ 31 ∷ []) 7).table (laid [])
+three l = done_of (table_of (start_of 5 l (5 ∷ 17 ∷ 31 ∷ []) 7)) (laid [])
 
 -- 31 leaves, and 17 declares it dead
 abbrev leaves : List Action
@@ -143,7 +143,7 @@ dead-told t p e c =
 
 -- 5 is ready, 17 dead
 abbrev two : Stepped
-two = done_of (start_of 5 1 (5 ∷ 17 ∷ []) 1).table (laid [])
+two = done_of (table_of (start_of 5 1 (5 ∷ 17 ∷ []) 1)) (laid [])
 
 -- 17 joins, leaves when it is answered, and joins again
 abbrev joins_twice : List Action
@@ -186,7 +186,7 @@ unfolding fall_of signed_of abs_dist_of rises_to nearer left_cover_of right_cove
     nobody_waits
 leaving = record { two-cover = refl; known_dead = refl; suspects = refl; resigns-in-turn = refl; few-nodes = refl; one-a-side = refl; stale-reply = refl }
 
-pub started : (start_of 5 2 (5 ∷ 17 ∷ 18 ∷ []) 3).answer ≡ Ok tt
+pub started : start_of 5 2 (5 ∷ 17 ∷ 18 ∷ []) 3 ≡ Ok begun.table
 unfolding start_of start_fits list_fits ids_rise listed all_to has slot_ids
 started = refl
 

@@ -8,6 +8,7 @@ use Prim.Native.Nat.{ℕ}
 use native.Mathlib.Omega.{arith}
 use Rattle.rules.specs.declared.Action.{Action}
 use Rattle.rules.specs.Pool.{laid}
+use Rattle.table_type.specs.declared.Table.{Table}
 use Rattle.table_type.specs.Start.{start_of}
 use Rattle.table_laws.proofs.Nodes.{both}
 use Rattle.join_laws.specs.Claims.{Throughout, Held}
@@ -23,8 +24,8 @@ left-broken = dead-told left.left.table left.left.pool (both left.done (knows_de
 -- without the hypothesis that bars them the promise is not kept
 abbrev pub AnyLeaves : Type 0
 AnyLeaves =
-    (m l : ℕ) (ids : List ℕ) (a : ℕ) (acts : List Action) → (start_of m l ids a).answer ≡ Ok tt
-    → JoinsPatient (start_of m l ids a).table (laid []) acts → Throughout Held (start_of m l ids a).table (laid []) acts
+    (m l : ℕ) (ids : List ℕ) (a : ℕ) (t : Table) (acts : List Action) → start_of m l ids a ≡ Ok t
+    → JoinsPatient t (laid []) acts → Throughout Held t (laid []) acts
 
 pub joins-and-leaves : AnyLeaves → ⊥
 joins-and-leaves any =
@@ -33,7 +34,7 @@ joins-and-leaves any =
     let c = end-told (ran one_joins begun).left.table shown.1 in
     let patient : JoinsPatient begun.table begun.pool one_joins =
     (λ i seed join done. none_told begun.table before, nobody-patient rest _ _ refl) in
-    let h = any 5 2 (5 ∷ 17 ∷ 18 ∷ []) 3 one_joins started patient in
+    let h = any 5 2 (5 ∷ 17 ∷ 18 ∷ []) 3 begun.table one_joins started patient in
     let same : ◌≡◌ {A = ℕ} 1 2 =
     (at_last Held one_joins begun h).one 17 1 2 c.key c.one-ready c.other-ready c.one_covers c.other-covers in
     omega arith

@@ -3,7 +3,8 @@ use mathlib.Core.Path.{◌≡◌, refl}
 use mathlib.Core.Logic.{◌⊎◌, inl, inr}
 use Prim.Native.Nat.{ℕ}
 use Rattle.rules.specs.declared.Action.{Action}
-use Rattle.rules.specs.declared.Action.TheVariants.{NodeLeft, ProbeTimeOut, Lookup, Join, RequestLease, LeaseExpired, GrantExpired, Take, Deliver, Forward, SuspectFaulty, DeclareDead, LSRepair, ResignNode, Recover}
+use Rattle.rules.specs.declared.Action.TheVariants.{NodeLeft, ProbeTimeOut, Lookup, Join, RequestLease, LeaseExpired, GrantExpired}
+use Rattle.rules.specs.declared.Action.TheVariants.{Take, Deliver, Forward, SuspectFaulty, DeclareDead, LSRepair, ResignNode, Recover}
 use Rattle.join_laws.specs.Claims.{Barred, leaves, times-out}
 
 pub barred-only : (a : Action) → Barred a → ((i : ℕ) × (a ≡ NodeLeft i)) ⊎ ((i : ℕ) × (j : ℕ) × (a ≡ ProbeTimeOut i j))

@@ -15,14 +15,13 @@ use Rattle.rules.specs.declared.Node.{Node}
 use Rattle.rules.specs.Leaf.{leaf_with}
 use Rattle.rules.specs.Letters.{no_sides}
 use Rattle.rules.specs.Nodes.{sides_of}
-use Rattle.rules.specs.Numbers.{answer_number}
 use Rattle.rules.specs.Pick.{id_at}
 use Rattle.rules.specs.Plans.{is_dead, is_wait, is_up}
 use Rattle.rules.specs.Pool.{laid}
 use Rattle.rules_laws.proofs.Leaf.{left-from, right-from}
-use Rattle.table_type.specs.declared.Started.{Started}
+use Rattle.table_type.specs.declared.Table.{Table}
 use Rattle.start.specs.Start.{slot_ids, ready_node, dead_node, start_node}
-use Rattle.table_type.specs.Start.{start_of}
+use Rattle.table_type.specs.Start.{start_number, table_of}
 use Rattle.table_type.proofs.Starts.{StartFits, ListFits, list-fits, start-node-at, start-done}
 use Rattle.table_type.specs.Table.{node_at, ring_of}
 use Rattle.table_laws.proofs.Begin.{start-refuses, start-valid}
@@ -101,13 +100,12 @@ module _ (m l : ℕ) (ids : List ℕ) (a : ℕ) (f : StartFits m l (length ids))
       }
 
 pub start-clauses : StartClauses
-start-clauses m l ids a d =
-    let (f, legal) = (start-refuses m l ids a).done.0 (ap answer_number d) in
+start-clauses m l ids a t d =
+    let (f, legal) = (start-refuses m l ids a).done.0 (ap start_number d) in
     let fits = legal-list m ids a f.n-high legal in
     let same = start-done m l ids a (fits-start m l (length ids) f) fits in
-    subst (λ (s : Started). Clauses s.table (laid [])) (sym same)
+    subst (λ (u : Table). Clauses u (laid [])) (ap table_of (sym same ∙ d))
     (made-clauses m l ids a f (list-fits m (length ids) (slot_ids ids) a fits))
 
 pub start-held : StartHeld
-start-held m l ids a acts d patient =
-    clauses-held (start_of m l ids a).table (laid []) acts (start-valid m l ids a d) (start-clauses m l ids a d) patient
+start-held m l ids a t acts d patient = clauses-held t (laid []) acts (start-valid m l ids a t d) (start-clauses m l ids a t d) patient

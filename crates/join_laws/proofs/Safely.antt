@@ -19,7 +19,6 @@ use Rattle.rules.specs.Nodes.{sides_of}
 use Rattle.rules.specs.Plans.{is_dead, is_wait, is_up}
 use Rattle.rules.specs.Pool.{message_at, laid}
 use Rattle.table_type.specs.declared.Table.{Table}
-use Rattle.table_type.specs.Start.{start_of}
 use Rattle.table_laws.proofs.Nodes.{both}
 use Rattle.table_laws.proofs.Begin.{start-valid}
 use Rattle.join_laws.specs.Clauses.{View, view_of, Alive, Joining, Blank, Within, Guards, GuardsAt, Calm, Introduces, Fair, Clauses}
@@ -273,6 +272,6 @@ unfolding safe_to_join
 safe-is t p c = rw ((clauses-exactly t p).1 c) (and-true (nobody_waits t))
 
 pub start-safe : StartSafe
-start-safe m l ids a acts d patient =
-    throughout (λ t p. safe_to_join t p ≡ nobody_waits t) (λ t p v. safe-is t p) (start_of m l ids a).table (laid []) acts
-    (start-valid m l ids a d) (start-clauses m l ids a d) patient
+start-safe m l ids a t acts d patient =
+    throughout (λ u p. safe_to_join u p ≡ nobody_waits u) (λ u p v. safe-is u p) t (laid []) acts
+    (start-valid m l ids a t d) (start-clauses m l ids a t d) patient

@@ -63,8 +63,8 @@ pub record Held (t : Table) (p : Pool) : Type 0 where
 
 -- from every start
 abbrev pub StartHeld : Type 0
-StartHeld = (m l : ℕ) (ids : Ids) (a : Marks) (acts : List Action) → (start_of m l ids a).answer ≡ Ok tt
-    → Patient (start_of m l ids a).table (laid []) acts → Throughout Held (start_of m l ids a).table (laid []) acts
+StartHeld = (m l : ℕ) (ids : Ids) (a : Marks) (t : Table) (acts : List Action) → start_of m l ids a ≡ Ok t
+    → Patient t (laid []) acts → Throughout Held t (laid []) acts
 
 -- from every valid table that satisfies the clauses
 abbrev pub ClausesHeld : Type 0
@@ -76,7 +76,7 @@ ClausesStay = (t : Table) (p : Pool) (acts : List Action) → valid_of t p ≡ t
 
 -- every start satisfies them
 abbrev pub StartClauses : Type 0
-StartClauses = (m l : ℕ) (ids : Ids) (a : Marks) → (start_of m l ids a).answer ≡ Ok tt → Clauses (start_of m l ids a).table (laid [])
+StartClauses = (m l : ℕ) (ids : Ids) (a : Marks) (t : Table) → start_of m l ids a ≡ Ok t → Clauses t (laid [])
 
 -- A fitter asks before a node joins: safe_to_join passes exactly where nobody is wait and the clauses hold
 abbrev pub SafeExactly : Type 0
@@ -88,6 +88,5 @@ SafeHeld = (t : Table) (p : Pool) (acts : List Action) → valid_of t p ≡ true
 
 -- and from a start, in turn, it passes exactly while nobody is wait
 abbrev pub StartSafe : Type 0
-StartSafe = (m l : ℕ) (ids : Ids) (a : Marks) (acts : List Action) → (start_of m l ids a).answer ≡ Ok tt
-    → Patient (start_of m l ids a).table (laid []) acts
-    → Throughout (λ t p. safe_to_join t p ≡ nobody_waits t) (start_of m l ids a).table (laid []) acts
+StartSafe = (m l : ℕ) (ids : Ids) (a : Marks) (t : Table) (acts : List Action) → start_of m l ids a ≡ Ok t
+    → Patient t (laid []) acts → Throughout (λ u p. safe_to_join u p ≡ nobody_waits u) t (laid []) acts

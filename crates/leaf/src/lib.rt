@@ -5,7 +5,7 @@ ghost use Rattle.std.specs.Prelude.{◌≡◌, true, ℕ, ◌^◌, ◌<◌, ◌�
 ghost use Rattle.marks.specs.Marks.{has};
 ghost use Rattle.rules.specs.Closest.{closest};
 ghost use Rattle.rules.specs.InnerSteps.{steps_of, other_than, looked_at};
-ghost use Rattle.rules.specs.Leaf.{content_of, seen_from, leaf_with, leaf_with_one, overlaps, is_complete, is_full, is_empty, covers_of};
+ghost use Rattle.rules.specs.Leaf.{content_of, seen_from, left_neighbour, right_neighbour, leaf_with, leaf_with_one, overlaps, is_complete, is_full, is_empty, covers_of};
 
 use rules::{Ring, Roster, Sides, Way};
 
@@ -18,18 +18,25 @@ pub fn content(s: Sides, i: usize) -> u64
 }
 
 // The best of some nodes as seen from slot i, or i if there are none: a slot.
-#[tactic(auto, unfolding(rules::specs::Leaf::seen_from))]
+// Stays: a slot is a plain number here and in the plans, and `i < 64` or `i < n` a clause. 01's definitions speak of numbers, so a type would be taken apart at each
+// id, node and mark that a slot finds: no plainer. So with a key and `k < 2 ^ m`, which is taken apart at each distance.
+#[tactic(auto, using(rules_laws::proofs::Best::best_low), unfolding(rules::specs::Leaf::seen_from))]
 pub fn seen(w: Way, r: &Roster, i: usize, set: u64) -> usize
     requires { i < 64 }
     ensures is { result ≡ seen_from w r.now.ring r.now.ids i set }
     ensures slot { result < 64 }
 {
-    let k = r.ids[i];
-    let found = pick::best(w, r.ring.m, k, &r.ids, set);
-    match found {
-        Some(s) => s,
-        None => i,
-    }
+    pick::best(w, r.ring.m, r.ids[i], &r.ids, set).unwrap_or(i)
+}
+
+// The left neighbour of node i, and its right neighbour: two slots.
+pub fn neighbours(r: &Roster, i: usize, s: Sides) -> (usize, usize)
+    requires { i < 64 }
+    ensures left { result.0 ≡ left_neighbour r.now.ring r.now.ids i s }
+    ensures right { result.1 ≡ right_neighbour r.now.ring r.now.ids i s }
+    ensures slots { (result.0 < 64) × (result.1 < 64) }
+{
+    (seen(Way::Up, r, i, s.left), seen(Way::Down, r, i, s.right))
 }
 
 // The slot d steps up from i, or d steps down, wrapping at n.
@@ -133,7 +140,6 @@ pub fn covers(r: &Roster, i: usize, s: Sides, k: u32) -> bool
     requires { (i < 64) × (k < 2 ^ r.now.ring.m) }
     ensures { result ≡ covers_of r.now.ring r.now.ids i s k }
 {
-    let above = seen(Way::Up, r, i, s.left);
-    let below = seen(Way::Down, r, i, s.right);
+    let (above, below) = neighbours(r, i, s);
     dist::covers(r.ring.m, r.ids[i], r.ids[above], r.ids[below], k)
 }

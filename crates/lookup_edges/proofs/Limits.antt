@@ -40,7 +40,7 @@ use Rattle.table_type.specs.declared.Stepped.{Stepped}
 use Rattle.table.specs.Settle.{done_of, carried_out, settle}
 use Rattle.table.specs.Settled.{ready_set, dead_set, settled_at, is_settled}
 use Rattle.start.specs.Start.{slot_ids, slots_to, start_node, start_nodes, start_fits, ids_rise, list_fits}
-use Rattle.table_type.specs.Start.{start_of}
+use Rattle.table_type.specs.Start.{start_of, table_of}
 use Rattle.step.specs.Step.{is_sound, step_of}
 use Rattle.table_type.specs.Table.{node_at, with_node}
 use Rattle.table.specs.Valid.{nodes_fit, messages_fit, pool_fits, valid_of}
@@ -124,7 +124,7 @@ time-out-between = refl
 
 -- two ready nodes, as started: the lookup of the other's id is routed R - 1 times, and delivered
 unfoldable pub pair : Table
-pair = (start_of 2 1 (0 ∷ 2 ∷ []) 3).table
+pair = table_of (start_of 2 1 (0 ∷ 2 ∷ []) 3)
 
 pub pair-valid : valid_of pair (only 2 0) ≡ true
 unfolding pair opened
@@ -371,7 +371,7 @@ met-fails = (record { waits = omega arith; is = refl }, λ a. stuck (ap ending m
 -- ---- waiting at a ready node: 2 is dead
 
 unfoldable pub one-dead : Table
-one-dead = (start_of 2 1 (0 ∷ 2 ∷ []) 1).table
+one-dead = table_of (start_of 2 1 (0 ∷ 2 ∷ []) 1)
 
 pub one-dead-computes :
     (valid_of one-dead (only 2 1) ≡ true) × (is_settled one-dead ≡ true)

@@ -4,7 +4,8 @@ use mathlib.Core.Path.{◌≡◌, refl}
 use mathlib.Core.Logic.{◌⊎◌, inl, inr}
 use Prim.Native.Nat.{ℕ}
 use Rattle.rules.specs.declared.Action.{Action}
-use Rattle.rules.specs.declared.Action.TheVariants.{Take, Forward, Lookup, Join, RequestLease, LeaseExpired, GrantExpired, Deliver, NodeLeft, SuspectFaulty, ProbeTimeOut, DeclareDead, LSRepair, ResignNode, Recover}
+use Rattle.rules.specs.declared.Action.TheVariants.{Take, Forward, Lookup, Join, RequestLease, LeaseExpired, GrantExpired}
+use Rattle.rules.specs.declared.Action.TheVariants.{Deliver, NodeLeft, SuspectFaulty, ProbeTimeOut, DeclareDead, LSRepair, ResignNode, Recover}
 use Rattle.rules.specs.declared.Pool.{Pool}
 use Rattle.rules.specs.Pool.{message_at}
 use Rattle.table_laws.specs.Claims.{MayRoute, forwards, takes-request}

@@ -27,7 +27,7 @@ use Rattle.rules.specs.Pool.{laid}
 use Rattle.take.specs.Take.{plan_take_join_request, plan_take}
 use Rattle.table_type.specs.declared.Table.{Table}
 use Rattle.start.specs.Start.{slot_ids, slots_to, start_node, start_nodes, start_fits, ids_rise, list_fits}
-use Rattle.table_type.specs.Start.{start_of}
+use Rattle.table_type.specs.Start.{start_of, table_of}
 use Rattle.table.specs.Settle.{carried_out, settle}
 use Rattle.table.specs.Settled.{dead_set}
 use Rattle.step.specs.Step.{is_sound, step_of}
@@ -48,7 +48,7 @@ opened = tt
 
 -- 0 is ready, and 2 is dead
 abbrev alone : Table
-alone = (start_of 2 1 (0 ∷ 2 ∷ []) 1).table
+alone = table_of (start_of 2 1 (0 ∷ 2 ∷ []) 1)
 
 abbrev asks : Message
 asks = placed (join_request 1 0) 0

@@ -1,11 +1,13 @@
 // How many messages wait for each node, kept beside the pool: the start, the load, the step and the write of tables with such counts, whether one is
 // settled, and what a display asks of them. For any input.
+// Stays: counts are an array of 64, as the nodes of a table, since a library holds no heap; `len` is the length of the list of messages, the caller's, of any
+// number, and 10 is said of one that is not 256 (docs/CLAIMS.md).
 #![tactic(auto)]
 
-ghost use Rattle.std.specs.Prelude.{◌≡◌, ◌≤◌, ◌<◌, ltb};
+ghost use Rattle.std.specs.Prelude.{◌≡◌, ◌≤◌, ◌<◌, ltb, true, Ok, Err};
 ghost use Rattle.marks.specs.Marks.{gather};
-ghost use Rattle.rules.specs.Pool.{waiting};
 ghost use Rattle.counts.specs.Counts.{counts_after, after_by, refused_with, count_at, first_for};
+ghost use Rattle.counts.specs.Counts.{is_sound_counted, has_of, first_of, polled_of};
 ghost use Rattle.over_counts.specs.Contract.{CountsOf, Agree, IsSound, Step, Load, Start, Write, Settled, HasMessage, FirstMessage, Poll};
 ghost use Rattle.over_counts.specs.Contract.{Number};
 ghost use Rattle.over_counts.specs.InnerWalk.{waiting_in, one_more};
@@ -13,14 +15,15 @@ ghost use Rattle.over_counts.specs.InnerWalk.{waiting_in, one_more};
 use counts::{After, Counted, First, Has, Polled};
 use face::Rest;
 use file::Wrote;
-use rules::{Action, Pool, Refusal, Via};
+use rules::{Action, Message, Pool, Refusal, Via};
 use table_type::Stepped;
 
 // How many messages wait in a pool of any content: as many as it counts, and all 256 places where it counts more.
+#[tactic(auto, unfolding(crate::specs::InnerWalk::waiting_in))]
 fn waiting_in(count: usize) -> usize
     ensures { result ≡ waiting_in count }
 {
-    if count < 256 { count } else { 256 }
+    count.min(256)
 }
 
 // One more for a slot; nothing for what is no slot.
@@ -172,17 +175,36 @@ pub fn settled(x: Counted, len: usize) -> Rest
 }
 
 // The place of the first message for node i. It stops at the first found.
-fn first_for(p: Pool, i: u32) -> Option<usize>
-    requires { p.count ≤ 256 }
-    ensures { result ≡ first_for (waiting p) i }
+fn first_for(waiting: &[Message], i: u32) -> Option<usize>
+    ensures { result ≡ first_for waiting.now i }
 {
-    for at in 0..p.count {
-        let m = p.places[at];
-        if m.dest == i {
-            return Some(at);
-        }
+    waiting.iter().position(|m| m.dest == i)
+}
+
+// 10 for an invalid table, a list without 256 places or counts that disagree with the pool.
+fn sound(x: Counted, len: usize) -> Result<(), Refusal>
+    ensures sound { result ≡ Ok tt → is_sound_counted x len ≡ true }
+    ensures refused { (why : Refusal) → result ≡ Err why → polled_of x len ≡ Err why }
+{
+    if is_sound(x, len) {
+        Ok(())
+    } else {
+        Err(Refusal::Invalid)
     }
-    None
+}
+
+// The same, then 1 for a slot out of range.
+fn sound_at(x: Counted, len: usize, i: usize) -> Result<(), Refusal>
+    ensures sound { result ≡ Ok tt → (is_sound_counted x len ≡ true) × (i < x.table.n) }
+    ensures refused { (why : Refusal) → result ≡ Err why → (has_of x len i ≡ Err why) × (first_of x len i ≡ Err why) }
+{
+    if !is_sound(x, len) {
+        return Err(Refusal::Invalid);
+    }
+    if x.table.n <= i {
+        return Err(Refusal::OutOfRange);
+    }
+    Ok(())
 }
 
 // Does node i have a message? It is answered from the count. 10 for an invalid table, a list without 256 places or counts that disagree with
@@ -190,36 +212,24 @@ fn first_for(p: Pool, i: u32) -> Option<usize>
 pub fn has_message(x: Counted, len: usize, i: usize) -> Has
     ensures { HasMessage x len i result }
 {
-    let t = x.table;
-    let counts = x.counts;
-    if !is_sound(x, len) {
-        return Err(Refusal::Invalid);
-    }
-    if t.n <= i {
-        return Err(Refusal::OutOfRange);
-    }
-    Ok(0 < counts[i])
+    sound_at(x, len, i)?;
+    Ok(0 < x.counts[i])
 }
 
 // Where is the first message for node i? It does not look where the count is 0. The numbers are those of `has_message`.
 pub fn first_message(x: Counted, len: usize, i: usize) -> First
     ensures { FirstMessage x len i result }
 {
-    let t = x.table;
-    let counts = x.counts;
-    if !is_sound(x, len) {
-        return Err(Refusal::Invalid);
-    }
-    if t.n <= i {
-        return Err(Refusal::OutOfRange);
-    }
-    if counts[i] == 0 {
+    sound_at(x, len, i)?;
+    if x.counts[i] == 0 {
         return Ok(None);
     }
-    Ok(first_for(x.pool, i as u32))
+    let p = x.pool;
+    Ok(first_for(&p.places[..p.count], i as u32))
 }
 
 // The nodes below n whose count is not 0.
+// Stays a clause: n ≤ 64. It bounds one index, and a type of such numbers would be made for it alone.
 fn nodes_counted(counts: &[u32; 64], n: usize) -> u64
     requires { n ≤ 64 }
     ensures { result ≡ gather n (λ i. ltb 0 (count_at counts.now i)) }
@@ -237,16 +247,12 @@ fn nodes_counted(counts: &[u32; 64], n: usize) -> u64
 pub fn poll(x: Counted, len: usize) -> Polled
     ensures { Poll x len result }
 {
-    let t = x.table;
-    let counts = x.counts;
-    if !is_sound(x, len) {
-        return Err(Refusal::Invalid);
-    }
-    Ok(nodes_counted(&counts, t.n))
+    sound(x, len)?;
+    Ok(nodes_counted(&x.counts, x.table.n))
 }
 
 // 01's number of an answer, as of `has_message`, `first_message` and `poll`: 0 where it was looked at.
-// No impl of From stands for it: a Result and u32 are both of other crates.
+// Stays: no impl of From can stand for it, since a Result and u32 are both of other crates.
 pub fn number<T: Copy>(r: Result<T, Refusal>) -> u32
     ensures { Number r result }
 {

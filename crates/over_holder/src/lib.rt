@@ -11,11 +11,12 @@ ghost use Rattle.holder.specs.Holder.{covered_by, copies_of, held_at, holding_in
 ghost use Rattle.over_holder.specs.Contract.{HeldBy, Number};
 
 use holder::{Holder, Holding, Unheld};
-use rules::{Node, Pool, Roster, Status, Way};
+use rules::{Node, Pool, Roster, Status};
 use table_type::Table;
 
 // The number of an answer: 0 held, 1 a key out of range, 10 an invalid table or a message list without 256 places, 15 the table is not
-// settled. No impl of From stands for it: a Result and u32 are both of other crates.
+// settled.
+// Stays: no impl of From can stand for it, since a Result and u32 are both of other crates.
 pub fn number(h: Holding) -> u32
     ensures { Number h result }
 {
@@ -37,6 +38,7 @@ fn covers_at(r: &Roster, s: usize, v: Node, k: u32) -> bool
 }
 
 // The first slot that is ready and covers k. A table need not be listed, and this asks it; what looks at its slots takes a roster, whose type says it.
+// Stays: Listed stands in this contract and the three below. With a roster beside the table each would say that it is the table's roster: no fewer clauses.
 fn covered_by(t: Table, k: u32) -> Option<usize>
     requires { Listed (ring_of t) (ids_of t) × (k < 2 ^ t.m) }
     ensures { result ≡ covered_by t k }
@@ -57,9 +59,7 @@ fn copies(t: Table, h: usize) -> u64
     ensures { result ≡ copies_of t h }
 {
     let r = table_type::roster(t);
-    let v = t.nodes[h];
-    let left = leaf::seen(Way::Up, &r, h, v.left);
-    let right = leaf::seen(Way::Down, &r, h, v.right);
+    let (left, right) = leaf::neighbours(&r, h, parts::sides_of(t.nodes[h]));
     marks::removed(marks::added(marks::of_one(left), right), h)
 }
 

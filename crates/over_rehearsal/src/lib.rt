@@ -14,17 +14,15 @@ use rules::{Action, Pool, Refusal};
 use table_type::{Stepped, Table};
 
 // The number of a reply: 0 for a step that was looked at, whether it was found good or bad, and 12 for a further step after an end or beyond 1,000.
-// No impl of From stands for it: Reply and u32 are both of other crates.
+// Stays: no impl of From can stand for it, since Reply and u32 are both of other crates.
 pub fn number(r: Reply) -> u32
     ensures { Number r result }
 {
-    match r {
-        Reply::LookedAt => 0,
-        Reply::Over => 12,
-    }
+    r as u32
 }
 
 // Is this precisely the file of the table and the messages? It is written into a buffer that has room for the longest file.
+// Stays a clause, here and in `gives`: `valid_of t p`. A type of valid tables would be made and taken apart once, for the table that a step leaves.
 fn gives_in(t: Table, p: Pool, stated: &[u8], file: &mut [u8]) -> bool
     requires { (valid_of t p ≡ true) × (18464 ≡ length file.old) }
     ensures { result ≡ same_of (file_of t p) stated.now }
@@ -62,10 +60,7 @@ fn agrees(s: Stepped, stated: &[u8]) -> bool
 fn is_open(v: Verdict, steps: usize) -> bool
     ensures { result ≡ is_open v steps }
 {
-    match v {
-        Ok(()) => steps < 1000,
-        Err(_) => false,
-    }
+    v.is_ok() && steps < 1000
 }
 
 // The checker once it has looked at a step and its stated file.

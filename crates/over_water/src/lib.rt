@@ -4,7 +4,7 @@
 
 ghost use Rattle.std.specs.Prelude.{◌≡◌, ◌^◌, ◌<◌, ◌≤◌, nat_abs};
 ghost use Rattle.water.specs.Water.{in_range, change_of, count_of, held_of, seat_of, kept_at};
-ghost use Rattle.water.specs.Water.{refused_of, put_of, place_by, why_number};
+ghost use Rattle.water.specs.Water.{refused_of, put_of, place_by};
 ghost use Rattle.water.specs.Water.{alike as alike_of};
 ghost use Rattle.over_water.specs.Contract.{Number, Empty, Change, Place, LookUp, Sum};
 
@@ -14,24 +14,14 @@ use table_type::Table;
 use water::{Held, Placed, Record, Reply, Store, Why};
 
 // The number of a reply: 0 accepted, 10 an invalid table or a message list without 256 places, 14 a number out of range, 15 the table is
-// not settled, 16 no room for a new key and month. No impl of From stands for it: a Result and u32 are both of other crates.
+// not settled, 16 no room for a new key and month.
+// Stays: no impl of From can stand for it, since a Result and u32 are both of other crates.
 pub fn number(r: Reply) -> u32
     ensures { Number r result }
 {
     match r {
         Ok(()) => 0,
-        Err(why) => why_number(why),
-    }
-}
-
-fn why_number(w: Why) -> u32
-    ensures { result ≡ why_number w }
-{
-    match w {
-        Why::Invalid => 10,
-        Why::OutOfRange => 14,
-        Why::Unsettled => 15,
-        Why::NoRoom => 16,
+        Err(why) => why as u32,
     }
 }
 
@@ -71,6 +61,7 @@ pub fn change(r: Record) -> i64
 }
 
 // Are they of the same key and month?
+// Stays: 01's relation, and no equality: the amounts may differ, for a later record takes the place of an earlier one.
 fn alike(a: Record, b: Record) -> bool
     ensures { result ≡ alike_of a b }
 {
@@ -88,9 +79,10 @@ fn in_range(r: Record) -> bool
 
 // How many places are looked at.
 fn held_count(n: usize) -> usize
-    ensures { result ≡ count_of n }
+    ensures value { result ≡ count_of n }
+    ensures low { result ≤ 512 }
 {
-    if n < 512 { n } else { 512 }
+    n.min(512)
 }
 
 // Its seat: the place of the held record of the same key and month, or the one behind the last.
@@ -157,20 +149,9 @@ fn place_by(w: Holding, s: Store, r: Record) -> Placed
     match w {
         Err(Unheld::NotAsked(_)) => refused(s, Why::Invalid),
         Err(Unheld::OutOfRange) => refused(s, Why::OutOfRange),
-        Err(Unheld::Unsettled) => {
-            if in_range(r) {
-                refused(s, Why::Unsettled)
-            } else {
-                refused(s, Why::OutOfRange)
-            }
-        }
-        Ok(by) => {
-            if in_range(r) {
-                put(s, r, by)
-            } else {
-                refused(s, Why::OutOfRange)
-            }
-        }
+        _ if !in_range(r) => refused(s, Why::OutOfRange),
+        Err(Unheld::Unsettled) => refused(s, Why::Unsettled),
+        Ok(by) => put(s, r, by),
     }
 }
 

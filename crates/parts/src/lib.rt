@@ -1,4 +1,5 @@
-// Parts of nodes and messages, the tests of a status, and 01's numbers, which stand in the types.
+// Parts of nodes and messages, whether a status is ok or ready, and 01's numbers, which stand in the types.
+// Stays: the numbers, `sides_of` and `carried_of` are functions. An impl of From must be in the crate of one of its types, and that is `rules`, which has no code.
 #![tactic(auto)]
 
 ghost use Rattle.std.specs.Prelude.{◌≡◌, ℕ};
@@ -11,6 +12,7 @@ ghost use Rattle.rules.specs.Letters.{letter, no_sides};
 use rules::{Message, Node, Plan, Refusal, Sides, Status, Via};
 
 // 01's number of a status.
+// Stays: the three numbers are functions with names, which docs/RULES.md gives; `Result` and `u32` are both of other crates, so no From stands for an answer's.
 pub fn status_number(s: Status) -> u32
     ensures { result ≡ status_number s }
 {

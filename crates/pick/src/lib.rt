@@ -42,6 +42,7 @@ fn better(w: Way, m: u32, k: u32, ids: &[u32; 64], found: Option<usize>, s: usiz
 
 // The best slot of a set. Only its members are looked at, each taken out in its turn: an iterator over marks would be a type and a contract more for this loop and
 // the step's, and no plainer.
+// Stays: `m`, `k` and `ids` under Keyed, and no roster, since a roster says also that the ids rise, which is more than is asked here.
 pub fn best(w: Way, m: u32, k: u32, ids: &[u32; 64], set: u64) -> Option<usize>
     requires { Keyed m k ids.now }
     ensures { result ≡ best_of w (2 ^ m) k ids.now set }

@@ -6,7 +6,7 @@ ghost use Rattle.rules.specs.Letters.{lease_request, broadcast_l_set};
 ghost use Rattle.plan.specs.Actions.{is_beside, unless_in, lease_plan, plan_request_lease, is_neighbour, plan_lease_expired, plan_grant_expired};
 ghost use Rattle.take.specs.Take.{grant_plan, plan_take_lease_request, lease_after, status_after_lease, leased_node, broadcast_plan, plan_take_broadcast};
 
-use rules::{Message, Node, Plan, Refusal, Roster, Sides, Status, Via, Way};
+use rules::{Message, Node, Plan, Refusal, Roster, Sides, Status};
 
 pub fn lease_request(i: u32) -> Message
     ensures { result ≡ lease_request i }
@@ -32,18 +32,16 @@ fn lease_plan(r: &Roster, i: usize, v: Node) -> Plan
     requires { i < 64 }
     ensures { result ≡ lease_plan r.now.ring r.now.ids i v }
 {
-    let above = leaf::seen(Way::Up, r, i, v.left);
-    let below = leaf::seen(Way::Down, r, i, v.right);
+    let (above, below) = leaf::neighbours(r, i, parts::sides_of(v));
     let to = unless_in(v.lease, above);
     let all = marks::less(marks::of_one(below), v.lease);
     let first = lease_request(i as u32);
     Plan {
-        node: v,
         first,
         to,
         each: first,
         all,
-        via: Via::Unrouted,
+        ..parts::quiet_plan(v)
     }
 }
 
@@ -67,8 +65,7 @@ fn is_next(r: &Roster, i: usize, s: Sides, j: usize) -> bool
     requires { i < 64 }
     ensures { result ≡ is_beside r.now.ring r.now.ids i s j }
 {
-    let above = leaf::seen(Way::Up, r, i, s.left);
-    let below = leaf::seen(Way::Down, r, i, s.right);
+    let (above, below) = leaf::neighbours(r, i, s);
     (above == j) | (below == j)
 }
 
@@ -169,10 +166,8 @@ fn status_after(r: &Roster, i: usize, v: Node, s: Sides, lease: u64) -> Status
     ensures { result ≡ status_after_lease r.now.ring r.now.ids i v s lease }
 {
     let st = v.status;
-    let above = leaf::seen(Way::Up, r, i, s.left);
-    let below = leaf::seen(Way::Down, r, i, s.right);
-    let old_above = leaf::seen(Way::Up, r, i, v.left);
-    let old_below = leaf::seen(Way::Down, r, i, v.right);
+    let (above, below) = leaf::neighbours(r, i, s);
+    let (old_above, old_below) = leaf::neighbours(r, i, parts::sides_of(v));
     let leased = marks::is_in(lease, above) & marks::is_in(lease, below);
     let same = (above == old_above) & (below == old_below);
     if leased & same { Status::Ready } else { st }

@@ -9,7 +9,7 @@ ghost use Rattle.plan.specs.Leave.{plan_node_left, probing_plan, plan_suspect_fa
 ghost use Rattle.plan.specs.Leave.{plan_declare_dead, lacks_side, lacks_both, ends_to_probe, plan_ls_repair, plan_resign_node, last_end, plan_recover};
 ghost use Rattle.plan.specs.Leave.{emptied as emptied_of};
 
-use rules::{Node, Plan, Refusal, Roster, Sides, Status, Via, Way};
+use rules::{Node, Plan, Refusal, Roster, Sides, Status, Way};
 
 // The node with all sets empty, but for the routing set.
 pub fn emptied(v: Node, st: Status, routing: u64) -> Node
@@ -43,16 +43,11 @@ pub fn plan_node_left(v: Node) -> Result<Plan, Refusal>
 pub fn probing_plan(i: u32, v: Node, set: u64) -> Plan
     ensures { result ≡ probing_plan i v set }
 {
-    let first = parts::blank_message();
-    let each = plan_probe::ls_probe(i, parts::sides_of(v), v.failed);
     let node = parts::with_probing(v, marks::joined(v.probing, set));
     Plan {
-        node,
-        first,
-        to: None,
-        each,
+        each: plan_probe::ls_probe(i, parts::sides_of(v), v.failed),
         all: set,
-        via: Via::Unrouted,
+        ..parts::quiet_plan(node)
     }
 }
 

@@ -3,12 +3,12 @@
 
 ghost use Rattle.std.specs.Prelude.{◌≡◌, ◌<◌};
 ghost use Rattle.rules.specs.Letters.{ls_probe, ls_probe_reply};
-ghost use Rattle.rules.specs.Leaf.{content_of};
-ghost use Rattle.rules.specs.Nodes.{carried_of};
-ghost use Rattle.take.specs.Take.{join_reply_plan, plan_take_join_reply, probes2, probes_of, learnt_node, waits_empty, probe_plan_of, plan_take_probe};
+ghost use Rattle.rules.specs.Leaf.{content_of, leaf_with_one};
+ghost use Rattle.rules.specs.Nodes.{carried_of, sides_of};
+ghost use Rattle.take.specs.Take.{join_reply_plan, plan_take_join_reply, probes2, probes_of, failed_without, learnt_node, waits_empty, probe_plan_of, plan_take_probe};
 ghost use Rattle.take.specs.Take.{still_probing, status_after_reply, reply_plan_of, plan_take_probe_reply};
 
-use rules::{Message, Node, Plan, Refusal, Ring, Roster, Sides, Status, Via};
+use rules::{Message, Node, Plan, Refusal, Ring, Roster, Sides, Status};
 
 pub fn ls_probe(i: u32, s: Sides, failed: u64) -> Message
     ensures { result ≡ ls_probe i s failed }
@@ -43,15 +43,10 @@ pub fn join_reply_plan(i: u32, v: Node, routing: u64, content: u64, s: Sides) ->
         routing: known,
         ..v
     };
-    let first = parts::blank_message();
-    let each = ls_probe(i, s, 0);
     Plan {
-        node,
-        first,
-        to: None,
-        each,
+        each: ls_probe(i, s, 0),
         all: probing,
-        via: Via::Unrouted,
+        ..parts::quiet_plan(node)
     }
 }
 
@@ -122,6 +117,19 @@ pub fn waits_empty(v: Node) -> bool
     (v.status == Status::Wait) & leaf::empty(parts::sides_of(v))
 }
 
+// What a probe of j, or its reply, tells node i: the failed set without j, the leaf set with j, and whom to probe.
+fn heard(r: &Roster, i: usize, v: Node, m: Message) -> (u64, Sides, u64)
+    requires { i < r.now.ring.n }
+    ensures failed { result.0 ≡ failed_without v m.word }
+    ensures sides { result.1 ≡ leaf_with_one r.now.ring r.now.ids i (sides_of v) m.word }
+    ensures probes { result.2 ≡ probes_of r.now.ring r.now.ids i v result.1 result.0 m }
+{
+    let j = m.word as usize;
+    let f = marks::removed(v.failed, j);
+    let s = leaf::with_one(r, i, parts::sides_of(v), j);
+    (f, s, probes(r, i, v, s, f, m))
+}
+
 #[tactic(auto, unfolding(take::specs::Take::probe_plan_of))]
 fn probe_plan(r: &Roster, i: usize, v: Node, m: Message) -> Plan
     requires { i < r.now.ring.n }
@@ -129,20 +137,13 @@ fn probe_plan(r: &Roster, i: usize, v: Node, m: Message) -> Plan
 {
     let own = i as u32;
     let j = m.word as usize;
-    let f = marks::removed(v.failed, j);
-    let s = leaf::with_one(r, i, parts::sides_of(v), j);
-    let p = probes(r, i, v, s, f, m);
+    let (f, s, p) = heard(r, i, v, m);
     let st = v.status;
     let node = learnt(v, j, s, f, marks::joined(v.probing, p), st);
-    let first = ls_probe_reply(own, s, f);
-    let each = ls_probe(own, s, f);
     Plan {
-        node,
-        first,
-        to: Some(j),
-        each,
+        each: ls_probe(own, s, f),
         all: p,
-        via: Via::Unrouted,
+        ..parts::send_plan(node, ls_probe_reply(own, s, f), j)
     }
 }
 
@@ -190,21 +191,14 @@ fn reply_plan(r: &Roster, i: usize, v: Node, m: Message) -> Plan
 {
     let own = i as u32;
     let j = m.word as usize;
-    let f = marks::removed(v.failed, j);
-    let s = leaf::with_one(r, i, parts::sides_of(v), j);
-    let p = probes(r, i, v, s, f, m);
+    let (f, s, p) = heard(r, i, v, m);
     let probing = still(v, p, j);
     let st = status_after(r.ring, v.status, s, probing);
     let node = learnt(v, j, s, f, probing, st);
-    let first = parts::blank_message();
-    let each = ls_probe(own, s, f);
     Plan {
-        node,
-        first,
-        to: None,
-        each,
+        each: ls_probe(own, s, f),
         all: p,
-        via: Via::Unrouted,
+        ..parts::quiet_plan(node)
     }
 }
 

@@ -1,13 +1,13 @@
-// The pool by value, as a step reads it: whether a request waits, which of a plan's messages are new, and whether they have room; and the pool without the
+// The waiting messages, as a step reads them: whether a request waits, which of a plan's messages are new, and whether they have room; and the pool without the
 // probes that have timed out. The pool after the plan is made by the step itself. "Once place `gone` is away": where gone is at or above the count, none is away.
 #![tactic(auto)]
 
-ghost use Rattle.std.specs.Prelude.{◌≡◌, true, ◌++◌, ◌≤◌, ◌<◌};
+ghost use Rattle.std.specs.Prelude.{◌≡◌, true, ◌++◌, ◌≤◌, ◌<◌, ◌^◌, length};
 ghost use Rattle.rules.specs.Mail.{fields_of, first_equal};
-ghost use Rattle.rules.specs.Mail.{alike as alike_of, join_waits, waits as waits_of, is_probe_from, without_probes, reply_waits};
-ghost use Rattle.rules.specs.Pool.{waiting, laid};
+ghost use Rattle.rules.specs.Mail.{alike as alike_of, join_waits, waits as waits_of, is_probe_from, removed_at, without_probes, reply_waits};
+ghost use Rattle.rules.specs.Pool.{laid};
 ghost use Rattle.marks.specs.Marks.{without};
-ghost use Rattle.pool_laws.specs.InnerSending.{left_of, left_count, place_of, slotted, held_of, held_with, copy_to};
+ghost use Rattle.pool_laws.specs.InnerSending.{left_count, place_of, slotted, held_of, held_with, copy_to};
 ghost use Rattle.pool_laws.specs.InnerSending.{new_to, news_of, sends_of, first_new, room_of};
 ghost use Rattle.pool_laws.specs.InnerMix.{mix_of, bucket_of};
 
@@ -39,6 +39,7 @@ pub fn alike(a: Message, b: Message) -> bool
 }
 
 // How many of n messages are left once place `gone` is away.
+#[tactic(auto, unfolding(pool_laws::specs::InnerSending::left_count))]
 pub fn left_count(n: usize, gone: usize) -> usize
     ensures { result ≡ left_count n gone }
 {
@@ -46,8 +47,9 @@ pub fn left_count(n: usize, gone: usize) -> usize
 }
 
 // The place of what comes at place `at` once place `gone` is away.
+#[tactic(auto, unfolding(pool_laws::specs::InnerSending::place_of))]
 pub fn place_of(gone: usize, at: usize) -> usize
-    requires { at < 256 }
+    requires { at < 2 ^ 63 }
     ensures { result ≡ place_of gone at }
 {
     if at < gone { at } else { at + 1 }
@@ -55,11 +57,10 @@ pub fn place_of(gone: usize, at: usize) -> usize
 
 // The first message that equals m, in pool order, of those left once place `gone` is away. 01 names this form: a loop over places and fields, left by label, the
 // place yielded by break (docs/DECISIONS.md, "01's code places").
-fn first_equal(p: Pool, gone: usize, m: Message) -> Option<usize>
-    requires { p.count ≤ 256 }
-    ensures { result ≡ first_equal (left_of p gone) m }
+fn first_equal(waiting: &[Message], gone: usize, m: Message) -> Option<usize>
+    ensures { result ≡ first_equal (removed_at waiting.now gone) m }
 {
-    let n = left_count(p.count, gone);
+    let n = left_count(waiting.len(), gone);
     let b = fields(m);
     let mut at: usize = 0;
     let found = 'places: loop {
@@ -67,7 +68,7 @@ fn first_equal(p: Pool, gone: usize, m: Message) -> Option<usize>
             break 'places None;
         }
         let place = place_of(gone, at);
-        let a = fields(p.places[place]);
+        let a = fields(waiting[place]);
         for f in 0..9 {
             if a[f] != b[f] {
                 at += 1;
@@ -80,35 +81,25 @@ fn first_equal(p: Pool, gone: usize, m: Message) -> Option<usize>
 }
 
 // Is an equal of m left once place `gone` is away?
-pub fn waits(p: Pool, gone: usize, m: Message) -> bool
-    requires { p.count ≤ 256 }
-    ensures { result ≡ waits_of (left_of p gone) m }
+#[tactic(auto, unfolding(rules::specs::Mail::waits))]
+pub fn waits(waiting: &[Message], gone: usize, m: Message) -> bool
+    ensures { result ≡ waits_of (removed_at waiting.now gone) m }
 {
-    let at = first_equal(p, gone, m);
-    match at {
-        Some(_) => true,
-        None => false,
-    }
+    first_equal(waiting, gone, m).is_some()
 }
 
 // Does a JoinRequest of node i wait?
-pub fn join_waits(p: Pool, i: u32) -> bool
-    requires { p.count ≤ 256 }
-    ensures { result ≡ join_waits (waiting p) i }
+pub fn join_waits(waiting: &[Message], i: u32) -> bool
+    ensures { result ≡ join_waits waiting.now i }
 {
-    p.places[..p.count]
-        .iter()
-        .any(|q| (q.kind == 2) & (q.word == i))
+    waiting.iter().any(|q| (q.kind == 2) & (q.word == i))
 }
 
 // Does a JoinReply to node i wait?
-pub fn reply_waits(p: Pool, i: u32) -> bool
-    requires { p.count ≤ 256 }
-    ensures { result ≡ reply_waits (waiting p) i }
+pub fn reply_waits(waiting: &[Message], i: u32) -> bool
+    ensures { result ≡ reply_waits waiting.now i }
 {
-    p.places[..p.count]
-        .iter()
-        .any(|q| (q.kind == 3) & (q.dest == i))
+    waiting.iter().any(|q| (q.kind == 3) & (q.dest == i))
 }
 
 // Is m an LSProbe from i to j?
@@ -119,15 +110,14 @@ pub fn is_probe_from(i: u32, j: u32, m: Message) -> bool
 }
 
 // The pool without the LSProbes from i to j, wherever they stand: the others in their order, and blank places behind them.
-pub fn without_probes(p: Pool, i: u32, j: u32) -> Pool
-    requires { p.count ≤ 256 }
-    ensures { result ≡ laid (without_probes (waiting p) i j) }
+pub fn without_probes(waiting: &[Message], i: u32, j: u32) -> Pool
+    requires { length waiting.now ≤ 256 }
+    ensures { result ≡ laid (without_probes waiting.now i j) }
 {
     let none = parts::blank_message();
     let mut places = [none; 256];
     let mut count: usize = 0;
-    for at in 0..p.count {
-        let m = p.places[at];
+    for &m in waiting {
         if !is_probe_from(i, j, m) {
             places[count] = m;
             count += 1;
@@ -137,6 +127,7 @@ pub fn without_probes(p: Pool, i: u32, j: u32) -> Pool
 }
 
 // A number made of a message's fields, but for the flag.
+#[tactic(auto, unfolding(pool_laws::specs::InnerMix::mix_of))]
 fn mix(m: Message) -> u64
     ensures { result ≡ mix_of m }
 {
@@ -155,7 +146,7 @@ pub fn bucket(m: Message) -> usize
 }
 
 // A set of slots, with q's if q equals m in all but the slot.
-fn held_with(set: u64, q: Message, m: Message) -> u64
+pub fn held_with(set: u64, q: Message, m: Message) -> u64
     ensures { result ≡ held_with m set q }
 {
     let one = parts::to_slot(m, q.dest);
@@ -167,26 +158,23 @@ fn held_with(set: u64, q: Message, m: Message) -> u64
 }
 
 // The slots to which an equal of m is left once place `gone` is away.
-fn held(p: Pool, gone: usize, m: Message) -> u64
-    requires { p.count ≤ 256 }
-    ensures { result ≡ held_of m (left_of p gone) }
+fn held(waiting: &[Message], gone: usize, m: Message) -> u64
+    ensures { result ≡ held_of m (removed_at waiting.now gone) }
 {
     let mut set: u64 = 0;
-    for at in 0..left_count(p.count, gone) {
-        set = held_with(set, p.places[place_of(gone, at)], m);
+    for at in 0..left_count(waiting.len(), gone) {
+        set = held_with(set, waiting[place_of(gone, at)], m);
     }
     set
 }
 
 // The slot to which m is new, if it goes to one and no equal is left.
-fn new_one(p: Pool, gone: usize, m: Message, to: Option<usize>) -> Option<usize>
-    requires { (p.count ≤ 256) × (slotted to ≡ true) }
-    ensures { result ≡ new_to m to (left_of p gone) }
+fn new_one(waiting: &[Message], gone: usize, m: Message, to: Option<usize>) -> Option<usize>
+    requires { slotted to ≡ true }
+    ensures { result ≡ new_to m to (removed_at waiting.now gone) }
 {
-    let Some(s) = to else {
-        return None;
-    };
-    if waits(p, gone, parts::to_slot(m, s as u32)) {
+    let s = to?;
+    if waits(waiting, gone, parts::to_slot(m, s as u32)) {
         None
     } else {
         Some(s)
@@ -194,14 +182,22 @@ fn new_one(p: Pool, gone: usize, m: Message, to: Option<usize>) -> Option<usize>
 }
 
 // The slots of a set to which m is new, where `first` is new to the slot `one`, if there is one.
-fn new_all(p: Pool, gone: usize, first: Message, one: Option<usize>, m: Message, set: u64) -> u64
-    requires { (p.count ≤ 256) × (slotted one ≡ true) }
-    ensures { result ≡ without set (held_of m (left_of p gone ++ copy_to first one)) }
+#[tactic(auto, using(pool_laws::proofs::Fresh::all_none, pool_laws::proofs::Fresh::all_after))]
+fn new_all(
+    waiting: &[Message],
+    gone: usize,
+    first: Message,
+    one: Option<usize>,
+    m: Message,
+    set: u64,
+) -> u64
+    requires { slotted one ≡ true }
+    ensures { result ≡ without set (held_of m (removed_at waiting.now gone ++ copy_to first one)) }
 {
     if set == 0 {
         return 0;
     }
-    let have = held(p, gone, m);
+    let have = held(waiting, gone, m);
     let Some(s) = one else {
         return marks::less(set, have);
     };
@@ -229,14 +225,15 @@ pub fn first_new(plan: Plan) -> New
 }
 
 // Which of the plan's messages are new once place `gone` is away.
-pub fn news(p: Pool, gone: usize, plan: Plan) -> New
-    requires { (p.count ≤ 256) × (slotted plan.to ≡ true) }
-    ensures { result ≡ news_of plan (left_of p gone) }
+#[tactic(auto, using(pool_laws::proofs::Fresh::news_are))]
+pub fn news(waiting: &[Message], gone: usize, plan: Plan) -> New
+    requires { slotted plan.to ≡ true }
+    ensures { result ≡ news_of plan (removed_at waiting.now gone) }
 {
     let first = plan.first;
     let to = plan.to;
-    let one = new_one(p, gone, first, to);
-    let all = new_all(p, gone, first, one, plan.each, plan.all);
+    let one = new_one(waiting, gone, first, to);
+    let all = new_all(waiting, gone, first, one, plan.each, plan.all);
     New { one, all }
 }
 

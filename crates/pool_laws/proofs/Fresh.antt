@@ -2,7 +2,7 @@
 use Rattle.std.specs.Prelude.{Some, None}
 use mathlib.Core.Path.{◌≡◌, refl, sym, ◌∙◌, ap, ap₂}
 use mathlib.Core.Bool.{true, false, not}
-use mathlib.Core.List.{List, ◌++◌, append-nil}
+use mathlib.Core.List.{List, ◌++◌}
 use Prim.Native.Nat.{ℕ, ◌+◌, ◌<◌, ◌≤◌}
 use native.Mathlib.Omega.{arith}
 use borrow.Author.Tests.{eqb-true, ltb-true, leb-true, not-false}
@@ -31,9 +31,6 @@ module _ (m : Message) (to : Found) (ys : List Message) where
   pub to-nowhere : to ≡ None → None ≡ new_to m to ys
   to-nowhere e = rw e
 
-  pub to-equal : (s : ℕ) → to ≡ Some s → waits ys (placed m s) ≡ true → None ≡ new_to m to ys
-  to-equal s e w = rw (e, w)
-
   pub to-new : (s : ℕ) → to ≡ Some s → waits ys (placed m s) ≡ false → Some s ≡ new_to m to ys
   to-new s e w = rw (e, w)
 
@@ -45,11 +42,6 @@ without-none b = empty (without 0 b) (without-below 0 b) (λ s l. has-without 0 
 module _ (ys : List Message) (first : Message) (one : Found) (m : Message) (set : ℕ) where
   pub all_none : set ≡ 0 → 0 ≡ without set (held_of m (ys ++ copy_to first one))
   all_none e = rw e (sym (without-none _))
-
-  pub all-alone : (have r : ℕ) → have ≡ held_of m ys → one ≡ None → r ≡ without set have
-      → r ≡ without set (held_of m (ys ++ copy_to first one))
-  all-alone have r h e k =
-      k ∙ ap (without set) (h ∙ ap (held_of m) (sym (ap (λ (o : Found). ys ++ copy_to first o) e ∙ append-nil ys)))
 
   pub all_after : (s have more r : ℕ) (q : Message) → have ≡ held_of m ys → one ≡ Some s → q ≡ placed first s → more ≡ held_with m have q
       → r ≡ without set more → r ≡ without set (held_of m (ys ++ copy_to first one))
@@ -63,10 +55,10 @@ module _ (ys : List Message) (first : Message) (one : Found) (m : Message) (set 
 abbrev news : Found → ℕ → New
 news one all = record { one = one; all = all }
 
-pub news-are : (x : Plan) (ys : List Message) (one : Found) (all : ℕ) → one ≡ new_to x.first x.to ys
+pub news_are : (x : Plan) (ys : List Message) (one : Found) (all : ℕ) → one ≡ new_to x.first x.to ys
     → all ≡ without x.all (held_of x.each (ys ++ copy_to x.first one)) → news one all ≡ news_of x ys
 unfolding new_one new_all
-news-are x ys one all e f = rw (f, e)
+news_are x ys one all e f = rw (f, e)
 
 -- of a plan that sends one message, and of one that sends none: what is new is told without looking, where no equal is left
 to_none : (to : Found) (all : ℕ) → sends_to to all ≡ false → to ≡ None
@@ -80,11 +72,11 @@ all-zero None all e = eqb-true all 0 (not-false _ e)
 pub news-quiet : (x : Plan) (ys : List Message) → sends_of x ≡ false → first_new x ≡ news_of x ys
 news-quiet x ys e =
     let n = to_none x.to x.all e in
-    news-are x ys x.to 0 (n ∙ to-nowhere x.first x.to ys n) (all_none ys x.first x.to x.each x.all (all-zero x.to x.all e))
+    news_are x ys x.to 0 (n ∙ to-nowhere x.first x.to ys n) (all_none ys x.first x.to x.each x.all (all-zero x.to x.all e))
 
 pub news-one : (x : Plan) (ys : List Message) (s : ℕ) → x.to ≡ Some s → x.all ≡ 0 → waits ys (placed x.first s) ≡ false → first_new x ≡ news_of x ys
 news-one x ys s e z w =
-    news-are x ys x.to 0 (e ∙ to-new x.first x.to ys s e w) (all_none ys x.first x.to x.each x.all z)
+    news_are x ys x.to 0 (e ∙ to-new x.first x.to ys s e w) (all_none ys x.first x.to x.each x.all z)
 
 -- ---- the pool after the plan
 

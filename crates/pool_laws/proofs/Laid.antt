@@ -84,26 +84,32 @@ place-low n gone at l = go (lt-or-le gone n) (lt-or-le at gone)
     go (inl h) (inr k) = let d : at < n - 1 = rw (lt-ltb gone n h) at l in rw (le-ltb at gone k) (omega arith)
     go (inr h) (inr k) = let d : at < n = rw (le-ltb gone n h) at l in absurd (omega arith)
 
+-- what is left of a list, where it stands
+module _ (xs : List Message) (gone : ℕ) where
+  pub rest-length : length (removed_at xs gone) ≡ left_count (length xs) gone
+  unfolding left_count
+  rest-length = go (lt-or-le gone (length xs))
+    where
+      go : (gone < length xs) ⊎ (length xs ≤ gone) → length (removed_at xs gone) ≡ left_count (length xs) gone
+      go (inl h) = rw (lt-ltb gone (length xs) h) (removed-length xs gone h)
+      go (inr h) = rw (le-ltb gone (length xs) h) (ap (λ (l : List Message). length l) (removed-none xs gone h))
+
+  pub rest-at : (at : ℕ) → at < left_count (length xs) gone → get_or (removed_at xs gone) at blank ≡ get_or xs (place_of gone at) blank
+  unfolding left_count place_of
+  rest-at at l = go (lt-or-le gone (length xs)) (lt-or-le at gone)
+    where
+      go : (gone < length xs) ⊎ (length xs ≤ gone) → (at < gone) ⊎ (gone ≤ at)
+          → get_or (removed_at xs gone) at blank ≡ get_or xs (place_of gone at) blank
+      go (inl h) (inl k) = rw (lt-ltb at gone k) (removed-low xs gone h at k)
+      go (inl h) (inr k) = rw (le-ltb at gone k) (removed-high xs gone h at k)
+      go (inr h) k =
+          let n : at < length xs = rw (le-ltb gone (length xs) h) at l in
+          rw (lt-ltb at gone (omega arith)) (ap (λ (ys : List Message). get_or ys at blank) (removed-none xs gone h))
+
 module _ (p : Pool) (gone : ℕ) (e : length (waiting p) ≡ p.count) where
   pub left-length : length (left_of p gone) ≡ left_count p.count gone
-  unfolding left_count
-  left-length = go (lt-or-le gone p.count)
-    where
-      go : (gone < p.count) ⊎ (p.count ≤ gone) → length (left_of p gone) ≡ left_count p.count gone
-      go (inl h) = rw (lt-ltb gone p.count h) (removed-length (waiting p) gone (omega arith) ∙ ap (λ (n : ℕ). n - 1) e)
-      go (inr h) = rw (le-ltb gone p.count h) (ap (λ (l : List Message). length l) (removed-none (waiting p) gone (omega arith)) ∙ e)
+  left-length = rest-length (waiting p) gone ∙ ap (λ (n : ℕ). left_count n gone) e
 
-  -- what is left stands at its places
+  -- what is left of a pool stands at its places
   pub left_at : (at : ℕ) → at < left_count p.count gone → get_or (left_of p gone) at blank ≡ message_at p (place_of gone at)
-  unfolding left_count place_of
-  left_at at l = go (lt-or-le gone p.count) (lt-or-le at gone)
-    where
-      go : (gone < p.count) ⊎ (p.count ≤ gone) → (at < gone) ⊎ (gone ≤ at) → get_or (left_of p gone) at blank ≡ message_at p (place_of gone at)
-      go (inl h) (inl k) = rw (lt-ltb at gone k) (removed-low (waiting p) gone (omega arith) at k ∙ waiting-at p at (omega arith))
-      go (inl h) (inr k) =
-          let n : at < p.count - 1 = rw (lt-ltb gone p.count h) at l in
-          rw (le-ltb at gone k) (removed-high (waiting p) gone (omega arith) at k ∙ waiting-at p (at + 1) (omega arith))
-      go (inr h) k =
-          let n : at < p.count = rw (le-ltb gone p.count h) at l in
-          rw (lt-ltb at gone (omega arith))
-          (ap (λ (xs : List Message). get_or xs at blank) (removed-none (waiting p) gone (omega arith)) ∙ waiting-at p at n)
+  left_at at l = rest-at (waiting p) gone at (rw e l) ∙ waiting-at p (place_of gone at) (place-low p.count gone at l)

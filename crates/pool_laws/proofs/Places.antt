@@ -1,5 +1,5 @@
--- The loops over places. A pool by value has 256 of them, so what waits has the pool's count, and what is left stands at its places; a
--- search that passed the messages before `at` ends as the definition says. Assumes nothing.
+-- The loops over places. A pool by value has 256 of them; of the messages that wait, what is left stands at its places; a search that passed the messages before
+-- `at` ends as the definition says. Assumes nothing.
 use Rattle.std.specs.Prelude.{Some, None}
 use mathlib.Core.Path.{◌≡◌, refl, sym, ◌∙◌, ap}
 use mathlib.Core.Bool.{Bool, true, false, ◌&&◌, ◌||◌}
@@ -19,31 +19,31 @@ use Rattle.marks.specs.Marks.{all_to}
 use Rattle.marks.proofs.Laws.{more, fails}
 use Rattle.rules.specs.declared.Message.{Message}
 use Rattle.rules.specs.declared.Pool.{Pool}
-use Rattle.rules.specs.Pool.{blank, message_at, waiting}
-use Rattle.rules.specs.Mail.{fields_of, same_to, alike, first_equal, join_waits, reply_waits}
+use Rattle.rules.specs.Pool.{blank}
+use Rattle.rules.specs.Mail.{fields_of, same_to, alike, first_equal, removed_at, join_waits, reply_waits}
 use Rattle.rules.specs.contracts.Pool as pool
-use Rattle.pool_laws.specs.InnerSending.{left_of, left_count, place_of}
+use Rattle.pool_laws.specs.InnerSending.{left_count, place_of}
 use Rattle.pool_laws.proofs.Equal.{first-equal-at, first-equal-none}
-use Rattle.pool_laws.proofs.Laid.{waiting-length, left-low, place-low, left_at}
+use Rattle.pool_laws.proofs.Laid.{left-low, place-low, rest-length, rest-at}
 
--- a pool by value has 256 places, so what waits has the pool's count
+-- a pool by value has 256 places
 pub places-length : (x : Pool) (vs : List Val) → Is pool.the_row x vs → length x.places ≡ 256
 places-length x vs is = is.1.1.1.0.1.0.1
-
-pub waiting-counted : (x : Pool) (vs : List Val) → Is pool.the_row x vs → x.count ≤ 256 → length (waiting x) ≡ x.count
-waiting-counted x vs is h = waiting-length x h (places-length x vs is)
 
 pub left-few : (r n gone : ℕ) → r ≡ left_count n gone → r ≤ n
 left-few r n gone e = omega (arith, left-low n gone)
 
 -- what was read at a place is the message there of what is left
-module _ (p : Pool) (gone n at place : ℕ) (e : length (waiting p) ≡ p.count) (d : n ≡ left_count p.count gone) (l : at < n)
-    (f : place ≡ place_of gone at) where
-  pub left-low-at : place < p.count
-  left-low-at = rw f (place-low p.count gone at (omega arith))
+module _ (xs : List Message) (gone n at place : ℕ) (d : n ≡ left_count (length xs) gone) (l : at < n) (f : place ≡ place_of gone at) where
+  pub left-low-at : place < length xs
+  left-low-at = rw f (place-low (length xs) gone at (rw (← d) l))
 
-  pub left-read : message_at p place ≡ get_or (left_of p gone) at blank
-  left-read = rw f (sym (left_at p gone e at (omega arith)))
+  pub left-read : get_or xs place blank ≡ get_or (removed_at xs gone) at blank
+  left-read = rw f (sym (rest-at xs gone at (rw (← d) l)))
+
+-- how many are left
+pub left-counted : (xs : List Message) (gone n : ℕ) → n ≡ left_count (length xs) gone → length (removed_at xs gone) ≡ n
+left-counted xs gone n d = rest-length xs gone ∙ sym d
 
 -- the messages before one more place
 pub taken_more : (xs : List Message) (at : ℕ) → at < length xs → take (at + 1) xs ≡ take at xs ++ (get_or xs at blank ∷ [])

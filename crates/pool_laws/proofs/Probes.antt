@@ -1,7 +1,7 @@
 -- The waiting probes that have timed out. The idea: what is left is the list without the messages that pass a test, so it keeps what all have and that no two are
 -- equal, is no longer than the list, and holds every message that does not pass, as many places further to the front as messages before it pass. By induction
 -- on the list; for the loop that makes it, from the front: a message more is added behind, or is not (`left-more`). Assumes nothing.
-use mathlib.Core.Path.{◌≡◌, refl, sym, ◌∙◌, ap, ap₂}
+use mathlib.Core.Path.{◌≡◌, refl, sym, ◌∙◌, ap}
 use mathlib.Core.Bool.{Bool, true, false, cond}
 use mathlib.Core.List.{List, [], ◌∷◌, ◌++◌, append-nil, append_assoc}
 use Prim.Native.Nat.{ℕ, zero, suc, ◌+◌, ◌-◌, ◌<◌, ◌≤◌}
@@ -10,7 +10,7 @@ use lib.ListN.{length, length-append, get_or, set, take, replicate}
 use Rattle.rules.specs.declared.Message.{Message}
 use Rattle.rules.specs.declared.Pool.{Pool}
 use Rattle.rules.specs.Mail.{is_probe_from, without_probes}
-use Rattle.rules.specs.Pool.{blank, lay, laid, waiting}
+use Rattle.rules.specs.Pool.{blank, lay}
 use Rattle.pool_laws.proofs.Laws.{All, all_nil, all_cons, Apart, apart-nil, apart_cons}
 use Rattle.pool_laws.proofs.Places.{taken_more}
 
@@ -159,7 +159,3 @@ module _ (i j : ℕ) (from : List Message) where
         let xs = without_probes (take at from) i j in
         let more : without_probes (take (at + 1) from) i j ≡ xs = (rw e at left-more) ∙ append-nil xs in
         record { counted = rw more k.counted; written = rw more k.written }
-
-pub kept-end : (i j : ℕ) (p : Pool) (count : ℕ) (places : List Message) → Kept i j p.places p.count count places
-    → pool count places ≡ laid (without_probes (waiting p) i j)
-kept-end i j p count places k = ap₂ pool k.counted k.written

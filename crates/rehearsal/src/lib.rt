@@ -17,14 +17,16 @@ pub struct Checker {
     pub pool: Pool,
 }
 
-// A step is looked at, or it is refused: the check has ended, or 1,000 steps were looked at. Two names without a value: no Result says more.
-#[derive(Clone, Copy)]
+// A step is looked at, or it is refused: the check has ended, or 1,000 steps were looked at. Each has its number.
+// Stays: two names without a value, of which no Result says more.
+#[derive(Clone, Copy, Debug, PartialEq, Eq)]
 pub enum Reply {
-    LookedAt,
-    Over,
+    LookedAt = 0,
+    Over = 12,
 }
 
-// The reply to a step that was handed over, and the checker after it: a refusal leaves the checker too, so that it stands beside the reply.
+// The reply to a step that was handed over, and the checker after it.
+// Stays: `over_rehearsal::next` promises the checker after a refusal too, so that it stands beside the reply.
 #[derive(Clone, Copy)]
 pub struct Handed {
     pub reply: Reply,

@@ -61,6 +61,7 @@ pub struct Node {
 }
 
 // A message. `word` is the key or the node; `hops` is the hop number of a Lookup, and 0 for every other kind.
+// Stays: `kind` and `flag` are numbers, since validity is asked of any number that a file or a caller holds (Fits.is_kind), and an enum would leave out the bad ones.
 #[derive(Clone, Copy, Debug, PartialEq, Eq)]
 pub struct Message {
     pub kind: u32,
@@ -76,6 +77,7 @@ pub struct Message {
 }
 
 // The waiting messages, oldest first: the first `count` of 256 places.
+// Stays: a count beside an array, since memory is fixed and there is no heap: the pool is the caller's list of 256 places.
 #[derive(Clone, Copy)]
 pub struct Pool {
     pub count: usize,
@@ -92,6 +94,7 @@ pub enum Hop {
 
 // Where the next hop came from: the leaf set, or the routing set alone; Unrouted where nothing goes to a next hop. The number is the letter as a byte: `l` or `r`,
 // and 0 for none.
+// Stays: Unrouted is a variant, since T-01 gives it a number beside the letters (Numbers.via_number).
 #[derive(Clone, Copy, Debug, PartialEq, Eq)]
 pub enum Via {
     Unrouted = 0,

@@ -1,4 +1,3 @@
-pub mod Signed
 pub mod Results
 pub mod Reading
 pub mod Saying

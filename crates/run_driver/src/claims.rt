@@ -4,6 +4,7 @@ use super::{asked, told};
 use rehearsal::{Checker, Handed};
 
 // A reply, and the checker after it.
+// Stays: the checker is held on whatever the reply.
 #[derive(Clone, Copy)]
 pub struct Heard {
     pub reply: Reply,
@@ -45,13 +46,9 @@ pub fn next_step(c: Checker, rest: &[u8], out: &mut [u8]) -> Heard {
 
 // The reply to a request of a rehearsal.
 pub fn hear(c: Checker, request: &[u8], out: &mut [u8]) -> Heard {
-    if request.len() == 0 {
-        return unmoved(c, told::malformed());
-    }
-    let kind = asked::kind_of(request);
-    match kind {
-        5 => judged(over_rehearsal::begin(&request[1..]), out),
-        6 => next_step(c, &request[1..], out),
+    match request {
+        [5, rest @ ..] => judged(over_rehearsal::begin(rest), out),
+        [6, rest @ ..] => next_step(c, rest, out),
         _ => unmoved(c, told::malformed()),
     }
 }

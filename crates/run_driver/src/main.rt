@@ -19,17 +19,13 @@ use water::Store;
 
 // The reply to a request of another kind.
 fn reply_to(request: &[u8], out: &mut [u8]) -> Reply {
-    if request.len() == 0 {
-        return told::malformed();
-    }
-    let kind = asked::kind_of(request);
-    match kind {
-        0 => steps::load(&request[1..], out),
-        1 => steps::make_step(&request[1..], out),
-        2 => steps::make_start(&request[1..], out),
-        3 => steps::ask_settled(&request[1..], out),
-        4 => steps::print_list(&request[1..], out),
-        10 => waiting::ask_waiting(&request[1..], out),
+    match request {
+        [0, rest @ ..] => steps::load(rest, out),
+        [1, rest @ ..] => steps::make_step(rest, out),
+        [2, rest @ ..] => steps::make_start(rest, out),
+        [3, rest @ ..] => steps::ask_settled(rest, out),
+        [4, rest @ ..] => steps::print_list(rest, out),
+        [10, rest @ ..] => waiting::ask_waiting(rest, out),
         _ => told::malformed(),
     }
 }
@@ -69,18 +65,16 @@ fn send_led(rt: &impl Print, l: Led, out: &[u8]) -> io::Result<()> {
     send_bytes(rt, out, r.count)
 }
 
-// Reads past the next bytes. The loop counts the bytes left, a buffer at a time, and no index.
+// Reads past the next bytes.
 fn skip(rt: &impl Input, body: &mut [u8], n: usize) -> io::Result<()> {
     let most = body.len();
     if most == 0 {
         return Err(io::ErrorKind::InvalidInput.into());
     }
-    let mut left = n;
-    while left > most {
+    for _ in 0..n / most {
         rt.reader().read_exact(body)?;
-        left -= most;
     }
-    rt.reader().read_exact(&mut body[..left])
+    rt.reader().read_exact(&mut body[..n % most])
 }
 
 // Reads the next request: how long it is, or none at the end of the input. One that is too long is read past, and counts as an empty one, which is
@@ -98,8 +92,9 @@ fn receive(rt: &impl Input, body: &mut [u8]) -> Option<usize> {
 }
 
 // Is it the kind of a request of a rehearsal or of records?
+// Stays: a kind is a number, since the wire's is one (docs/DRIVER.md).
 fn is_held(kind: u64) -> bool {
-    5 <= kind && kind <= 9
+    (5..=9).contains(&kind)
 }
 
 // Answers a request of a rehearsal: the checker after it, if the reply was sent.
@@ -118,10 +113,10 @@ fn record(rt: &impl Print, s: Store, request: &[u8], out: &mut [u8]) -> Option<S
 
 // Answers a request of another kind.
 fn answer(rt: &impl Print, request: &[u8], out: &mut [u8]) -> io::Result<()> {
-    if request.len() > 0 && asked::kind_of(request) == 11 {
-        return send_led(rt, steps::make_step_via(&request[1..], out), out);
+    match request {
+        [11, rest @ ..] => send_led(rt, steps::make_step_via(rest, out), out),
+        _ => send(rt, reply_to(request, out), out),
     }
-    send(rt, reply_to(request, out), out)
 }
 
 // Answers requests until one of a rehearsal or of records has come: how long it is, or none at the end.
@@ -137,45 +132,33 @@ fn serve_others(rt: &(impl Input + Print), body: &mut [u8], out: &mut [u8]) -> O
     None
 }
 
-// Answers one request of a rehearsal or of records, after those of other kinds: the checker and the records after it, or none at the end.
-fn serve_one(
-    rt: &(impl Input + Print),
-    checker: Checker,
-    store: Store,
-    body: &mut [u8],
-    out: &mut [u8],
-) -> Option<(Checker, Store)> {
-    let n = serve_others(rt, body, out)?;
-    let request = body.get(..n)?;
-    if asked::kind_of(request) < 7 {
-        Some((rehearse(rt, checker, request, out)?, store))
-    } else {
-        Some((checker, record(rt, store, request, out)?))
-    }
-}
-
-// Answers all requests, with a checker and records to begin with. Neither is moved but for its own requests.
+// Answers all requests, with a checker and records to begin with. Neither is moved but for its own requests. None at the end.
 fn serve_all(
     rt: &(impl Input + Print),
     first: Checker,
     none: Store,
     body: &mut [u8],
     out: &mut [u8],
-) {
-    let mut held = (first, none);
+) -> Option<()> {
+    let mut checker = first;
+    let mut store = none;
     for _ in 0..u64::MAX {
-        let Some(after) = serve_one(rt, held.0, held.1, body, out) else {
-            return;
-        };
-        held = after;
+        let n = serve_others(rt, body, out)?;
+        let request = body.get(..n)?;
+        if asked::kind_of(request) < 7 {
+            checker = rehearse(rt, checker, request, out)?;
+        } else {
+            store = record(rt, store, request, out)?;
+        }
     }
+    Some(())
 }
 
 // The checker begins with an empty file, which is no start.
 fn main(rt: HostRuntime) {
     let mut body = [0u8; 65536];
     let mut out = [0u8; 65536];
-    serve_all(
+    let _ = serve_all(
         &rt,
         over_rehearsal::begin(&body[..0]),
         over_water::empty(),

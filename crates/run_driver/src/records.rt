@@ -5,6 +5,7 @@ use table_type::Stepped;
 use water::{Placed, Record, Store};
 
 // A reply, and the records after it.
+// Stays: the records are held on whatever the reply.
 #[derive(Clone, Copy)]
 pub struct Kept {
     pub reply: Reply,
@@ -52,19 +53,10 @@ pub fn place(s: Store, rest: &[u8], out: &mut [u8]) -> Kept {
 
 // The reply to a request of records.
 pub fn keep(s: Store, request: &[u8], out: &mut [u8]) -> Kept {
-    if request.len() == 0 {
-        return beside(s, told::malformed());
-    }
-    let kind = asked::kind_of(request);
-    if kind == 8 {
-        return place(s, &request[1..], out);
-    }
-    if request.len() > 1 {
-        return beside(s, told::malformed());
-    }
-    match kind {
-        7 => beside(over_water::empty(), told::refused(0)),
-        9 => beside(s, told::tell_sum(s, out)),
+    match request {
+        [7] => beside(over_water::empty(), told::reply_of(Ok(0))),
+        [8, rest @ ..] => place(s, rest, out),
+        [9] => beside(s, told::tell_sum(s, out)),
         _ => beside(s, told::malformed()),
     }
 }

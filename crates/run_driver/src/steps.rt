@@ -1,5 +1,5 @@
 // Requests of one table file: load, step, start, settled and list, and the step with its letter.
-ghost use Rattle.std.specs.Prelude.{◌≤◌, length, take};
+ghost use Rattle.std.specs.Prelude.{◌≤◌, length};
 ghost use Rattle.face.specs.Calls.{begun_of};
 ghost use Rattle.run_driver.specs.Requests.{word_at};
 ghost use Rattle.run_driver.specs.Replies.{Says, LeadsTo};
@@ -42,16 +42,16 @@ pub fn make_step_via(rest: &[u8], out: &mut [u8]) -> Led
     told::unlettered(face_c::tarpudhriv_step_via(&rest[24..], action, x, y, out))
 }
 
-// A start of the first n ids.
-fn start_of(rest: &[u8], ids: &[u32], n: usize, out: &mut [u8]) -> Reply
-    requires { (24 ≤ length rest.now) × (n ≤ length ids.now) }
+// A start of the ids.
+fn start_of(rest: &[u8], ids: &[u32], out: &mut [u8]) -> Reply
+    requires { 24 ≤ length rest.now }
     ensures { Says (begun_said (begun_of (word_at 0 rest.now) (word_at 8 rest.now) (word_at 16 rest.now)
-        (take n ids.now)) out.old) result out.new }
+        ids.now) out.old) result out.new }
 {
     let m = words::read::<u64>(rest, 0);
     let l = words::read::<u64>(rest, 8);
     let a = words::read::<u64>(rest, 16);
-    told::reply_of(face_file::start_file(m, l, a, &ids[..n], out))
+    told::reply_of(face_file::start_file(m, l, a, ids, out))
 }
 
 // M, L, the set A as marks, and the ids.
@@ -66,7 +66,7 @@ pub fn make_start(rest: &[u8], out: &mut [u8]) -> Reply
     }
     let n = asked::id_count(rest);
     let ids = asked::ids_in(rest, n);
-    start_of(rest, &ids, n, out)
+    start_of(rest, &ids[..n], out)
 }
 
 // Is the table of a file settled?

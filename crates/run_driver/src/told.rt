@@ -1,7 +1,5 @@
 // Replies: a number, and the bytes of a result at the start of a buffer.
 ghost use Rattle.std.specs.Prelude.{◌≡◌, [], ◌∷◌, ◌++◌, ◌%◌};
-ghost use Rattle.std.specs.Int.{w64};
-ghost use Rattle.std.proofs.Common.{of_z};
 ghost use Rattle.rules.specs.Numbers.{refusal_number};
 ghost use Rattle.words.specs.Bytes.{bytes_of};
 ghost use Rattle.run_driver.specs.Replies.{Says, numbered, no_request, reply_by, reply_in, led_in, result_of};
@@ -14,16 +12,17 @@ use rehearsal::Verdict;
 use rules::Refusal;
 use water::{Held, Store};
 
-// A number, and how many bytes of the buffer are the result: as they are sent. A Result would be made into this pair at once, and a malformed request has
-// a number that is no refusal's.
-#[derive(Clone, Copy)]
+// A number, and how many bytes of the buffer are the result: as they are sent.
+// Stays: a Result would be made into this pair at once, and a malformed request has a number that is no refusal's.
+#[derive(Clone, Copy, Debug, PartialEq, Eq)]
 pub struct Reply {
     pub number: u32,
     pub count: usize,
 }
 
 // A reply whose result has the byte `lead` before the bytes of the buffer.
-#[derive(Clone, Copy)]
+// Stays: what may not change: `led_in` of specs/Replies.antt gives a byte with every number.
+#[derive(Clone, Copy, Debug, PartialEq, Eq)]
 pub struct Led {
     pub reply: Reply,
     pub lead: u64,
@@ -95,7 +94,7 @@ fn flag(x: u8, out: &mut [u8]) -> Reply
     ensures { Says (result_of (x ∷ []) out.old) result out.new }
 {
     if out.len() < 1 {
-        return refused(11);
+        return refused_by(Refusal::NoRoom);
     }
     let count = text::put_byte(out, 0, x);
     Reply { number: 0, count }
@@ -106,7 +105,7 @@ fn flag_word(x: u8, y: u32, out: &mut [u8]) -> Reply
     ensures { Says (result_of (x ∷ bytes_of 4 y) out.old) result out.new }
 {
     if out.len() < 5 {
-        return refused(11);
+        return refused_by(Refusal::NoRoom);
     }
     let at = text::put_byte(out, 0, x);
     let count = words::write(out, at, y);
@@ -118,7 +117,7 @@ fn two_words(x: u32, y: u64, out: &mut [u8]) -> Reply
     ensures { Says (result_of (bytes_of 4 x ++ bytes_of 8 y) out.old) result out.new }
 {
     if out.len() < 12 {
-        return refused(11);
+        return refused_by(Refusal::NoRoom);
     }
     let at = words::write(out, 0, x);
     let count = words::write(out, at, y);
@@ -130,7 +129,7 @@ fn three_words(x: u32, y: u64, z: u64, out: &mut [u8]) -> Reply
     ensures { Says (result_of (bytes_of 4 x ++ (bytes_of 8 y ++ bytes_of 8 z)) out.old) result out.new }
 {
     if out.len() < 20 {
-        return refused(11);
+        return refused_by(Refusal::NoRoom);
     }
     let a1 = words::write(out, 0, x);
     let a2 = words::write(out, a1, y);
@@ -170,26 +169,15 @@ pub fn tell_verdict(v: Verdict, out: &mut [u8]) -> Reply
     }
 }
 
-// The bits of a signed number: two's complement.
-fn bits_of(x: i64) -> u64
-    ensures { result ≡ of_z w64 x }
-{
-    if x < 0 {
-        18446744073709551615 - (-1 - x) as u64
-    } else {
-        x as u64
-    }
-}
-
-// A held record: the slot of its holder, its copies as marks, and its change.
+// A held record: the slot of its holder, its copies as marks, and its change in two's complement.
 pub fn tell_held(h: Held, out: &mut [u8]) -> Reply {
-    let r = h.original;
-    three_words(low(h.holder), h.copies, bits_of(over_water::change(r)), out)
+    let change = over_water::change(h.original);
+    three_words(low(h.holder), h.copies, change.cast_unsigned(), out)
 }
 
-// The number of records and the sum of their changes.
+// The number of records and the sum of their changes, in two's complement.
 pub fn tell_sum(s: Store, out: &mut [u8]) -> Reply {
-    two_words(low(s.count), bits_of(over_water::sum(s)), out)
+    two_words(low(s.count), over_water::sum(s).cast_unsigned(), out)
 }
 
 // The length of a reply and its number, as bytes.

@@ -4,50 +4,18 @@
 #![tactic(auto)]
 
 use rules::{Action, Pool};
+use run_parts::{Said, Shown};
 use table_type::{Stepped, Table};
 
-// This and `number`, `status`, `show`, `rest` and `started` stand in run_service too: in a library of their own they would be public functions that
-// print, and no clause can say what is printed.
-fn say(rt: &impl Print, words: &[u8]) {
-    let _ = rt.write_all(words);
+// Stays, with `rest` and `started`, beside those of run_service: a public function that prints has nothing that a contract could say of it.
+fn show(rt: &impl Print, s: &Stepped) {
+    let _ = println!(rt; ": {}", Shown { left: s, slots: 4 });
 }
 
-fn number(rt: &impl Print, x: u64) {
-    let _ = rt.print(x);
-}
-
-// The status of a slot, as 01's number.
-fn status(t: Table, s: usize) -> u64 {
-    if s < 64 {
-        let v = t.nodes[s];
-        let st = v.status;
-        parts::status_number(st) as u64
-    } else {
-        0
-    }
-}
-
-fn show(rt: &impl Print, s: Stepped) {
-    let answer = s.answer;
-    say(rt, b": ");
-    number(rt, parts::answer_number(answer) as u64);
-    say(rt, b", status");
-    let t = s.table;
-    for i in 0..4 {
-        say(rt, b" ");
-        number(rt, status(t, i));
-    }
-    let p = s.pool;
-    say(rt, b", waiting ");
-    number(rt, p.count as u64);
-    say(rt, b"\n");
-}
-
+// Makes an action, and shows what it left.
 fn stepped(rt: &impl Print, s: Stepped, a: Action) -> Stepped {
-    let t = s.table;
-    let p = s.pool;
-    let r = table_step::step(t, p, 256, a);
-    show(rt, r);
+    let r = table_step::step(s.table, s.pool, 256, a);
+    show(rt, &r);
     r
 }
 
@@ -55,69 +23,47 @@ fn stepped(rt: &impl Print, s: Stepped, a: Action) -> Stepped {
 fn drained(rt: &impl Print, s: Stepped) -> Stepped {
     let mut now = s;
     for _ in 0..64u64 {
-        let p = now.pool;
-        if p.count == 0 {
+        if now.pool.count == 0 {
             return now;
         }
-        say(rt, b"take 0");
+        let _ = print!(rt; "take 0");
         now = stepped(rt, now, Action::Take(0));
     }
     now
 }
 
 fn joined(rt: &impl Print, s: Stepped, i: usize, seed: usize) -> Stepped {
-    say(rt, b"join ");
-    number(rt, i as u64);
-    say(rt, b" ");
-    number(rt, seed as u64);
+    let _ = print!(rt; "join {i} {seed}");
     let asked = drained(rt, stepped(rt, s, Action::Join(i, seed)));
-    say(rt, b"request lease ");
-    number(rt, i as u64);
+    let _ = print!(rt; "request lease {i}");
     drained(rt, stepped(rt, asked, Action::RequestLease(i)))
 }
 
 fn rest(rt: &impl Print, s: Stepped) {
-    let t = s.table;
-    let p = s.pool;
-    match face_table::settled(t, p, 256) {
-        Ok(true) => say(rt, b"settled\n"),
-        Ok(false) => say(rt, b"not settled\n"),
-        Err(_) => say(rt, b"not valid\n"),
-    }
+    let _ = println!(rt; "{}", Said(face_table::settled(s.table, s.pool, 256)));
 }
 
 fn started(rt: &impl Print, l: u32, ids: &[u32], a: u64) -> Stepped {
-    let none = parts::blank_message();
-    let places = [none; 256];
-    let empty = Pool { count: 0, places };
-    let blank = Table::start(0, 0, ids, 0);
-    let nothing = blank.table;
-    let begun = face_table::start(nothing, empty, 256, 8, l, ids, a);
-    say(rt, b"start");
-    show(rt, begun);
+    let t = table_parts::no_table();
+    let begun = face_table::start(t, face_table::no_messages(), 256, 8, l, ids, a);
+    let _ = print!(rt; "start");
+    show(rt, &begun);
     begun
 }
 
 // The slots of a are ready, L is 4, and slot i joins at the seed.
-fn estate(rt: &impl Print, what: &[u8], ids: &[u32], a: u64, i: usize, seed: usize) {
-    say(rt, what);
+fn estate(rt: &impl Print, what: &str, ids: &[u32], a: u64, i: usize, seed: usize) {
+    let _ = println!(rt; "{what}");
     rest(rt, joined(rt, started(rt, 4, ids, a), i, seed));
 }
 
 // A step on what is not valid: its number, and the n and the count that it leaves.
-fn unsound(rt: &impl Print, what: &[u8], t: Table, p: Pool, len: usize) {
+fn unsound(rt: &impl Print, what: &str, t: Table, p: Pool, len: usize) {
     let r = table_step::step(t, p, len, Action::RequestLease(0));
-    let answer = r.answer;
-    let u = r.table;
-    let q = r.pool;
-    say(rt, what);
-    say(rt, b": ");
-    number(rt, parts::answer_number(answer) as u64);
-    say(rt, b", nodes ");
-    number(rt, u.n as u64);
-    say(rt, b", waiting ");
-    number(rt, q.count as u64);
-    say(rt, b"\n");
+    let number = parts::answer_number(r.answer);
+    let n = r.table.n;
+    let count = r.pool.count;
+    let _ = println!(rt; "{what}: {number}, nodes {n}, waiting {count}");
 }
 
 fn main(rt: HostRuntime) {
@@ -129,18 +75,18 @@ fn main(rt: HostRuntime) {
         1,
     );
     rest(&rt, all);
-    estate(&rt, b"three and one\n", &ids, 7, 3, 2);
+    estate(&rt, "three and one", &ids, 7, 3, 2);
     let three = [17u32, 18, 65];
-    estate(&rt, b"two and one\n", &three, 3, 2, 1);
+    estate(&rt, "two and one", &three, 3, 2, 1);
     let two = [17u32, 18];
-    estate(&rt, b"one and one\n", &two, 1, 1, 0);
+    estate(&rt, "one and one", &two, 1, 1, 0);
     let t = all.table;
     let p = all.pool;
-    unsound(&rt, b"a list of 255 places", t, p, 255);
+    unsound(&rt, "a list of 255 places", t, p, 255);
     let mut u = t;
     u.n = 65;
-    unsound(&rt, b"65 nodes", u, p, 256);
+    unsound(&rt, "65 nodes", u, p, 256);
     let mut q = p;
     q.count = 257;
-    unsound(&rt, b"257 messages", t, q, 256);
+    unsound(&rt, "257 messages", t, q, 256);
 }

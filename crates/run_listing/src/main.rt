@@ -5,8 +5,8 @@ ghost use Rattle.std.specs.Prelude.{◌≤◌, length};
 
 use std::io::Read;
 
-// Reads until the buffer is full or the input ends, and gives how many bytes it has put at the start. The library's `read_exact` does not tell how many
-// came before an end, and `read_to_end` wants a buffer that grows.
+// Reads until the buffer is full or the input ends, and gives how many bytes it has put at the start.
+// Stays: the library's `read_exact` does not tell how many came before an end, and `read_to_end` wants a buffer that grows.
 fn read_full(rt: &impl Input, buf: &mut [u8]) -> usize
     ensures { result ≤ length buf.new }
 {

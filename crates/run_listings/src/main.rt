@@ -4,6 +4,7 @@
 
 use std::io::Read;
 
+// Stays beside run_listing: what the two share is crate run_parts, and this one reads many files of a length that is led.
 fn title(rt: &impl Print, number: u64) {
     let _ = println!(rt; "file {number}");
 }
@@ -15,31 +16,26 @@ fn next_length(rt: &impl Input) -> Option<usize> {
     Some(words::read::<u32>(&head, 0) as usize)
 }
 
-// Lists the next file: whether there was one.
-fn list_next(rt: &(impl Input + Print), body: &mut [u8], number: u64) -> bool {
-    let Some(n) = next_length(rt) else {
-        return false;
-    };
+// Lists the next file, where there is one.
+fn list_next(rt: &(impl Input + Print), body: &mut [u8], number: u64) -> Option<()> {
+    let n = next_length(rt)?;
     if n > body.len() {
-        return false;
+        return None;
     }
-    if rt.reader().read_exact(&mut body[..n]).is_err() {
-        return false;
-    }
+    rt.reader().read_exact(&mut body[..n]).ok()?;
     title(rt, number);
     run_parts::show(rt, &body[..n]);
-    true
+    Some(())
 }
 
-fn list_all(rt: &(impl Input + Print), body: &mut [u8]) {
+fn list_all(rt: &(impl Input + Print), body: &mut [u8]) -> Option<()> {
     for number in 0..u64::MAX {
-        if !list_next(rt, body, number) {
-            break;
-        }
+        list_next(rt, body, number)?;
     }
+    Some(())
 }
 
 fn main(rt: HostRuntime) {
     let mut body = [0u8; 65536];
-    list_all(&rt, &mut body);
+    let _ = list_all(&rt, &mut body);
 }

@@ -4,78 +4,40 @@
 // action with its answer, the statuses and the number of waiting messages after it, and between whether the table is settled.
 #![tactic(auto)]
 
-use rules::{Action, Pool};
-use table_type::{Stepped, Table};
+use rules::Action;
+use run_parts::{Said, Shown};
+use table_type::Stepped;
 
-// This and `number`, `status`, `show`, `rest` and `started` stand in run_joins too: in a library of their own they would be public functions that
-// print, and no clause can say what is printed.
-fn say(rt: &impl Print, words: &[u8]) {
-    let _ = rt.write_all(words);
-}
-
-fn number(rt: &impl Print, x: u64) {
-    let _ = rt.print(x);
-}
-
-// The status of a slot, as 01's number.
-fn status(t: Table, s: usize) -> u64 {
-    if s < 64 {
-        let v = t.nodes[s];
-        let st = v.status;
-        parts::status_number(st) as u64
-    } else {
-        0
-    }
-}
-
-fn show(rt: &impl Print, s: Stepped) {
-    let answer = s.answer;
-    say(rt, b": ");
-    number(rt, parts::answer_number(answer) as u64);
-    say(rt, b", status");
-    let t = s.table;
-    for i in 0..7 {
-        say(rt, b" ");
-        number(rt, status(t, i));
-    }
-    let p = s.pool;
-    say(rt, b", waiting ");
-    number(rt, p.count as u64);
-    say(rt, b"\n");
+// Stays, with `rest` and `started`, as in run_joins.
+fn show(rt: &impl Print, s: &Stepped) {
+    let _ = println!(rt; ": {}", Shown { left: s, slots: 7 });
 }
 
 // One action of slot i, said with this word.
-fn asked(rt: &impl Print, s: Stepped, what: &[u8], i: usize, a: Action) -> Stepped {
-    say(rt, what);
-    say(rt, b" ");
-    number(rt, i as u64);
-    let t = s.table;
-    let p = s.pool;
-    let r = table_step::step(t, p, 256, a);
-    show(rt, r);
+fn asked(rt: &impl Print, s: Stepped, what: &str, i: usize, a: Action) -> Stepped {
+    let _ = print!(rt; "{what} {i}");
+    let r = table_step::step(s.table, s.pool, 256, a);
+    show(rt, &r);
     r
+}
+
+// What the first Take that is done leaves, if one is.
+fn taken(s: &Stepped) -> Option<Stepped> {
+    (0..s.pool.count)
+        .map(|place| table_step::step(s.table, s.pool, 256, Action::Take(place)))
+        .find(|r| r.answer.is_ok())
 }
 
 // Takes the first message that can be taken, until none can; those for the roof that is off stay.
 fn quiet(rt: &impl Print, s: Stepped) -> Stepped {
     let mut now = s;
-    let mut place: usize = 0;
     for _ in 0..4096u64 {
-        let p = now.pool;
-        if place >= p.count {
-            say(rt, b"drained");
-            show(rt, now);
+        let Some(r) = taken(&now) else {
+            let _ = print!(rt; "drained");
+            show(rt, &now);
             return now;
-        }
-        let t = now.table;
-        let r = table_step::step(t, p, 256, Action::Take(place));
-        let answer = r.answer;
-        if parts::answer_number(answer) == 0 {
-            now = r;
-            place = 0;
-        } else {
-            place += 1;
-        }
+        };
+        now = r;
     }
     now
 }
@@ -84,11 +46,8 @@ fn quiet(rt: &impl Print, s: Stepped) -> Stepped {
 fn expired(s: Stepped, i: usize) -> Stepped {
     let mut now = s;
     for j in 0..7 {
-        let t = now.table;
-        let p = now.pool;
-        let r = table_step::step(t, p, 256, Action::LeaseExpired(i, j));
-        let answer = r.answer;
-        if parts::answer_number(answer) == 0 {
+        let r = table_step::step(now.table, now.pool, 256, Action::LeaseExpired(i, j));
+        if r.answer.is_ok() {
             now = r;
         }
     }
@@ -97,21 +56,21 @@ fn expired(s: Stepped, i: usize) -> Stepped {
 
 // Slot i finds out that slot d is off, and is ready again without it.
 fn repaired(rt: &impl Print, s: Stepped, i: usize, d: usize) -> Stepped {
-    let suspected = asked(rt, s, b"suspect faulty", i, Action::SuspectFaulty(i, d));
+    let suspected = asked(rt, s, "suspect faulty", i, Action::SuspectFaulty(i, d));
     let late = asked(
         rt,
         suspected,
-        b"probe time out",
+        "probe time out",
         i,
         Action::ProbeTimeOut(i, d),
     );
-    let free = asked(rt, late, b"grant expired", i, Action::GrantExpired(i, d));
-    let without = asked(rt, free, b"declare dead", i, Action::DeclareDead(i, d));
-    let probing = quiet(rt, asked(rt, without, b"repair", i, Action::LSRepair(i)));
+    let free = asked(rt, late, "grant expired", i, Action::GrantExpired(i, d));
+    let without = asked(rt, free, "declare dead", i, Action::DeclareDead(i, d));
+    let probing = quiet(rt, asked(rt, without, "repair", i, Action::LSRepair(i)));
     let asking = asked(
         rt,
         expired(probing, i),
-        b"request lease",
+        "request lease",
         i,
         Action::RequestLease(i),
     );
@@ -119,24 +78,14 @@ fn repaired(rt: &impl Print, s: Stepped, i: usize, d: usize) -> Stepped {
 }
 
 fn rest(rt: &impl Print, s: Stepped) {
-    let t = s.table;
-    let p = s.pool;
-    match face_table::settled(t, p, 256) {
-        Ok(true) => say(rt, b"settled\n"),
-        Ok(false) => say(rt, b"not settled\n"),
-        Err(_) => say(rt, b"not valid\n"),
-    }
+    let _ = println!(rt; "{}", Said(face_table::settled(s.table, s.pool, 256)));
 }
 
 fn started(rt: &impl Print, l: u32, ids: &[u32], a: u64) -> Stepped {
-    let none = parts::blank_message();
-    let places = [none; 256];
-    let empty = Pool { count: 0, places };
-    let blank = Table::start(0, 0, ids, 0);
-    let nothing = blank.table;
-    let begun = face_table::start(nothing, empty, 256, 8, l, ids, a);
-    say(rt, b"start");
-    show(rt, begun);
+    let t = table_parts::no_table();
+    let begun = face_table::start(t, face_table::no_messages(), 256, 8, l, ids, a);
+    let _ = print!(rt; "start");
+    show(rt, &begun);
     begun
 }
 
@@ -144,7 +93,7 @@ fn main(rt: HostRuntime) {
     let ids = [10u32, 40, 80, 120, 160, 200, 230];
     let all = started(&rt, 2, &ids, 127);
     rest(&rt, all);
-    let off = asked(&rt, all, b"node left", 3, Action::NodeLeft(3));
+    let off = asked(&rt, all, "node left", 3, Action::NodeLeft(3));
     rest(&rt, off);
     let one = repaired(&rt, off, 2, 3);
     let two = repaired(&rt, one, 4, 3);
@@ -152,13 +101,13 @@ fn main(rt: HostRuntime) {
     let four = repaired(&rt, three, 5, 3);
     let without = quiet(
         &rt,
-        asked(&rt, four, b"request lease", 2, Action::RequestLease(2)),
+        asked(&rt, four, "request lease", 2, Action::RequestLease(2)),
     );
     rest(&rt, without);
-    let back = quiet(&rt, asked(&rt, without, b"join", 3, Action::Join(3, 2)));
+    let back = quiet(&rt, asked(&rt, without, "join", 3, Action::Join(3, 2)));
     let whole = quiet(
         &rt,
-        asked(&rt, back, b"request lease", 3, Action::RequestLease(3)),
+        asked(&rt, back, "request lease", 3, Action::RequestLease(3)),
     );
     rest(&rt, whole);
 }

@@ -31,7 +31,7 @@ use Rattle.plan.specs.Leave.{plan_node_left, plan_suspect_faulty, plan_probe_tim
 use Rattle.table_type.specs.declared.Table.{Table}
 use Rattle.table_type.specs.declared.Stepped.{Stepped}
 use Rattle.start.specs.Start.{slot_ids, slots_to, start_node, start_nodes, start_fits, ids_rise, list_fits}
-use Rattle.table_type.specs.Start.{start_of}
+use Rattle.table_type.specs.Start.{start_of, table_of}
 use Rattle.table_type.specs.Table.{node_at, with_node}
 use Rattle.table.specs.Valid.{nodes_fit, messages_fit, pool_fits, valid_of}
 use Rattle.table.specs.Settle.{carried_out, settle}
@@ -40,7 +40,7 @@ use Rattle.step.specs.Step.{asked, act_of, is_sound, step_of}
 
 -- 17, 18, 65 and 95 are ready
 abbrev ring : Table
-ring = (start_of 8 1 (17 ∷ 18 ∷ 65 ∷ 95 ∷ []) 15).table
+ring = table_of (start_of 8 1 (17 ∷ 18 ∷ 65 ∷ 95 ∷ []) 15)
 
 abbrev none : Pool
 none = laid []
@@ -96,7 +96,7 @@ doubted = with_node ring 0 (bare 17 Ready 2 8 2)
 
 -- 17 waits with 18 on its left and 95 on its right, of two each; the others are dead, but for those named
 abbrev short : ℕ → Table
-short ready = with_node (start_of 8 2 (17 ∷ 18 ∷ 65 ∷ 95 ∷ []) ready).table 0 (bare 17 Wait 2 8 0)
+short ready = with_node (table_of (start_of 8 2 (17 ∷ 18 ∷ 65 ∷ 95 ∷ []) ready)) 0 (bare 17 Wait 2 8 0)
 
 abbrev asks : ℕ → Message
 asks j = placed (ls_probe 0 (record { left = 2; right = 8 }) 0) j
@@ -118,7 +118,7 @@ waiter = record { id = 18; status = Wait; left = 4; right = 0; probing = 0; fail
 
 abbrev beside : Status → Table
 beside s =
-    with_node (with_node (start_of 8 2 (17 ∷ 18 ∷ 65 ∷ 95 ∷ []) 8).table 1 waiter) 3
+    with_node (with_node (table_of (start_of 8 2 (17 ∷ 18 ∷ 65 ∷ 95 ∷ []) 8)) 1 waiter) 3
     (record { id = 95; status = s; left = 0; right = 0; probing = 0; failed = 0; routing = 8; lease = 8; grant = 8 })
 
 -- a JoinRequest of 18 that carries this routing set waits for this slot

@@ -31,7 +31,7 @@ use Rattle.take.specs.Take.{status_after_reply, reply_plan_of, plan_take_probe_r
 use Rattle.table_type.specs.declared.Table.{Table}
 use Rattle.table_type.specs.declared.Stepped.{Stepped}
 use Rattle.start.specs.Start.{slot_ids, slots_to, start_node, start_nodes, start_fits, ids_rise, list_fits}
-use Rattle.table_type.specs.Start.{start_of}
+use Rattle.table_type.specs.Start.{start_of, table_of}
 use Rattle.table.specs.Valid.{nodes_fit, messages_fit, pool_fits, valid_of}
 use Rattle.table.specs.Settle.{carried_out, settle}
 use Rattle.table.specs.Settled.{dead_set}
@@ -39,10 +39,10 @@ use Rattle.step.specs.Step.{asked, act_of, is_sound, step_of}
 
 -- 17, 18, 65 and 95 are ready; or 18 alone
 abbrev ring : Table
-ring = (start_of 8 1 (17 ∷ 18 ∷ 65 ∷ 95 ∷ []) 15).table
+ring = table_of (start_of 8 1 (17 ∷ 18 ∷ 65 ∷ 95 ∷ []) 15)
 
 abbrev alone : Table
-alone = (start_of 8 1 (17 ∷ 18 ∷ 65 ∷ 95 ∷ []) 2).table
+alone = table_of (start_of 8 1 (17 ∷ 18 ∷ 65 ∷ 95 ∷ []) 2)
 
 -- M below 2
 abbrev narrow : Table

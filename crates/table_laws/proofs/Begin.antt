@@ -1,6 +1,6 @@
 -- A start is valid and settled: the table that a done start leaves is valid, with no message waiting, and settled; and a start is done,
 -- answers 8 or answers 10 exactly as Answers says. For all numbers; settled asks that A is a word of 64 marks. Assumes nothing.
-use Rattle.std.specs.Prelude.{Ok}
+use Rattle.std.specs.Prelude.{Result, Ok, Err}
 use mathlib.Core.Path.{◌≡◌, refl, sym, ◌∙◌, ap}
 use mathlib.Core.Logic.{◌⊎◌, inl, inr, ◌↔◌}
 use mathlib.Core.List.{List, []}
@@ -12,14 +12,14 @@ use lib.ListN.{length}
 use Rattle.marks.proofs.Bools.{and_both, false-not, bool_cases, opposed}
 use Rattle.marks.specs.Marks.{all_to}
 use Rattle.marks.proofs.Laws.{all_of}
+use Rattle.rules.specs.declared.Refusal.{Refusal}
 use Rattle.rules.specs.declared.Refusal.TheVariants as no
 use Rattle.rules.specs.Mail.{all_different}
-use Rattle.rules.specs.Numbers.{answer_number}
 use Rattle.rules.specs.Pool.{laid}
-use Rattle.table_type.specs.declared.Started.{Started}
+use Rattle.table_type.specs.declared.Table.{Table}
 use Rattle.table.specs.Settled.{ready_set, is_settled}
 use Rattle.start.specs.Start.{slot_ids, start_fits, list_fits}
-use Rattle.table_type.specs.Start.{not_started, start_of}
+use Rattle.table_type.specs.Start.{start_of, start_number, table_of}
 use Rattle.table_type.proofs.Starts.{StartFits, ListFits, start_fits_lem, list-fits, start-header, start-invalid, start-done}
 use Rattle.table.specs.Valid.{valid_of}
 use Rattle.table_laws.proofs.Sound.{Sound, sound-valid}
@@ -30,9 +30,9 @@ use Rattle.table_laws.proofs.Legal.{Legal, fits-start, list-legal, legal-list}
 
 data Outcome (m l : ℕ) (ids : List ℕ) (a : ℕ) : Type 0 where
   made-it : StartFits m l (length ids) → ListFits m (length ids) (slot_ids ids) a
-      → start_of m l ids a ≡ record { answer = Ok tt; table = made m l ids a } → Outcome m l ids a
-  out_of_range : (StartFits m l (length ids) → ⊥) → start_of m l ids a ≡ not_started no.Header → Outcome m l ids a
-  not-legal : StartFits m l (length ids) → (Legal m ids a → ⊥) → start_of m l ids a ≡ not_started no.Invalid → Outcome m l ids a
+      → start_of m l ids a ≡ Ok (made m l ids a) → Outcome m l ids a
+  out_of_range : (StartFits m l (length ids) → ⊥) → start_of m l ids a ≡ Err no.Header → Outcome m l ids a
+  not-legal : StartFits m l (length ids) → (Legal m ids a → ⊥) → start_of m l ids a ≡ Err no.Invalid → Outcome m l ids a
 
 outcome : (m l : ℕ) (ids : List ℕ) (a : ℕ) → Outcome m l ids a
 outcome m l ids a = go (bool_cases (start_fits m l (length ids))) (bool_cases (list_fits m (length ids) (slot_ids ids) a))
@@ -47,10 +47,10 @@ outcome m l ids a = go (bool_cases (start_fits m l (length ids))) (bool_cases (l
 
 -- 01's number of what a start answers
 abbrev pub answered : ℕ → ℕ → List ℕ → ℕ → ℕ
-answered m l ids a = answer_number (start_of m l ids a).answer
+answered m l ids a = start_number (start_of m l ids a)
 
-numbered : (m l : ℕ) (ids : List ℕ) (a : ℕ) (r : Started) → start_of m l ids a ≡ r → answered m l ids a ≡ answer_number r.answer
-numbered m l ids a r q = ap (λ (x : Started). answer_number x.answer) q
+numbered : (m l : ℕ) (ids : List ℕ) (a : ℕ) (r : Result Table Refusal) → start_of m l ids a ≡ r → answered m l ids a ≡ start_number r
+numbered m l ids a r q = ap start_number q
 
 -- ---- the table of a start that passes the tests
 
@@ -87,23 +87,21 @@ module _ (m l : ℕ) (ids : List ℕ) (a : ℕ) (f : StartFits m l (length ids))
 
 -- ---- the theorems
 
-pub start-valid : (m l : ℕ) (ids : List ℕ) (a : ℕ) → (start_of m l ids a).answer ≡ Ok tt
-    → valid_of (start_of m l ids a).table (laid []) ≡ true
-start-valid m l ids a d = go (outcome m l ids a)
+pub start-valid : (m l : ℕ) (ids : List ℕ) (a : ℕ) (t : Table) → start_of m l ids a ≡ Ok t → valid_of t (laid []) ≡ true
+start-valid m l ids a t d = go (outcome m l ids a)
   where
-    go : Outcome m l ids a → valid_of (start_of m l ids a).table (laid []) ≡ true
-    go (made-it f e q) = rw q (sound-valid (made-sound m l ids a f e))
-    go (out_of_range n q) = absurd (omega (arith, ap answer_number d, numbered m l ids a _ q))
-    go (not-legal f n q) = absurd (omega (arith, ap answer_number d, numbered m l ids a _ q))
+    go : Outcome m l ids a → valid_of t (laid []) ≡ true
+    go (made-it f e q) = rw (ap table_of (sym d ∙ q)) (sound-valid (made-sound m l ids a f e))
+    go (out_of_range n q) = absurd (omega (arith, ap start_number d, numbered m l ids a _ q))
+    go (not-legal f n q) = absurd (omega (arith, ap start_number d, numbered m l ids a _ q))
 
-pub start-settled : (m l : ℕ) (ids : List ℕ) (a : ℕ) → a < 2 ^ 64 → (start_of m l ids a).answer ≡ Ok tt
-    → is_settled (start_of m l ids a).table ≡ true
-start-settled m l ids a h d = go (outcome m l ids a)
+pub start-settled : (m l : ℕ) (ids : List ℕ) (a : ℕ) (t : Table) → a < 2 ^ 64 → start_of m l ids a ≡ Ok t → is_settled t ≡ true
+start-settled m l ids a t h d = go (outcome m l ids a)
   where
-    go : Outcome m l ids a → is_settled (start_of m l ids a).table ≡ true
-    go (made-it f e q) = rw q (all_settled m l ids a f e h)
-    go (out_of_range n q) = absurd (omega (arith, ap answer_number d, numbered m l ids a _ q))
-    go (not-legal f n q) = absurd (omega (arith, ap answer_number d, numbered m l ids a _ q))
+    go : Outcome m l ids a → is_settled t ≡ true
+    go (made-it f e q) = rw (ap table_of (sym d ∙ q)) (all_settled m l ids a f e h)
+    go (out_of_range n q) = absurd (omega (arith, ap start_number d, numbered m l ids a _ q))
+    go (not-legal f n q) = absurd (omega (arith, ap start_number d, numbered m l ids a _ q))
 
 -- done exactly for numbers in range and a legal list; 8 for numbers out of range; 10 for numbers in range and a list that is not legal
 pub record Answers (m l : ℕ) (ids : List ℕ) (a : ℕ) : Type 0 where

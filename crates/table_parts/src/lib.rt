@@ -6,10 +6,10 @@ ghost use Rattle.std.specs.Prelude.{◌≡◌, [], ◌≤◌};
 ghost use Rattle.rules.specs.Pool.{laid};
 ghost use Rattle.table_type.specs.Start.{no_table};
 ghost use Rattle.table.specs.Settle.{refused_of, done_of};
-ghost use Rattle.table_parts.specs.InnerAnswers.{answered_by, answered_of, why_of};
+ghost use Rattle.table_parts.specs.InnerAnswers.{answered_by};
 ghost use Rattle.table_parts.specs.InnerSlots.{slots_with};
 
-use rules::{Plan, Pool, Refusal, Via};
+use rules::{Pool, Refusal, Via};
 use table_type::{Stepped, Table};
 
 // The answer with what it leaves, and where the next hop came from.
@@ -24,38 +24,23 @@ pub fn answered_by(via: Via, t: Table, p: Pool, answer: Result<(), Refusal>) -> 
     }
 }
 
-// The same, where nothing was routed; not by a call of `answered_by`, which takes table and pool by value and may copy them once more.
-pub fn answered(t: Table, p: Pool, answer: Result<(), Refusal>) -> Stepped
-    ensures { result ≡ answered_of t p answer }
+// A refusal changes nothing, and routes nothing. Not by a call of `answered_by`, which takes table and pool by value and may copy them once more.
+pub fn refused(t: Table, p: Pool, why: Refusal) -> Stepped
+    ensures { result ≡ refused_of t p why }
 {
     Stepped {
-        answer,
+        answer: Err(why),
         table: t,
         pool: p,
         via: Via::Unrouted,
     }
 }
 
-pub fn refused(t: Table, p: Pool, why: Refusal) -> Stepped
-    ensures { result ≡ refused_of t p why }
-{
-    answered(t, p, Err(why))
-}
-
+// Done, where nothing was routed.
 pub fn done(t: Table, p: Pool) -> Stepped
     ensures { result ≡ done_of t p }
 {
-    answered(t, p, Ok(()))
-}
-
-// Why it is refused. It is asked where it is; 6 for a plan that goes is not used.
-pub fn why_of(what: Result<Plan, Refusal>) -> Refusal
-    ensures { result ≡ why_of what }
-{
-    match what {
-        Err(why) => why,
-        Ok(_) => Refusal::Full,
-    }
+    answered_by(Via::Unrouted, t, p, Ok(()))
 }
 
 // The table of no node.
@@ -84,6 +69,7 @@ pub fn no_messages() -> Pool
 }
 
 // The slots whose status has 01's number so. It takes any number, also one of no status: a `Status` would ask more of callers.
+// Stays: that n is at most 64 is a clause, here and in what calls it; a `Table` with an invariant would ask more of all who are to judge any table.
 pub fn slots_with(t: Table, number: u32) -> u64
     requires { t.n ≤ 64 }
     ensures { result ≡ slots_with t number }

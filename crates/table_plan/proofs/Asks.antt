@@ -1,7 +1,7 @@
 -- What `asked` says, by the way in which an action asks: of a slot, with or without 3, of a place, or of probes that have timed out. The message of a
 -- Lookup or a Join is new: where it is not repeated, no equal waits. Assumes nothing.
 use Rattle.rules.specs.Shapes.{Planned}
-use Rattle.std.specs.Prelude.{Ok, Err}
+use Rattle.std.specs.Prelude.{Result, Ok, Err}
 use mathlib.Core.Path.{◌≡◌, refl, sym, ◌∙◌, ap}
 use mathlib.Core.Bool.{Bool, true, false, cond, not, ◌&&◌}
 use mathlib.Core.List.{List}
@@ -17,6 +17,7 @@ use Rattle.rules.specs.declared.Message.{Message}
 use Rattle.rules.specs.declared.Node.{Node}
 use Rattle.rules.specs.declared.Plan.{Plan}
 use Rattle.rules.specs.declared.Pool.{Pool}
+use Rattle.rules.specs.declared.Refusal.{Refusal}
 use Rattle.rules.specs.declared.Refusal.TheVariants as no
 use Rattle.rules.specs.declared.Status.TheVariants as status
 use Rattle.rules.specs.Mail.{waits, join_waits, removed_at}
@@ -36,7 +37,8 @@ use Rattle.table_type.specs.Table.{node_at}
 use Rattle.step.specs.Step.{requests, acts, takes, asked, planned_of, probes-go}
 use Rattle.table_laws.proofs.By.{go_same, never-go}
 use Rattle.table_laws.proofs.Comes.{go-comes, by-probe-time-out}
-use Rattle.table_plan.specs.InnerAsked.{Asks, requests_of, acts_of, times_of, takes_of}
+use Rattle.table_plan.specs.declared.Asking.{Asking}
+use Rattle.table_plan.specs.InnerAsked.{Asks, Told, in_range, requests_of, acts_of, times_of, takes_of}
 
 pub nothing-gone : (p : Pool) → p.count ≤ 256 → removed_at (waiting p) 256 ≡ waiting p
 nothing-gone p h = removed-none (waiting p) 256 (omega (arith, waiting-short p))
@@ -88,14 +90,29 @@ none-some e = cc
 same-some : {j k : ℕ} → ◌≡◌ {A = Option ℕ} (Some j) (Some k) → j ≡ k
 same-some e = cc
 
+same-ok : {x y : Asking} → ◌≡◌ {A = Result Asking Refusal} (Ok x) (Ok y) → x ≡ y
+same-ok e = cc
+
+same-err : {v w : Refusal} → ◌≡◌ {A = Result Asking Refusal} (Err v) (Err w) → v ≡ w
+same-err e = cc
+
+ok-err : {x : Asking} {w : Refusal} → ◌≡◌ {A = Result Asking Refusal} (Ok x) (Err w) → ⊥
+ok-err e = cc
+
 module _ (m n count : ℕ) (a : Action) where
+  -- what is asked is told where it is in range
+  told : (range : Bool) (x : Asking) → ((t : Table) (p : Pool) → t.m ≡ m → t.n ≡ n → p.count ≡ count → range ≡ (asked t p a).range)
+      → (range ≡ true → Told n a x) → Asks m n count a (in_range range x)
+  told true x k f = record { range = k; told = λ y e. rw (← same-ok e) (f refl); refused = λ why e. absurd (ok-err e) }
+  told false x k f = record { range = k; told = λ y e. absurd (ok-err (sym e)); refused = λ why e. sym (same-err e) }
+
   pub requests-asks : (i : ℕ) (more : ℕ → ℕ → Bool) (fresh : Bool) (there : Pool → Bool) (plan : Table → Bool → Planned)
       → ((t : Table) (p : Pool) → asked t p a ≡ requests t i (more t.m t.n) (there p) (plan t))
       → (fresh ≡ true → (t : Table) (p : Pool) (x : Plan) → p.count ≤ 256 → planned_of (asked t p a) ≡ Ok x → first_new x ≡ news_of x (left_of p 256))
       → Asks m n count a (requests_of n i (more m n) fresh)
   requests-asks i more fresh there plan is new =
-      record {
-        range = λ t p e f g. rw (is t p, e, f);
+      told _ _ (λ t p e f g. rw (is t p, e, f))
+      (λ _. record {
         gone = λ t p. rw (is t p);
         slot = λ t p e. rw (is t p);
         unasked = λ e. absurd (clash e);
@@ -104,14 +121,14 @@ module _ (m n count : ℕ) (a : Action) where
         times = λ j e. absurd (none-some e);
         partner-low = λ j e. absurd (none-some e);
         quiet = λ j e. absurd (none-some e);
-      }
+      })
 
   pub acts-asks : (i : ℕ) (more : ℕ → ℕ → Bool) (what : Table → Planned)
       → ((t : Table) (p : Pool) → asked t p a ≡ acts t i (more t.m t.n) (what t))
       → Asks m n count a (acts_of n i (more m n))
   acts-asks i more what is =
-      record {
-        range = λ t p e f g. rw (is t p, e, f);
+      told _ _ (λ t p e f g. rw (is t p, e, f))
+      (λ _. record {
         gone = λ t p. rw (is t p);
         slot = λ t p e. rw (is t p);
         unasked = λ e t p. rw (is t p);
@@ -120,13 +137,13 @@ module _ (m n count : ℕ) (a : Action) where
         times = λ j e. absurd (none-some e);
         partner-low = λ j e. absurd (none-some e);
         quiet = λ j e. absurd (none-some e);
-      }
+      })
 
   pub takes-asks : (place : ℕ) (plan : Table → Message → Planned) → ((t : Table) (p : Pool) → asked t p a ≡ takes p place (plan t))
       → Asks m n count a (takes_of count place)
   takes-asks place plan is =
-      record {
-        range = λ t p e f g. rw (is t p, g);
+      told _ _ (λ t p e f g. rw (is t p, g))
+      (λ _. record {
         gone = λ t p. rw (is t p);
         slot = λ t p e. absurd (clash (rw (is t p) at e));
         unasked = λ e t p. rw (is t p);
@@ -135,18 +152,18 @@ module _ (m n count : ℕ) (a : Action) where
         times = λ j e. absurd (none-some e);
         partner-low = λ j e. absurd (none-some e);
         quiet = λ j e. absurd (none-some e);
-      }
+      })
 
 pub times-asks : (m n count i j : ℕ) → Asks m n count (ProbeTimeOut i j) (times_of n i j)
 times-asks m n count i j =
-    record {
-      range = λ t p e f g. rw f;
+    told m n count (ProbeTimeOut i j) _ _ (λ t p e f g. rw f)
+    (λ l. record {
       gone = λ t p. refl;
       slot = λ t p e. refl;
       unasked = λ e t p. refl;
       fresh = λ e. absurd (clash (sym e));
       stays = λ e. absurd (none-some (sym e));
       times = λ k e t p. ap (probes-go i) (same-some e);
-      partner-low = λ k e l. rw (← same-some e) (ltb-true j n (and_left (ltb j n) _ l));
+      partner-low = λ k e. rw (← same-some e) (ltb-true j n (and_left (ltb j n) _ l));
       quiet = λ k e t p x. time-out-quiet t i j x;
-    }
+    })

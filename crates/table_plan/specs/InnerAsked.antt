@@ -1,9 +1,11 @@
 -- What the functions ask, and what `asked` says. Definitions only. Assumes nothing.
-use Rattle.std.specs.Prelude.{◌≡◌, Bool, true, false, cond, ◌&&◌, List, Some, None, ℕ, ◌<◌, ◌≤◌, ltb, Ok}
+use Rattle.std.specs.Prelude.{◌≡◌, Bool, true, false, cond, ◌&&◌, List, Some, None, ℕ, ◌<◌, ◌≤◌, ltb, Result, Ok, Err, is_ok}
 use Rattle.rules.specs.declared.Action.{Action}
 use Rattle.rules.specs.declared.Message.{Message}
 use Rattle.rules.specs.declared.Plan.{Plan}
 use Rattle.rules.specs.declared.Pool.{Pool}
+use Rattle.rules.specs.declared.Refusal.{Refusal}
+use Rattle.rules.specs.declared.Refusal.TheVariants as no
 use Rattle.rules.specs.Plans.{mailed}
 use Rattle.rules.specs.Pool.{message_at}
 use Rattle.pool_laws.specs.InnerSending.{left_of, news_of, first_new}
@@ -42,25 +44,26 @@ are_probes (probes-go i j) = true
 abbrev pub slot_with : Asking → Message → ℕ
 slot_with r m = cond (ltb r.gone 256) m.dest r.slot
 
+-- what is asked, where it is in range; else 1: slot, place or key out of range
+abbrev pub in_range : Bool → Asking → Result Asking Refusal
+in_range range r = cond range (Ok r) (Err no.OutOfRange)
+
 -- the four ways to ask
-abbrev pub requests_of : ℕ → ℕ → Bool → Bool → Asking
-requests_of n i more fresh =
-    record { range = more && ltb i n; gone = 256; slot = i; request = true; fresh = fresh; timed = None }
+abbrev pub requests_of : ℕ → ℕ → Bool → Bool → Result Asking Refusal
+requests_of n i more fresh = in_range (more && ltb i n) (record { gone = 256; slot = i; request = true; fresh = fresh; timed = None })
 
-abbrev pub acts_of : ℕ → ℕ → Bool → Asking
-acts_of n i more = record { range = more && ltb i n; gone = 256; slot = i; request = false; fresh = false; timed = None }
+abbrev pub acts_of : ℕ → ℕ → Bool → Result Asking Refusal
+acts_of n i more = in_range (more && ltb i n) (record { gone = 256; slot = i; request = false; fresh = false; timed = None })
 
-abbrev pub times_of : ℕ → ℕ → ℕ → Asking
-times_of n i j = record { range = ltb j n && ltb i n; gone = 256; slot = i; request = false; fresh = false; timed = Some j }
+abbrev pub times_of : ℕ → ℕ → ℕ → Result Asking Refusal
+times_of n i j = in_range (ltb j n && ltb i n) (record { gone = 256; slot = i; request = false; fresh = false; timed = Some j })
 
-abbrev pub takes_of : ℕ → ℕ → Asking
-takes_of count place =
-    record { range = ltb place count; gone = place; slot = 64; request = false; fresh = false; timed = None }
+abbrev pub takes_of : ℕ → ℕ → Result Asking Refusal
+takes_of count place = in_range (ltb place count) (record { gone = place; slot = 64; request = false; fresh = false; timed = None })
 
--- what is told of a table with these numbers and so many messages. Where 3 is not asked, nothing is repeated; where what is sent is said to be new, and a
--- plan is made, the first message of the plan is; where probes have timed out, those from the slot to the partner go, and nothing is sent
-pub record Asks (m n count : ℕ) (a : Action) (r : Asking) : Type 0 where
-  pub range : (t : Table) (p : Pool) → t.m ≡ m → t.n ≡ n → p.count ≡ count → r.range ≡ (asked t p a).range
+-- what is told of an action in range. Where 3 is not asked, nothing is repeated; where what is sent is said to be new, and a plan is made, the first message
+-- of the plan is; where probes have timed out, those from the slot to the partner go, and nothing is sent
+pub record Told (n : ℕ) (a : Action) (r : Asking) : Type 0 where
   pub gone : (t : Table) (p : Pool) → r.gone ≡ gone_at (asked t p a).gone
   pub slot : (t : Table) (p : Pool) → is_one (asked t p a).gone ≡ false → r.slot ≡ (asked t p a).slot
   pub unasked : r.request ≡ false → (t : Table) (p : Pool) → false ≡ (asked t p a).repeated
@@ -68,5 +71,11 @@ pub record Asks (m n count : ℕ) (a : Action) (r : Asking) : Type 0 where
       → first_new x ≡ news_of x (left_of p r.gone)
   pub stays : r.timed ≡ None → (t : Table) (p : Pool) → are_probes (asked t p a).gone ≡ false
   pub times : (j : ℕ) → r.timed ≡ Some j → (t : Table) (p : Pool) → (asked t p a).gone ≡ probes-go r.slot j
-  pub partner-low : (j : ℕ) → r.timed ≡ Some j → r.range ≡ true → j < n
+  pub partner-low : (j : ℕ) → r.timed ≡ Some j → j < n
   pub quiet : (j : ℕ) → r.timed ≡ Some j → (t : Table) (p : Pool) (x : Plan) → planned_of (asked t p a) ≡ Ok x → (ys : List Message) → mailed x ys ≡ ys
+
+-- what is told of a table with these numbers and so many messages: what is asked, exactly where the action is in range
+pub record Asks (m n count : ℕ) (a : Action) (r : Result Asking Refusal) : Type 0 where
+  pub range : (t : Table) (p : Pool) → t.m ≡ m → t.n ≡ n → p.count ≡ count → is_ok r ≡ (asked t p a).range
+  pub told : (x : Asking) → r ≡ Ok x → Told n a x
+  pub refused : (why : Refusal) → r ≡ Err why → why ≡ no.OutOfRange

@@ -4,24 +4,24 @@
 
 ghost use Rattle.std.specs.Prelude.{◌≡◌, true, ◌<◌, ◌≤◌};
 ghost use Rattle.rules.specs.declared.Pool.{Pool};
-ghost use Rattle.rules.specs.InnerAsks.{Listed};
 ghost use Rattle.rules.specs.Fits.{message_fits};
+ghost use Rattle.rules.specs.Pool.{waiting as waiting_of};
 ghost use Rattle.take.specs.Take.{plan_take};
 ghost use Rattle.table_type.specs.declared.Table.{Table};
-ghost use Rattle.table_type.specs.Table.{ids_of, ring_of};
-ghost use Rattle.step.specs.Step.{taken_of, delivered_of, forwarded_of, asked as asked_of};
+ghost use Rattle.step.specs.Step.{asked as asked_of};
 ghost use Rattle.table.specs.Settled.{some_up};
-ghost use Rattle.table_plan.specs.InnerAsked.{Called, Read, Asks, requests_of, acts_of, times_of, takes_of, slot_with};
+ghost use Rattle.table_plan.specs.InnerAsked.{Called, Read, Asks, in_range, requests_of, acts_of, times_of, takes_of, slot_with};
 
-use rules::{Action, Message, Node, Plan, Pool, Refusal, Roster};
+use rules::{Action, Message, Node, Plan, Refusal, Roster};
+use table_settled::dead_set;
 use table_type::{Table, node_at, roster};
 
-// What an action asks, but for its plan: its slots, place and key are in range; the place whose message goes, past every count where none
-// does; the slot whose node acts, where none goes; whether 3 is asked; whether what is sent is new unless the same request waits; and of whom probes have
-// timed out, if they have. `range` stays a flag: what the other fields say holds out of range too, and the laws of Asks speak of them there.
+// What an action in range asks, but for its plan: the place whose message goes, past every count where none does; the slot whose node acts, where none goes;
+// whether 3 is asked; whether what is sent is new unless the same request waits; and of whom probes have timed out, if they have.
+// Stays: `gone` and `slot` are numbers also where none is asked. What is left, and how many, is defined of a place at or past the count too (`removed_at`,
+// `left_count`): the step would make such a place of an Option again at each of its five uses. `request` and `fresh` have no value beside them.
 #[derive(Clone, Copy)]
 pub struct Asking {
-    pub range: bool,
     pub gone: usize,
     pub slot: usize,
     pub request: bool,
@@ -29,7 +29,8 @@ pub struct Asking {
     pub timed: Option<usize>,
 }
 
-// What message m asks of its destination i, by its kind, which is 01's number.
+// What message m asks of its destination i, by its kind.
+// Stays: a kind is 01's number, since a table that is not valid has messages of any (`rules::Message`).
 fn plan_take(r: &Roster, dead: u64, i: usize, v: Node, m: Message) -> Result<Plan, Refusal>
     requires { (i < r.now.ring.n) × (message_fits r.now.ring m ≡ true) }
     ensures { result ≡ plan_take m.kind r.now.ring r.now.ids dead i v m }
@@ -45,36 +46,6 @@ fn plan_take(r: &Roster, dead: u64, i: usize, v: Node, m: Message) -> Result<Pla
     }
 }
 
-fn plan_of_take(t: Table, m: Message) -> Result<Plan, Refusal>
-    requires { Listed (ring_of t) (ids_of t) × (m.dest < t.n) × (message_fits (ring_of t) m ≡ true) }
-    ensures { result ≡ taken_of t m }
-{
-    let r = roster(t);
-    let dead = table_settled::dead_set(t);
-    let i = m.dest as usize;
-    plan_take(&r, dead, i, node_at(t, i), m)
-}
-
-fn plan_of_deliver(t: Table, m: Message) -> Result<Plan, Refusal>
-    requires { Listed (ring_of t) (ids_of t) × (m.dest < t.n) × (message_fits (ring_of t) m ≡ true) }
-    ensures { result ≡ delivered_of t m }
-{
-    let r = roster(t);
-    let i = m.dest as usize;
-    plan_route::plan_deliver(m.kind, &r, i, node_at(t, i), m.word)
-}
-
-fn plan_of_forward(t: Table, m: Message) -> Result<Plan, Refusal>
-    requires { Listed (ring_of t) (ids_of t) × (m.dest < t.n) × (message_fits (ring_of t) m ≡ true) × (m.hops ≤ 64) }
-    ensures { result ≡ forwarded_of t m }
-{
-    let r = roster(t);
-    let dead = table_settled::dead_set(t);
-    let i = m.dest as usize;
-    let v = node_at(t, i);
-    plan_route::plan_forward(m.kind, &r, dead, i, v, m.word, m.hops)
-}
-
 // Is some node ok or ready?
 fn some_up(t: Table) -> bool
     requires { t.n ≤ 64 }
@@ -85,7 +56,6 @@ fn some_up(t: Table) -> bool
 
 // No message goes, no node is named, nothing is asked or sent, and no probes have timed out.
 const NOTHING: Asking = Asking {
-    range: false,
     gone: 256,
     slot: 64,
     request: false,
@@ -93,49 +63,61 @@ const NOTHING: Asking = Asking {
     timed: None,
 };
 
+// What is asked, where it is in range.
+fn in_range(range: bool, asks: Asking) -> Result<Asking, Refusal>
+    ensures { result ≡ in_range range asks }
+{
+    if range {
+        Ok(asks)
+    } else {
+        Err(Refusal::OutOfRange)
+    }
+}
+
 // The four ways to ask: of the node of slot i, where 3 is asked; of the same, where it is not; of the same, whose probes of j have timed out; of the
 // destination of a waiting message.
-fn requests(n: usize, i: usize, more: bool, fresh: bool) -> Asking
+fn requests(n: usize, i: usize, more: bool, fresh: bool) -> Result<Asking, Refusal>
     ensures { result ≡ requests_of n i more fresh }
 {
-    Asking {
+    let asks = Asking {
+        slot: i,
         request: true,
         fresh,
-        ..acts(n, i, more)
-    }
+        ..NOTHING
+    };
+    in_range(more & (i < n), asks)
 }
 
-fn acts(n: usize, i: usize, more: bool) -> Asking
+fn acts(n: usize, i: usize, more: bool) -> Result<Asking, Refusal>
     ensures { result ≡ acts_of n i more }
 {
-    Asking {
-        range: more & (i < n),
-        slot: i,
-        ..NOTHING
-    }
+    let asks = Asking { slot: i, ..NOTHING };
+    in_range(more & (i < n), asks)
 }
 
-fn times(n: usize, i: usize, j: usize) -> Asking
+fn times(n: usize, i: usize, j: usize) -> Result<Asking, Refusal>
     ensures { result ≡ times_of n i j }
 {
-    Asking {
+    let asks = Asking {
+        slot: i,
         timed: Some(j),
-        ..acts(n, i, j < n)
-    }
+        ..NOTHING
+    };
+    in_range((j < n) & (i < n), asks)
 }
 
-fn takes(count: usize, place: usize) -> Asking
+fn takes(count: usize, place: usize) -> Result<Asking, Refusal>
     ensures { result ≡ takes_of count place }
 {
-    Asking {
-        range: place < count,
+    let asks = Asking {
         gone: place,
         ..NOTHING
-    }
+    };
+    in_range(place < count, asks)
 }
 
-// What the action asks of a table with these numbers and so many messages.
-pub fn asked(m: u32, n: usize, count: usize, a: Action) -> Asking
+// What the action asks of a table with these numbers and so many messages: 1 where a slot, place or key is out of range.
+pub fn asked(m: u32, n: usize, count: usize, a: Action) -> Result<Asking, Refusal>
     requires { m ≤ 32 }
     ensures { Asks m n count a result }
 {
@@ -171,18 +153,18 @@ pub fn slot_of(x: Asking, m: Message) -> usize
 }
 
 // Does the same request already wait?
-pub fn repeated(p: Pool, a: Action) -> bool
-    requires { (t : Table) × Called t p a }
-    ensures { (t : Table) → result ≡ (asked_of t p a).repeated }
+pub fn repeated(waiting: &[Message], a: Action) -> bool
+    requires { (t : Table) × (p : Pool) × Called t p a × (waiting.now ≡ waiting_of p) }
+    ensures { (t : Table) → (p : Pool) → waiting.now ≡ waiting_of p → result ≡ (asked_of t p a).repeated }
 {
     match a {
         Action::Lookup(i, k) => pool::waits(
-            p,
-            256,
+            waiting,
+            waiting.len(),
             parts::to_slot(plan_route::lookup_of(k as u32), i as u32),
         ),
-        Action::Join(i, _) => pool::join_waits(p, i as u32),
-        Action::ResignNode(i, _) => pool::reply_waits(p, i as u32),
+        Action::Join(i, _) => pool::join_waits(waiting, i as u32),
+        Action::ResignNode(i, _) => pool::reply_waits(waiting, i as u32),
         _ => false,
     }
 }
@@ -192,6 +174,7 @@ pub fn planned(t: Table, there: bool, m: Message, a: Action) -> Result<Plan, Ref
     requires { (p : Pool) × Called t p a × Read t p a m }
     ensures { (p : Pool) → Read t p a m → result ≡ (asked_of t p a).plan there }
 {
+    let to = m.dest as usize;
     match a {
         Action::Lookup(i, k) => plan_route::plan_lookup(there, i, k as u32, node_at(t, i)),
         Action::Join(i, seed) => plan_route::plan_join(
@@ -214,9 +197,23 @@ pub fn planned(t: Table, there: bool, m: Message, a: Action) -> Result<Plan, Ref
             j,
             node_at(t, j),
         ),
-        Action::Take(_) => plan_of_take(t, m),
-        Action::Deliver(_) => plan_of_deliver(t, m),
-        Action::Forward(_) => plan_of_forward(t, m),
+        Action::Take(_) => plan_take(&roster(t), dead_set(t), to, node_at(t, to), m),
+        Action::Deliver(_) => plan_route::plan_deliver(
+            m.kind,
+            &roster(t),
+            to,
+            node_at(t, to),
+            m.word,
+        ),
+        Action::Forward(_) => plan_route::plan_forward(
+            m.kind,
+            &roster(t),
+            dead_set(t),
+            to,
+            node_at(t, to),
+            m.word,
+            m.hops,
+        ),
         Action::NodeLeft(i) => plan_leave::plan_node_left(node_at(t, i)),
         Action::SuspectFaulty(i, j) => plan_leave::plan_suspect_faulty(i, node_at(t, i), j),
         Action::ProbeTimeOut(i, j) => plan_leave::plan_probe_time_out(i, node_at(t, i), j),

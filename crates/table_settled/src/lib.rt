@@ -38,6 +38,7 @@ fn settled_at(r: &Roster, ready: u64, i: usize, v: Node) -> bool
 }
 
 // Is the table settled? It is asked of valid tables.
+// Stays: that its ids rise is a clause, since a caller has the table alone; the roster, whose type says so, is made here.
 pub fn is_settled_table(t: Table) -> bool
     requires { Listed (ring_of t) (ids_of t) }
     ensures { result ≡ is_settled t }

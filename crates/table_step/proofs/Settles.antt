@@ -2,7 +2,7 @@
 -- carried out on the messages that are left. Assumes nothing.
 use Rattle.rules.specs.Shapes.{Planned}
 use Rattle.marks.specs.Marks.{Found}
-use Rattle.std.specs.Prelude.{Some, None, Ok, Err}
+use Rattle.std.specs.Prelude.{Some, None, Result, Ok, Err, is_ok}
 use mathlib.Core.Path.{◌≡◌, refl, sym, ◌∙◌, ap}
 use mathlib.Core.Bool.{Bool, true, false, not, ◌&&◌}
 use mathlib.Core.List.{List}
@@ -37,9 +37,8 @@ use Rattle.table_laws.proofs.Comes.{go-comes}
 use Rattle.table_laws.proofs.Obeys.{obeys}
 use Rattle.table_laws.proofs.Proved.{planned-fine}
 use Rattle.table_laws.proofs.Sound.{is-valid}
-use Rattle.table_parts.specs.InnerAnswers.{why_of}
 use Rattle.table_plan.specs.declared.Asking.{Asking}
-use Rattle.table_plan.specs.InnerAsked.{Called, Read, Asks, gone_at, is_one, are_probes, slot_with}
+use Rattle.table_plan.specs.InnerAsked.{Called, Read, Asks, Told, gone_at, is_one, are_probes, slot_with}
 use Rattle.table_plan.proofs.Asks.{nothing-gone}
 use Rattle.table_plan.proofs.Called.{is-sound, counted, slot-low}
 
@@ -52,13 +51,15 @@ module _ (t : Table) (p : Pool) (len : ℕ) (a : Action) where
   unfolding step_of
   step-invalid e = rw e
 
-  module _ (s : is_sound t p len ≡ true) (r : Asking) (k : Asks t.m t.n p.count a r) where
-    pub step_range : r.range ≡ false → refused_of t p no.OutOfRange ≡ step_of t p len a
+  module _ (s : is_sound t p len ≡ true) (x : Result Asking Refusal) (k : Asks t.m t.n p.count a x) where
+    pub step_range : (why : Refusal) → x ≡ Err why → refused_of t p why ≡ step_of t p len a
     unfolding step_of
-    step_range e = rw (s, sym (k.range t p refl refl refl) ∙ e)
+    step_range why e =
+        let out : (asked t p a).range ≡ false = sym (k.range t p refl refl refl) ∙ ap is_ok e in
+        rw (s, out) (ap (refused_of t p) (k.refused why e))
 
-    pub calls : r.range ≡ true → Called t p a
-    calls e = record { valid = is-valid t p len s; range = sym (k.range t p refl refl refl) ∙ e }
+    pub calls : (r : Asking) → x ≡ Ok r → Called t p a
+    calls r e = record { valid = is-valid t p len s; range = sym (k.range t p refl refl refl) ∙ ap is_ok e }
 
 -- ---- an action in range on a valid table
 
@@ -74,7 +75,7 @@ module _ {t : Table} {p : Pool} {a : Action} (c : Called t p a) where
           let there = (obeys _ _ (fine.mail.one h q)).dest-in in
           lt-ltb h 64 (omega (arith, there, (is-sound c).numbers.n-high))
 
-  module _ (r : Asking) (k : Asks t.m t.n p.count a r) where
+  module _ (r : Asking) (k : Told t.n a r) where
     abbrev pub read_of : Message
     read_of = message_at p (r.gone % 256)
 
@@ -125,7 +126,7 @@ module _ {t : Table} {p : Pool} {a : Action} (c : Called t p a) where
 
       pub timed-partner : j < 64
       timed-partner =
-          omega (arith, k.partner-low j b (k.range t p refl refl refl ∙ c.range), (is-sound c).numbers.n-high)
+          omega (arith, k.partner-low j b, (is-sound c).numbers.n-high)
 
     module _ (len : ℕ) (s : is_sound t p len ≡ true) where
       steps : settle t p (remaining p (asked t p a).gone) (asked t p a).slot (planned_of (asked t p a)) ≡ step_of t p len a
@@ -136,12 +137,9 @@ module _ {t : Table} {p : Pool} {a : Action} (c : Called t p a) where
       settles b = rw (left_is b, slot_is) steps
 
       module _ (what : Planned) (w : what ≡ planned_of (asked t p a)) where
-        pub refuses : (why : Refusal) → what ≡ Err why → refused_of t p (why_of what) ≡ step_of t p len a
+        pub refuses : (why : Refusal) → what ≡ Err why → refused_of t p why ≡ step_of t p len a
         unfolding settle
-        refuses why e =
-            ap (λ (x : Planned). refused_of t p (why_of x)) e
-            ∙ ap (settle t p (remaining p (asked t p a).gone) (asked t p a).slot) (sym e ∙ w)
-            ∙ steps
+        refuses why e = ap (settle t p (remaining p (asked t p a).gone) (asked t p a).slot) (sym e ∙ w) ∙ steps
 
         pub carries : r.timed ≡ None → (x : Plan) (i : ℕ) → what ≡ Ok x → i ≡ slot_with r read_of
             → carried_out t p (left_of p r.gone) i x ≡ step_of t p len a

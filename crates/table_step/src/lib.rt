@@ -13,6 +13,7 @@ use table_type::{Stepped, Table};
 // and put back (else the compiler hands it one more copy of what came in); for a request, to see whether it is repeated, after which the message of a Lookup or a
 // Join is known to be new; for a plan that sends; and where probes have timed out, which go while nothing is sent. Where no message is
 // taken place 0 is read, and nothing depends on it.
+// Stays: `len` goes beside the pool. It is the length of the list that a caller lends, of which 10 speaks (`step_of`); a pool by value has 256 places.
 pub fn step(t: Table, p: Pool, len: usize, a: Action) -> Stepped
     ensures { result ≡ step_of t p len a }
 {
@@ -24,52 +25,46 @@ pub fn step(t: Table, p: Pool, len: usize, a: Action) -> Stepped
     u.n = t.n;
     q.count = p.count;
     if !((len == 256) & valid) {
-        return table_parts::answered(u, q, Err(Refusal::Invalid));
+        return table_parts::refused(u, q, Refusal::Invalid);
     }
-    let asks = table_plan::asked(u.m, u.n, q.count, a);
-    if !asks.range {
-        return table_parts::answered(u, q, Err(Refusal::OutOfRange));
-    }
+    let asks = match table_plan::asked(u.m, u.n, q.count, a) {
+        Ok(asks) => asks,
+        Err(why) => return table_parts::refused(u, q, why),
+    };
     let gone = asks.gone;
     let m = q.places[gone % 256];
-    let request = asks.request;
-    let mut there = false;
-    if request {
-        there = table_plan::repeated(q, a);
-    }
-    let what = table_plan::planned(u, there, m, a);
-    let Ok(plan) = what else {
-        return table_parts::answered(u, q, Err(table_parts::why_of(what)));
+    let there = asks.request && table_plan::repeated(&q.places[..q.count], a);
+    let plan = match table_plan::planned(u, there, m, a) {
+        Ok(plan) => plan,
+        Err(why) => return table_parts::refused(u, q, why),
     };
     if let Some(j) = asks.timed {
         let k = asks.slot;
-        let w = plan.node;
-        u.nodes[k] = w;
-        let by = plan.via;
-        let left = pool::without_probes(q, k as u32, j as u32);
-        return table_parts::answered_by(by, u, left, Ok(()));
+        u.nodes[k] = plan.node;
+        let left = pool::without_probes(&q.places[..q.count], k as u32, j as u32);
+        return table_parts::answered_by(plan.via, u, left, Ok(()));
     }
-    let mut new = pool::first_new(plan);
-    if pool::sends(plan) & !asks.fresh {
-        new = pool::news(q, gone, plan);
-    }
+    let new = if pool::sends(plan) & !asks.fresh {
+        pool::news(&q.places[..q.count], gone, plan)
+    } else {
+        pool::first_new(plan)
+    };
     if !pool::room(q.count, gone, new) {
-        return table_parts::answered(u, q, Err(Refusal::Full));
+        return table_parts::refused(u, q, Refusal::Full);
     }
     let i = table_plan::slot_of(asks, m);
-    let v = plan.node;
-    u.nodes[i] = v;
+    u.nodes[i] = plan.node;
     let none = parts::blank_message();
-    let one = new.one;
     let mut rest = new.all;
     let mut n = pool::left_count(q.count, gone);
     for at in gone..n {
         q.places[at] = q.places[at + 1];
     }
-    if let Some(s) = one {
+    if let Some(s) = new.one {
         q.places[n] = parts::to_slot(plan.first, s as u32);
         n += 1;
     }
+    // Stays: it visits the slots of a set alone, in rising order; a `for` would test each of the 64.
     while let Some(s) = marks::lowest(rest) {
         q.places[n] = parts::to_slot(plan.each, s as u32);
         n += 1;
@@ -79,6 +74,5 @@ pub fn step(t: Table, p: Pool, len: usize, a: Action) -> Stepped
     for at in n..256 {
         q.places[at] = none;
     }
-    let via = plan.via;
-    table_parts::answered_by(via, u, q, Ok(()))
+    table_parts::answered_by(plan.via, u, q, Ok(()))
 }

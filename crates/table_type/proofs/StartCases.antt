@@ -11,18 +11,17 @@ use Rattle.rules.specs.declared.Node.{Node}
 use Rattle.rules.specs.Closest.{closest}
 use Rattle.rules.specs.Leaf.{leaf_with}
 use Rattle.rules.specs.Nodes.{no_node}
-use Rattle.rules.specs.Numbers.{answer_number}
 use Rattle.table_type.specs.declared.Table.{Table}
 use Rattle.table_type.specs.Table.{node_at, with_node, ids_of, ring_of}
 use Rattle.start.specs.Start.{slot_ids, slots_to, start_node, start_nodes, start_fits, ids_rise, list_fits}
-use Rattle.table_type.specs.Start.{start_of}
+use Rattle.table_type.specs.Start.{start_of, start_number, table_of}
 
 abbrev worked : List ℕ
 worked = 17 ∷ 18 ∷ 65 ∷ 95 ∷ []
 
 -- the number of a start's answer
 abbrev answered : ℕ → ℕ → List ℕ → ℕ → ℕ
-answered m l ids a = answer_number (start_of m l ids a).answer
+answered m l ids a = start_number (start_of m l ids a)
 
 -- a node: id, status, left, right, probing, failed, routing set, lease, grant
 abbrev node : ℕ → Status → ℕ → ℕ → ℕ → ℕ → ℕ → ℕ → ℕ → Node
@@ -45,11 +44,11 @@ numbers_of t = t.m ∷ t.l ∷ t.n ∷ []
 
 -- M = 8, L = 1, all four started ready
 abbrev four : Table
-four = (start_of 8 1 worked 15).table
+four = table_of (start_of 8 1 worked 15)
 
 -- M = 7, L = 2, with 18 and 95 ready
 abbrev two : Table
-two = (start_of 7 2 worked 10).table
+two = table_of (start_of 7 2 worked 10)
 
 -- status ready in A, else dead; members of A have leaf set A added, routing set, lease and grant A; others routing set {self}, the rest empty
 pub record Started : Type 0 where

@@ -1,6 +1,6 @@
 -- Laws of the start: what stands in its slots, what its two tests tell, that ids that pass them are listed, and its three answers.
 -- Assumes nothing.
-use Rattle.std.specs.Prelude.{Ok}
+use Rattle.std.specs.Prelude.{Ok, Err}
 use mathlib.Core.Path.{◌≡◌, refl, ◌∙◌}
 use mathlib.Core.Logic.{◌⊎◌, inl, inr, ⊎_elim}
 use mathlib.Core.List.{List, [], ◌∷◌, ◌++◌}
@@ -23,7 +23,7 @@ use Rattle.rules.specs.Nodes.{no_node}
 use Rattle.rules.specs.Pick.{id_at}
 use Rattle.rules.specs.declared.Refusal.TheVariants as no
 use Rattle.start.specs.Start.{slot_ids, slots_to, start_node, start_nodes, start_fits, ids_rise, list_fits, id_rises}
-use Rattle.table_type.specs.Start.{start_table, not_started, start_of}
+use Rattle.table_type.specs.Start.{start_table, start_of}
 
 -- ---- the ids in their slots
 
@@ -152,16 +152,16 @@ start-listed m l ids f e =
 -- ---- the three answers
 
 module _ (m l : ℕ) (ids : List ℕ) (a : ℕ) where
-  pub start-header : start_fits m l (length ids) ≡ false → start_of m l ids a ≡ not_started no.Header
+  pub start-header : start_fits m l (length ids) ≡ false → start_of m l ids a ≡ Err no.Header
   unfolding start_of
   start-header p = rw p
 
   pub start-invalid : start_fits m l (length ids) ≡ true → list_fits m (length ids) (slot_ids ids) a ≡ false
-      → start_of m l ids a ≡ not_started no.Invalid
+      → start_of m l ids a ≡ Err no.Invalid
   unfolding start_of
   start-invalid p q = rw (p, q)
 
   pub start-done : start_fits m l (length ids) ≡ true → list_fits m (length ids) (slot_ids ids) a ≡ true
-      → start_of m l ids a ≡ record { answer = Ok tt; table = start_table m l (length ids) (slot_ids ids) a }
+      → start_of m l ids a ≡ Ok (start_table m l (length ids) (slot_ids ids) a)
   unfolding start_of
   start-done p q = rw (p, q)

@@ -5,14 +5,15 @@ ghost use Rattle.std.specs.Prelude.{◌≡◌, ◌^◌, ◌<◌, ◌≤◌, ltb,
 ghost use Rattle.rules.specs.Limits.{m_low, m_high, l_low, l_high, nodes_high, messages_high};
 ghost use Rattle.rules.specs.InnerAsks.{Listed};
 ghost use Rattle.rules.specs.Nodes.{no_node};
-ghost use Rattle.table_type.specs.Start.{start_of, not_started};
+ghost use Rattle.table_type.specs.Start.{start_of};
 ghost use Rattle.start.specs.Start.{start_fits, slot_ids, ids_rise, list_fits, start_node, start_nodes, id_rises};
 ghost use Rattle.table_type.specs.Table.{node_at, ids_of, ring_of};
 
 use rules::{Node, Pool, Refusal, Ring, Roster, Sides, Status, Via};
 
 // Ids have m digits, a side of a leaf set holds at most l nodes, and n nodes are listed, in the slots 0 to n - 1.
-#[derive(Clone, Copy)]
+// Stays an array with its count: fixed memory, with no heap, and a table of any numbers can be handed to the step, which says 10 of it.
+#[derive(Clone, Copy, Debug, PartialEq, Eq)]
 pub struct Table {
     pub m: u32,
     pub l: u32,
@@ -21,19 +22,13 @@ pub struct Table {
 }
 
 // What a step, a load or a start leaves: the answer, the table and the pool; and where the next hop came from, if a step routed a message to one.
+// Stays: 01's step leaves table and pool after a refusal too (table/specs/Settle.refused_of), so that they stand beside the answer.
 #[derive(Clone, Copy)]
 pub struct Stepped {
     pub answer: Result<(), Refusal>,
     pub table: Table,
     pub pool: Pool,
     pub via: Via,
-}
-
-// What the start makes: a table, or the table of no node beside the refusal.
-#[derive(Clone, Copy)]
-pub struct Started {
-    pub answer: Result<(), Refusal>,
-    pub table: Table,
 }
 
 impl Table {
@@ -49,6 +44,7 @@ impl Table {
 
     pub const MESSAGES: usize = 256;
 
+    // Stays: six functions beside the constants. Callers read the limits through a contract, which a constant has not.
     pub fn m_low() -> u32
         ensures { result ≡ m_low }
     {
@@ -86,30 +82,28 @@ impl Table {
     }
 
     // The table that a start makes. 8 for M, L or the number of ids out of range; 10 for ids that do not rise below 2^M, or a set A that is empty or not listed.
-    pub fn start(m: u32, l: u32, ids: &[u32], a: u64) -> Started
+    pub fn start(m: u32, l: u32, ids: &[u32], a: u64) -> Result<Table, Refusal>
         ensures { result ≡ start_of m l ids.now a }
     {
         let n = ids.len();
         if !start_fits(m, l, n) {
-            return not_started(Refusal::Header);
+            return Err(Refusal::Header);
         }
         let all = slot_ids(ids);
         if !list_fits(m, n, &all, a) {
-            return not_started(Refusal::Invalid);
+            return Err(Refusal::Invalid);
         }
         let roster = Roster {
             ring: Ring { m, l, n },
             ids: all,
         };
         let nodes = start_nodes(&roster, a);
-        let table = Table { m, l, n, nodes };
-        Started {
-            answer: Ok(()),
-            table,
-        }
+        Ok(Table { m, l, n, nodes })
     }
 }
 
+// Stays: `i < 64` is a clause, here and wherever a slot is asked for. A slot is a plain number in 01 and in every definition; a type for it would be unwrapped
+// at each index.
 pub fn node_at(t: Table, i: usize) -> Node
     requires { i < 64 }
     ensures { result ≡ node_at t i }
@@ -151,6 +145,8 @@ pub fn roster(t: Table) -> Roster
 }
 
 // Are M, L and the number of ids in range?
+// Stays beside `table_valid::numbers_fit` and `file_read::header_fits`: their three definitions nest the same comparisons each in its own way, and one test for all
+// would save a line in two places and ask for a lemma in each.
 pub fn start_fits(m: u32, l: u32, n: usize) -> bool
     ensures { result ≡ start_fits m l n }
 {
@@ -170,6 +166,7 @@ fn slot_ids(ids: &[u32]) -> [u32; 64]
 }
 
 // Is x below 2^m?
+// Stay clauses, here and below: m ≤ 32, and n ≤ 64. `start` tests both before it calls, and a type of the two would be made and taken apart for one shift and one index.
 pub fn below_size(x: u32, m: u32) -> bool
     requires { m ≤ 32 }
     ensures { result ≡ ltb x (2 ^ m) }
@@ -269,22 +266,4 @@ fn start_nodes(r: &Roster, a: u64) -> [Node; 64]
         nodes[s] = start_node(r, a, s);
     }
     nodes
-}
-
-// No table was made.
-pub fn not_started(why: Refusal) -> Started
-    ensures { result ≡ not_started why }
-{
-    let none = no_node();
-    let nodes = [none; 64];
-    let table = Table {
-        m: 0,
-        l: 0,
-        n: 0,
-        nodes,
-    };
-    Started {
-        answer: Err(why),
-        table,
-    }
 }

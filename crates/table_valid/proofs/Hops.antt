@@ -60,9 +60,6 @@ pub other-id : {g : Ring} {ids : List ℕ} → Listed g ids → (up : Bool) (d h
 other-id {g} v up d h s hd hs one at e =
     omega (arith, at, ap (steps_of up g.n d) (ids-inj v s d hs hd e), steps-self g.n d hd up)
 
-pub no-hops : (g : Ring) (ids : List ℕ) (k d h : ℕ) → h ≡ 0 → true ≡ leb h (farther_than g ids k d)
-no-hops g ids k d h e = sym (le-leb h (farther_than g ids k d) (omega arith))
-
 pub all-nodes-passed : (g : Ring) (ids : List ℕ) (k d h : ℕ) → d < g.n → g.n ≤ h → false ≡ leb h (farther_than g ids k d)
 all-nodes-passed g ids k d h hd far = sym (lt-leb h (farther_than g ids k d) (omega (arith, farther-low g ids k d hd)))
 

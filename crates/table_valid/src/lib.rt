@@ -1,18 +1,36 @@
 // Validity, decided: true exactly for a valid table and pool.
 #![tactic(auto)]
 
-ghost use Rattle.std.specs.Prelude.{◌≡◌, ◌&&◌, not, ◌^◌, ◌<◌, ◌≤◌, leb, ltb};
+ghost use Rattle.std.specs.Prelude.{◌≡◌, ◌&&◌, not, ◌^◌, ◌<◌, ◌≤◌, leb, ltb, length};
 ghost use Rattle.ring.specs.Distance.{nearer, rises_to};
-ghost use Rattle.marks.specs.Marks.{size_of};
+ghost use Rattle.marks.specs.Marks.{size_of, listed};
 ghost use Rattle.rules.specs.Fits.{numbers_fit, leaf_fits, node_fits, is_blank, is_kind, fields_fit, message_fits, farther_than, hops_fit};
-ghost use Rattle.rules.specs.InnerAsks.{Inside, Listed};
+ghost use Rattle.rules.specs.InnerAsks.{Inside};
 ghost use Rattle.rules.specs.Nodes.{carried_of};
+ghost use Rattle.rules.specs.Pool.{message_at};
+ghost use Rattle.rules.specs.declared.Pool.{Pool};
 ghost use Rattle.table.specs.Valid.{nodes_fit, pool_fits, valid_of};
 ghost use Rattle.table_valid.specs.InnerAlone.{carries_none, word_alone};
 ghost use Rattle.table_valid.specs.InnerNodes.{all_nodes, is_part};
 
-use rules::{Message, Node, Pool, Ring, Sides};
+use rules::{Message, Node, Pool, Ring, Roster, Sides};
 use table_type::Table;
+
+// All listed nodes, as one set, beside the numbers of their table.
+#[derive(Clone, Copy)]
+pub struct Whole {
+    pub ring: Ring,
+    pub set: u64,
+    pub ghost all: { set ≡ all_nodes ring.n },
+}
+
+// What a message is tested against: the ids of the listed nodes, and their set.
+#[derive(Clone, Copy)]
+pub struct Census {
+    pub roster: Roster,
+    pub whole: Whole,
+    pub ghost same: { whole.ring ≡ roster.ring },
+}
 
 fn numbers_fit(g: Ring) -> bool
     ensures { result ≡ numbers_fit g }
@@ -21,6 +39,7 @@ fn numbers_fit(g: Ring) -> bool
 }
 
 // The set of all listed nodes.
+// Stays a clause, here, in `Whole::of` and in `nodes_fit`: n ≤ 64. It bounds one shift and one index; `Whole` carries what follows from it.
 pub fn all_nodes(n: usize) -> u64
     requires { n ≤ 64 }
     ensures { result ≡ all_nodes n }
@@ -29,6 +48,32 @@ pub fn all_nodes(n: usize) -> u64
         (1u64 << (n as u32)) - 1
     } else {
         u64::MAX
+    }
+}
+
+impl Whole {
+    pub fn of(ring: Ring) -> Whole
+        requires { ring.n ≤ 64 }
+        ensures { result.ring ≡ ring }
+    {
+        let set = all_nodes(ring.n);
+        Whole { ring, set }
+    }
+
+    // Is every member of the set a listed node?
+    fn has(self, set: u64) -> bool
+        ensures { result ≡ listed self.ring.n set }
+    {
+        is_part(set, self.set)
+    }
+}
+
+impl Census {
+    pub fn of(roster: Roster) -> Census
+        ensures { result.roster ≡ roster }
+    {
+        let whole = Whole::of(roster.ring);
+        Census { roster, whole }
     }
 }
 
@@ -46,21 +91,19 @@ fn side_fits(g: Ring, others: u64, side: u64) -> bool
     is_part(side, others) & (marks::count(side) <= g.l)
 }
 
-fn leaf_fits(g: Ring, all: u64, owner: usize, s: Sides) -> bool
-    requires { all ≡ all_nodes g.n }
-    ensures { result ≡ leaf_fits g owner s }
+fn leaf_fits(all: Whole, owner: usize, s: Sides) -> bool
+    ensures { result ≡ leaf_fits all.ring owner s }
 {
-    let others = marks::removed(all, owner);
-    side_fits(g, others, s.left) & side_fits(g, others, s.right)
+    let others = marks::removed(all.set, owner);
+    side_fits(all.ring, others, s.left) & side_fits(all.ring, others, s.right)
 }
 
-pub fn node_fits(g: Ring, all: u64, i: usize, v: Node) -> bool
-    requires { all ≡ all_nodes g.n }
-    ensures { result ≡ node_fits g i v }
+pub fn node_fits(all: Whole, i: usize, v: Node) -> bool
+    ensures { result ≡ node_fits all.ring i v }
 {
-    let others = marks::removed(all, i);
-    let known = is_part(v.routing, all) & (is_part(v.lease, all) & is_part(v.grant, all));
-    leaf_fits(g, all, i, parts::sides_of(v))
+    let others = marks::removed(all.set, i);
+    let known = all.has(v.routing) & (all.has(v.lease) & all.has(v.grant));
+    leaf_fits(all, i, parts::sides_of(v))
         & (is_part(v.probing, others) & (is_part(v.failed, others) & known))
 }
 
@@ -71,6 +114,8 @@ fn is_blank_node(v: Node) -> bool
 }
 
 // Is the id at least low and below 2^m?
+// Stays a clause, here and in `key_fits`, `kind_fits` and `message_fits`: M is compared once in each, and a type of rings with M at most 32 would be
+// made and taken apart for that alone.
 pub fn id_fits(g: Ring, low: u64, id: u32) -> bool
     requires { g.m ≤ 32 }
     ensures { result ≡ (ltb id (2 ^ g.m) && leb low id) }
@@ -79,15 +124,15 @@ pub fn id_fits(g: Ring, low: u64, id: u32) -> bool
 }
 
 // Each id is above the one before it: low is the least that the next may be.
-fn nodes_fit(t: Table, all: u64) -> bool
-    requires { (t.m ≤ 32) × (t.n ≤ 64) × (all ≡ all_nodes t.n) }
+fn nodes_fit(t: Table) -> bool
+    requires { (t.m ≤ 32) × (t.n ≤ 64) }
     ensures { result ≡ nodes_fit t }
 {
-    let g = table_type::ring_of(t);
+    let all = Whole::of(table_type::ring_of(t));
     let mut low: u64 = 0;
     for s in 0..t.n {
         let v = t.nodes[s];
-        if !(id_fits(g, low, v.id) & node_fits(g, all, s, v)) {
+        if !(id_fits(all.ring, low, v.id) & node_fits(all, s, v)) {
             return false;
         }
         low = (v.id as u64) + 1;
@@ -115,12 +160,11 @@ fn word_alone(m: Message) -> bool
 }
 
 // A carried leaf set, with its owner.
-fn carried_fits(g: Ring, all: u64, m: Message) -> bool
-    requires { all ≡ all_nodes g.n }
-    ensures { result ≡ (ltb m.owner g.n && leaf_fits g m.owner (carried_of m)) }
+fn carried_fits(all: Whole, m: Message) -> bool
+    ensures { result ≡ (ltb m.owner all.ring.n && leaf_fits all.ring m.owner (carried_of m)) }
 {
     let owner = m.owner as usize;
-    (owner < g.n) & leaf_fits(g, all, owner, parts::carried_of(m))
+    (owner < all.ring.n) & leaf_fits(all, owner, parts::carried_of(m))
 }
 
 // A key.
@@ -132,31 +176,28 @@ fn key_fits(g: Ring, m: Message) -> bool
 }
 
 // A node and a routing set.
-fn join_request_fits(g: Ring, all: u64, m: Message) -> bool
-    requires { all ≡ all_nodes g.n }
-    ensures { result ≡ fields_fit 2 g m }
+fn join_request_fits(all: Whole, m: Message) -> bool
+    ensures { result ≡ fields_fit 2 all.ring m }
 {
-    ((m.word as usize) < g.n)
-        & ((m.flag == 0) & (carries_none(m) & (is_part(m.routing, all) & (m.failed == 0))))
+    ((m.word as usize) < all.ring.n)
+        & ((m.flag == 0) & (carries_none(m) & (all.has(m.routing) & (m.failed == 0))))
 }
 
 // A routing set, and a leaf set with its owner.
-fn join_reply_fits(g: Ring, all: u64, m: Message) -> bool
-    requires { all ≡ all_nodes g.n }
-    ensures { result ≡ fields_fit 3 g m }
+fn join_reply_fits(all: Whole, m: Message) -> bool
+    ensures { result ≡ fields_fit 3 all.ring m }
 {
-    let sets = is_part(m.routing, all) & (m.failed == 0);
-    (m.word == 0) & ((m.flag == 0) & (carried_fits(g, all, m) & sets))
+    let sets = all.has(m.routing) & (m.failed == 0);
+    (m.word == 0) & ((m.flag == 0) & (carried_fits(all, m) & sets))
 }
 
 // A node, a leaf set whose owner is that node, and a failed set.
-fn probe_fits(g: Ring, all: u64, m: Message) -> bool
-    requires { all ≡ all_nodes g.n }
-    ensures { result ≡ fields_fit 4 g m }
+fn probe_fits(all: Whole, m: Message) -> bool
+    ensures { result ≡ fields_fit 4 all.ring m }
 {
-    let sets = (m.routing == 0) & is_part(m.failed, all);
-    ((m.word as usize) < g.n)
-        & ((m.flag == 0) & (carried_fits(g, all, m) & ((m.owner == m.word) & sets)))
+    let sets = (m.routing == 0) & all.has(m.failed);
+    ((m.word as usize) < all.ring.n)
+        & ((m.flag == 0) & (carried_fits(all, m) & ((m.owner == m.word) & sets)))
 }
 
 // A node.
@@ -167,37 +208,37 @@ fn lease_request_fits(g: Ring, m: Message) -> bool
 }
 
 // A leaf set with its owner, and a flag.
-fn broadcast_fits(g: Ring, all: u64, m: Message) -> bool
-    requires { all ≡ all_nodes g.n }
-    ensures { result ≡ fields_fit 8 g m }
+fn broadcast_fits(all: Whole, m: Message) -> bool
+    ensures { result ≡ fields_fit 8 all.ring m }
 {
     let sets = (m.routing == 0) & (m.failed == 0);
-    (m.word == 0) & ((m.flag <= 1) & (carried_fits(g, all, m) & sets))
+    (m.word == 0) & ((m.flag <= 1) & (carried_fits(all, m) & sets))
 }
 
 // Are the fields as the kind asks, and is it one of 01's eight?
-fn kind_fits(kind: u32, g: Ring, all: u64, m: Message) -> bool
-    requires { (g.m ≤ 32) × (all ≡ all_nodes g.n) }
-    ensures { result ≡ (is_kind kind && fields_fit kind g m) }
+// Stays a `match` on a number: the kind of a message is one in `rules::Message`, and `fields_fit` takes any.
+fn kind_fits(kind: u32, all: Whole, m: Message) -> bool
+    requires { all.ring.m ≤ 32 }
+    ensures { result ≡ (is_kind kind && fields_fit kind all.ring m) }
 {
     match kind {
-        1 | 6 => key_fits(g, m),
-        2 => join_request_fits(g, all, m),
-        3 => join_reply_fits(g, all, m),
-        4 => probe_fits(g, all, m),
-        5 => probe_fits(g, all, m),
-        7 => lease_request_fits(g, m),
-        8 => broadcast_fits(g, all, m),
+        1 | 6 => key_fits(all.ring, m),
+        2 => join_request_fits(all, m),
+        3 => join_reply_fits(all, m),
+        4 => probe_fits(all, m),
+        5 => probe_fits(all, m),
+        7 => lease_request_fits(all.ring, m),
+        8 => broadcast_fits(all, m),
         _ => false,
     }
 }
 
 // Does the message obey its kind, its hops aside?
-fn message_fits(g: Ring, all: u64, m: Message) -> bool
-    requires { (g.m ≤ 32) × (all ≡ all_nodes g.n) }
-    ensures { result ≡ message_fits g m }
+fn message_fits(all: Whole, m: Message) -> bool
+    requires { all.ring.m ≤ 32 }
+    ensures { result ≡ message_fits all.ring m }
 {
-    ((m.dest as usize) < g.n) & kind_fits(m.kind, g, all, m)
+    ((m.dest as usize) < all.ring.n) & kind_fits(m.kind, all, m)
 }
 
 // Is the key reached from here by falling? Then the walk away from it goes up, else down.
@@ -221,80 +262,103 @@ fn is_farther(m: u32, up: bool, key: u32, here: u32, there: u32) -> bool
 }
 
 // Are h listed nodes, or more, farther from the key than slot d? The slot at h steps away from the key decides.
-fn has_farther(g: Ring, ids: &[u32; 64], key: u32, d: usize, h: usize) -> bool
-    requires { Listed g ids.now × (key < 2 ^ g.m) × (d < g.n) × (1 ≤ h) × (h < g.n) }
-    ensures { result ≡ leb h (farther_than g ids.now key d) }
+fn has_farther(r: &Roster, key: u32, d: usize, h: usize) -> bool
+    requires { (key < 2 ^ r.now.ring.m) × (d < r.now.ring.n) × (1 ≤ h) × (h < r.now.ring.n) }
+    ensures { result ≡ leb h (farther_than r.now.ring r.now.ids key d) }
 {
-    let here = ids[d];
+    let g = r.ring;
+    let here = r.ids[d];
     let up = falls_to(g.m, key, here);
     let s = leaf::along(up, d, g.n, h);
-    let there = ids[s];
+    let there = r.ids[s];
     is_farther(g.m, up, key, here, there)
 }
 
 // Are the hops of a lookup at most the number of listed nodes farther from its key than its destination?
-fn hops_fit(g: Ring, ids: &[u32; 64], m: Message) -> bool
-    requires { Listed g ids.now × (m.word < 2 ^ g.m) × (m.dest < g.n) }
-    ensures { result ≡ leb m.hops (farther_than g ids.now m.word m.dest) }
+fn hops_fit(r: &Roster, m: Message) -> bool
+    requires { (m.word < 2 ^ r.now.ring.m) × (m.dest < r.now.ring.n) }
+    ensures { result ≡ leb m.hops (farther_than r.now.ring r.now.ids m.word m.dest) }
 {
     let h = m.hops as usize;
     if h == 0 {
         return true;
     }
-    if g.n <= h {
+    if r.ring.n <= h {
         return false;
     }
-    has_farther(g, ids, m.word, m.dest as usize, h)
+    has_farther(r, m.word, m.dest as usize, h)
 }
 
 // A lookup.
-fn lookup_fits(g: Ring, ids: &[u32; 64], m: Message) -> bool
-    requires { Listed g ids.now }
-    ensures { result ≡ (ltb m.dest g.n && fields_fit 1 g m && leb m.hops (farther_than g ids.now m.word m.dest)) }
+fn lookup_fits(r: &Roster, m: Message) -> bool
+    ensures { let g = r.now.ring in result ≡ (ltb m.dest g.n && fields_fit 1 g m && leb m.hops (farther_than g r.now.ids m.word m.dest)) }
 {
-    if !(((m.dest as usize) < g.n) & key_fits(g, m)) {
+    if !(((m.dest as usize) < r.ring.n) & key_fits(r.ring, m)) {
         return false;
     }
-    hops_fit(g, ids, m)
+    hops_fit(r, m)
 }
 
 // Any message: only a lookup may carry hops.
-pub fn place_fits(g: Ring, all: u64, ids: &[u32; 64], m: Message) -> bool
-    requires { Listed g ids.now × (all ≡ all_nodes g.n) }
-    ensures { result ≡ (message_fits g m && hops_fit g ids.now m) }
+pub fn place_fits(c: &Census, m: Message) -> bool
+    ensures { let r = c.now.roster in result ≡ (message_fits r.ring m && hops_fit r.ring r.ids m) }
 {
     if m.kind == 1 {
-        lookup_fits(g, ids, m)
+        lookup_fits(&c.roster, m)
     } else {
-        (m.hops == 0) & message_fits(g, all, m)
+        (m.hops == 0) & message_fits(c.whole, m)
+    }
+}
+
+// Messages that wait, each read by its place: those of a pool, or of a file where it lies.
+pub trait Waiting {
+    ghost pool: { Self → Pool };
+
+    fn count(&self) -> usize
+        ensures { result ≡ (pool self.now).count };
+
+    fn at(&self, q: usize) -> Message
+        requires { (q < (pool self.now).count) × ((pool self.now).count ≤ 256) }
+        ensures { result ≡ message_at (pool self.now) q };
+}
+
+impl Waiting for Pool {
+    ghost pool = { λ p. p };
+
+    fn count(&self) -> usize {
+        self.count
+    }
+
+    fn at(&self, q: usize) -> Message {
+        self.places[q]
     }
 }
 
 // Are there at most 256 messages, does each fit, and are no two equal? A message is compared only with the earlier ones of its own bucket: `heads` has one
-// more than the last place of each bucket, and `next` one more than the place before of the same bucket; 0 is none. The `while` goes from link to link
-// and counts no index. All loops stand in one function, which has one copy of the pool.
-fn pool_fits(g: Ring, all: u64, ids: &[u32; 64], p: Pool) -> bool
-    requires { Listed g ids.now × (all ≡ all_nodes g.n) }
-    ensures { result ≡ pool_fits g ids.now p }
+// more than the last place of each bucket, and `next` one more than the place before of the same bucket; 0 is none.
+// Stays a `while`: it goes from link to link and counts no index.
+pub fn pool_fits<W: Waiting>(c: &Census, p: &W) -> bool
+    requires { length (W.pool p.now).places ≡ 256 }
+    ensures { let r = c.now.roster in result ≡ pool_fits r.ring r.ids (W.pool p.now) }
 {
-    let n = p.count;
+    let n = p.count();
     if 256 < n {
         return false;
     }
     for k in 0..n {
-        if !place_fits(g, all, ids, p.places[k]) {
+        if !place_fits(c, p.at(k)) {
             return false;
         }
     }
     let mut heads = [0u32; 509];
     let mut next = [0u32; 256];
     for j in 0..n {
-        let m = p.places[j];
+        let m = p.at(j);
         let h = pool::bucket(m);
         let first = heads[h];
         let mut at = first as usize;
         'chain: while 0 < at {
-            if pool::alike(p.places[at - 1], m) {
+            if pool::alike(p.at(at - 1), m) {
                 return false;
             }
             at = next[at - 1] as usize;
@@ -313,10 +377,9 @@ pub fn is_valid(t: Table, p: Pool) -> bool
     if !numbers_fit(g) {
         return false;
     }
-    let all = all_nodes(g.n);
-    if !nodes_fit(t, all) {
+    if !nodes_fit(t) {
         return false;
     }
-    let ids = table_type::ids(t);
-    pool_fits(g, all, &ids, p)
+    let c = Census::of(table_type::roster(t));
+    pool_fits(&c, &p)
 }

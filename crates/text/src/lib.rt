@@ -1,4 +1,5 @@
 // Text in bytes: a byte, a text, or a number in decimal digits, written into a buffer from a place on; each gives the place behind what it wrote.
+// Stays by hand: `write!` says of no byte where it stands, and the contract here says it of each; a library has no heap for a String.
 #![tactic(auto)]
 
 ghost use Rattle.std.specs.Prelude.{[], ◌∷◌, ◌++◌, ◌+◌, ◌≤◌, length};

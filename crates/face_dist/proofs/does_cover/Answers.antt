@@ -4,10 +4,10 @@ use Rattle.face_dist.proofs.Laws.{four}
 use Rattle.face_dist.proofs.does_cover.Goals as goal
 
 pub covers-requires : goal.covers-requires
-covers-requires c = four _ _ _ _ _ (sym c.four_inside.ensures ∙ c.if-four_inside.true)
+covers-requires c = four _ _ _ _ _ (sym c.all_inside.ensures ∙ c.if-all_inside.true)
 
-pub returns-then-four_inside : goal.returns-then-four_inside
-returns-then-four_inside c = rw (← c.four_inside.ensures, c.if-four_inside.true, c.covers.ensures)
+pub returns-then-all_inside : goal.returns-then-all_inside
+returns-then-all_inside c = rw (← c.all_inside.ensures, c.if-all_inside.true, c.covers.ensures)
 
-pub returns-else-four_inside : goal.returns-else-four_inside
-returns-else-four_inside c = rw (← c.four_inside.ensures, c.if-four_inside.false)
+pub returns-else-all_inside : goal.returns-else-all_inside
+returns-else-all_inside c = rw (← c.all_inside.ensures, c.if-all_inside.false)

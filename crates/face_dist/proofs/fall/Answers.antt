@@ -7,15 +7,15 @@ use Rattle.face_dist.proofs.Laws.{two}
 use Rattle.face_dist.proofs.fall.Goals as goal
 
 pub fall-requires : goal.fall-requires
-fall-requires c = two _ _ _ (sym c.two_inside.ensures ∙ c.if-two_inside.true)
+fall-requires c = two _ _ _ (sym c.all_inside.ensures ∙ c.if-all_inside.true)
 
 pub overflow_cast-result : goal.overflow_cast-result
-overflow_cast-result c = let small : c.fall.result < 2 ^ 32 = rw c.fall.ensures (fall-small (two _ _ _ (sym c.two_inside.ensures ∙ c.if-two_inside.true))) in
+overflow_cast-result c = let small : c.fall.result < 2 ^ 32 = rw c.fall.ensures (fall-small (two _ _ _ (sym c.all_inside.ensures ∙ c.if-all_inside.true))) in
     record { sfits = omega (arith, small) }
 
-pub returns-then-two_inside : goal.returns-then-two_inside
-returns-then-two_inside c = let small : c.fall.result < 2 ^ 32 = rw c.fall.ensures (fall-small (two _ _ _ (sym c.two_inside.ensures ∙ c.if-two_inside.true))) in
-    rw (← c.two_inside.ensures, c.if-two_inside.true, back-pos c.fall.result (omega (arith, small)), c.fall.ensures)
+pub returns-then-all_inside : goal.returns-then-all_inside
+returns-then-all_inside c = let small : c.fall.result < 2 ^ 32 = rw c.fall.ensures (fall-small (two _ _ _ (sym c.all_inside.ensures ∙ c.if-all_inside.true))) in
+    rw (← c.all_inside.ensures, c.if-all_inside.true, back-pos c.fall.result (omega (arith, small)), c.fall.ensures)
 
-pub returns-else-two_inside : goal.returns-else-two_inside
-returns-else-two_inside c = rw (← c.two_inside.ensures, c.if-two_inside.false)
+pub returns-else-all_inside : goal.returns-else-all_inside
+returns-else-all_inside c = rw (← c.all_inside.ensures, c.if-all_inside.false)

@@ -1,4 +1,4 @@
--- `face_file::begun` meets its contract: its two tests are the definition's. Assumes nothing.
+-- `face_file::begun` meets its contract: what does not fit 32 bits is at or above 2^32, as the definition tests it. Assumes nothing.
 use borrow.Author.Tests.{lt-ltb, le-ltb}
 use mathlib.Core.Path.{◌≡◌, ◌∙◌}
 use mathlib.Core.List.{List, []}
@@ -28,11 +28,17 @@ module _ (m l a : ℕ) (ids : List ℕ) (t : Table) (p : Pool) (e : t ≡ no_tab
     unfolding begun_of
     narrow h = rw (e, f, lt-ltb m 4294967296 below, lt-ltb l 4294967296 h)
 
-pub returns-then-m-ge4294967296 : goal.returns-then-m-ge4294967296
-returns-then-m-ge4294967296 c = c.refused.ensures ∙ m-wide _ _ _ _ _ _ c.no_table-t.ensures c.no_messages-p.ensures (omega arith)
+pub returns-in_default : goal.returns-in_default
+returns-in_default c =
+    c.refused.ensures ∙ m-wide _ _ _ _ _ _ c.no_table-t.ensures c.no_messages-p.ensures (omega (arith, c.in_default.ensures))
 
-pub returns-then-l-ge4294967296 : goal.returns-then-l-ge4294967296
-returns-then-l-ge4294967296 c = c.refused-then-l-ge4294967296.ensures ∙ l-wide _ _ _ _ _ _ c.no_table-t.ensures c.no_messages-p.ensures (omega arith) (omega arith)
+pub returns-in_default-try_from : goal.returns-in_default-try_from
+returns-in_default-try_from c =
+    c.refused-in_default-try_from.ensures
+    ∙ l-wide _ _ _ _ _ _ c.no_table-t.ensures c.no_messages-p.ensures c.in-Ok.ensures.0 (omega (arith, c.in_default-try_from.ensures))
 
 pub returns : goal.returns
-returns c = c.start.ensures ∙ narrow _ _ _ _ _ _ c.no_table-t.ensures c.no_messages-p.ensures (omega arith) (omega arith)
+returns c =
+    let first = c.in-Ok.ensures in
+    let second = c.in-Ok-try_from.ensures in
+    c.start.ensures ∙ rw (first.1, second.1) (narrow _ _ _ _ _ _ c.no_table-t.ensures c.no_messages-p.ensures first.0 second.0)

@@ -5,6 +5,7 @@ use Prim.Native.Nat.{ℕ}
 use Rattle.rules.specs.declared.Refusal.{Refusal}
 use Rattle.table_type.specs.declared.Stepped.{Stepped}
 use Rattle.std.specs.Prelude.{Err, Ok}
+use Rattle.std.proofs.lemmas.Result.{err_from_is_err_and}
 use Rattle.file.specs.Write.{Wrote, wrote_of, written_of}
 use Rattle.face.specs.Calls.{wrote_by, left_by}
 use Rattle.face_file.proofs.written.Goals as goal
@@ -20,8 +21,10 @@ module _ (s : Stepped) (out : List ℕ) where
   unfolding wrote_by left_by
   written-refused why e = (rw e, rw e)
 
-pub returns-in-Ok : goal.returns-in-Ok
-returns-in-Ok c = written-done _ _ c.in-Ok.is _ _ c.write.ensures
+pub returns-in_err-s : goal.returns-in_err-s
+returns-in_err-s c =
+    let e = err_from_is_err_and c.from_residual.result c.from_residual.ensures.1 in
+    rw (e.1, e.2) (written-refused _ _ _ c.in_err-s.was)
 
-pub returns-in-Err : goal.returns-in-Err
-returns-in-Err c = written-refused _ _ _ c.in-Err.is
+pub returns : goal.returns
+returns c = written-done _ _ c.in_ok-s.was _ _ c.write.ensures

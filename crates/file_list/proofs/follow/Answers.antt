@@ -46,19 +46,19 @@ pub bounds-p-q : goal.bounds-p-q
 bounds-p-q c = omega (arith, (sound c.args.t c.args.p c.requires.0).counted)
 
 pub hops-init : goal.hops-init
-hops-init c = sets-out (lone c.args.t c.args.p c.requires.0 c.lookups.q c.lookups-test.true c.if-m-eq1.true) _ refl
+hops-init c = (refl, sets-out (lone c.args.t c.args.p c.requires.0 c.lookups.q c.lookups-test.true c.if-m-eq1.true) _ refl)
 
 pub offset_bounds-t-i : goal.offset_bounds-t-i
 offset_bounds-t-i c =
-    let w = inside (lone c.args.t c.args.p c.requires.0 c.lookups.q c.lookups-test.true c.if-m-eq1.true) c.hops.invariant in
+    let w = inside (lone c.args.t c.args.p c.requires.0 c.lookups.q c.lookups-test.true c.if-m-eq1.true) c.hops.invariant.1 in
     omega arith
 
 pub bounds-t-i : goal.bounds-t-i
-bounds-t-i c = inside (lone c.args.t c.args.p c.requires.0 c.lookups.q c.lookups-test.true c.if-m-eq1.true) c.hops.invariant
+bounds-t-i c = inside (lone c.args.t c.args.p c.requires.0 c.lookups.q c.lookups-test.true c.if-m-eq1.true) c.hops.invariant.1
 
 pub turn_at-turn-requires : goal.turn_at-turn-requires
 turn_at-turn-requires c =
-    asked (lone c.args.t c.args.p c.requires.0 c.lookups.q c.lookups-test.true c.if-m-eq1.true) c.roster-r.ensures.ring c.hops.invariant
+    asked (lone c.args.t c.args.p c.requires.0 c.lookups.q c.lookups-test.true c.if-m-eq1.true) c.roster-r.ensures.ring c.hops.invariant.1
 
 pub hops-preserved : goal.hops-preserved
 hops-preserved c =
@@ -66,21 +66,25 @@ hops-preserved c =
     let goes =
     told a.t c.roster-r.ensures.ring c.roster-r.ensures.ids c.dead_set-dead.ensures c.hops.i (message_at a.p c.lookups.q).word
     _ _ c.turn_at-turn.ensures c.in-Goes.is in
-    rw c.letter_of.ensures
-    (goes_on (lone a.t a.p c.requires.0 c.lookups.q c.lookups-test.true c.if-m-eq1.true) c.hops.invariant (omega arith) goes)
+    let same = c.hops.invariant.0 in (
+      refl,
+      rw (c.letter_of.ensures, same)
+          (goes_on (lone a.t a.p c.requires.0 c.lookups.q c.lookups-test.true c.if-m-eq1.true) c.hops.invariant.1 (omega (arith, same)) goes),
+    )
 
 pub put_line-at-requires : goal.put_line-at-requires
 put_line-at-requires c =
     let a = c.args in
     let m = message_at a.p c.lookups.q in
     let one = lone a.t a.p c.requires.0 c.lookups.q c.lookups-test.true c.if-m-eq1.true in
-    let way = c.hops.invariant in
+    let way = c.hops.invariant.1 in
+    let turns = c.hops.invariant.0 in
     let same = told a.t c.roster-r.ensures.ring c.roster-r.ensures.ids c.dead_set-dead.ensures c.hops.i m.word in
     let trip : ended c.hops-test.end (take c.hops.hops c.hops.letters) ≡ follow_of a.t m =
     elim c.hops-test.branch [
-      | else-hops-test w ↦ rw w.end-is (unended way w.hops-test.false)
-      | then-hops-test+in-Delivers w ↦ rw w.end-is (delivered way w.hops-test.true (same _ _ w.turn_at-turn.ensures w.in-Delivers.is))
-      | then-hops-test+in-Stops w ↦ rw w.end-is (stopped way w.hops-test.true (same _ _ w.turn_at-turn.ensures w.in-Stops.is))
+      | else-hops-test w ↦ rw w.end-is (unended way (omega (arith, turns, w.hops-test.false)))
+      | then-hops-test+in-Delivers w ↦ rw w.end-is (delivered way (omega (arith, turns, w.hops-test.true)) (same _ _ w.turn_at-turn.ensures w.in-Delivers.is))
+      | then-hops-test+in-Stops w ↦ rw w.end-is (stopped way (omega (arith, turns, w.hops-test.true)) (same _ _ w.turn_at-turn.ensures w.in-Stops.is))
     ] in
     let line = line-told a.t m c.roster-r.ensures.ids trip in (
       omega (arith, lone-slot one, (lone-listed one).n-high),
@@ -103,14 +107,15 @@ lookups-preserved c =
     let h : c.lookups.q < length a.p.places = omega (arith, full, (sound a.t a.p c.requires.0).counted) in
     elim c.if-m-eq1.branch [
       | then-m-eq1 w ↦
-          let way = w.hops.invariant in
+          let way = w.hops.invariant.1 in
+          let turns = w.hops.invariant.0 in
           let same = told a.t c.roster-r.ensures.ring c.roster-r.ensures.ids c.dead_set-dead.ensures w.hops.i m.word in
           let trip : ended w.hops-test.end (take w.hops.hops w.hops.letters) ≡ follow_of a.t m =
           elim w.hops-test.branch [
-            | else-hops-test v ↦ rw v.end-is (unended way v.hops-test.false)
+            | else-hops-test v ↦ rw v.end-is (unended way (omega (arith, turns, v.hops-test.false)))
             | then-hops-test+in-Delivers v ↦
-                rw v.end-is (delivered way v.hops-test.true (same _ _ v.turn_at-turn.ensures v.in-Delivers.is))
-            | then-hops-test+in-Stops v ↦ rw v.end-is (stopped way v.hops-test.true (same _ _ v.turn_at-turn.ensures v.in-Stops.is))
+                rw v.end-is (delivered way (omega (arith, turns, v.hops-test.true)) (same _ _ v.turn_at-turn.ensures v.in-Delivers.is))
+            | then-hops-test+in-Stops v ↦ rw v.end-is (stopped way (omega (arith, turns, v.hops-test.true)) (same _ _ v.turn_at-turn.ensures v.in-Stops.is))
           ] in
           rw (w.b-is, w.at-is)
           (lines-line a.t a.p.places c.lookups.q h w.if-m-eq1.true c.lookups.invariant

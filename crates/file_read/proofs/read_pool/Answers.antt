@@ -9,4 +9,9 @@ use Rattle.file_read.proofs.read_pool.Goals as goal
 pub returns : goal.returns
 unfolding part_pool
 returns c =
-    rw (c.fill.ensures, c.blank_message-places.ensures, drop-replicate c.args.count 256 blank, rows_long message_from message_widths 56 c.args.count c.args.part.now)
+    rw (
+      c.fill.ensures,
+      c.blank_message-places.ensures,
+      drop-replicate c.args.part.count 256 blank,
+      rows_long message_from message_widths 56 c.args.part.count c.args.part.bytes.now,
+    )

@@ -8,4 +8,12 @@ use Rattle.file_read.proofs.read_table.Goals as goal
 pub returns : goal.returns
 unfolding file_table
 returns c =
-    rw (c.fill.ensures, c.no_node-nodes.ensures, drop-replicate c.word-n.result 64 no_node, rest-whole c.args.bs.now 32, c.word-n.ensures, c.word-l.ensures, c.word-m.ensures)
+    rw (
+      c.fill.ensures,
+      c.no_node-nodes.ensures,
+      drop-replicate c.word-n.result 64 no_node,
+      rest-whole c.args.file.bytes.now 32,
+      c.word-n.ensures,
+      c.word-l.ensures,
+      c.word-m.ensures,
+    )

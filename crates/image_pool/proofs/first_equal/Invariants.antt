@@ -5,4 +5,4 @@ use Rattle.image_pool.proofs.Search.{Missed}
 use Rattle.image_pool.proofs.first_equal.Given as goal
 
 abbrev pub invariant-places : goal.invariant-places
-invariant-places l = Missed l.m (removed_at (messages_in l.count l.part) l.gone) l.at
+invariant-places l = Missed l.m (removed_at (messages_in l.part.count l.part.bytes.now) l.gone) l.at

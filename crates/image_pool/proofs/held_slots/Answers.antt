@@ -8,7 +8,7 @@ loop-at-init c = seen_none _ _
 
 pub loop-at-preserved : goal.loop-at-preserved
 loop-at-preserved c =
-    seen_more _ _ _ _ _ _ _ (omega arith) c.read_message-q.ensures c.with_slot-set.ensures c.loop-at.invariant
+    seen_more _ _ _ _ _ _ _ (omega arith) c.read_message-q.ensures c.held_with-set.ensures c.loop-at.invariant
 
 pub returns : goal.returns
 returns c = seen_all _ _ _ _ _ (omega arith) c.loop-at.invariant

@@ -4,4 +4,4 @@ use Rattle.image_pool.proofs.Sends.{Seen}
 use Rattle.image_pool.proofs.held_slots.Given as goal
 
 abbrev pub invariant-loop-at : goal.invariant-loop-at
-invariant-loop-at l = Seen l.m (messages_in l.count l.part) l.at l.set
+invariant-loop-at l = Seen l.m (messages_in l.part.count l.part.bytes.now) l.at l.set

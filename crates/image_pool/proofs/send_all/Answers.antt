@@ -9,8 +9,8 @@ use Rattle.image.specs.InnerRecords.{messages_in}
 use Rattle.image_pool.proofs.Sends.{room-few, room-there, room-count}
 use Rattle.image_pool.proofs.send_all.Goals as goal
 
-pub held_slots-have-requires : goal.held_slots-have-requires
-held_slots-have-requires c = room-count _ _ _ _ c.requires
+pub invariant_of-held_slots : goal.invariant_of-held_slots
+invariant_of-held_slots c = let r = room-count _ _ _ _ c.requires in record { few = r.0; room = r.1 }
 
 pub append_all-requires : goal.append_all-requires
 append_all-requires c = let r = c.requires in

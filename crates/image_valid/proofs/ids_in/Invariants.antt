@@ -4,4 +4,4 @@ use Rattle.image_valid.proofs.Records.{ids_to}
 use Rattle.image_valid.proofs.ids_in.Given as goal
 
 abbrev pub invariant-loop-s : goal.invariant-loop-s
-invariant-loop-s l = l.ids ≡ ids_to l.file l.s
+invariant-loop-s l = l.ids ≡ ids_to l.file.bytes.now l.s

@@ -10,4 +10,4 @@ use Rattle.image_valid.proofs.Records.{slot_in}
 use Rattle.image_valid.proofs.nodes_fit_in.Given as goal
 
 abbrev pub invariant-loop-s : goal.invariant-loop-s
-invariant-loop-s l = (l.low ≡ low_at (ids_of (file_table l.file)) l.s) × (all_to l.s (slot_in (file_table l.file)) ≡ true)
+invariant-loop-s l = (l.low ≡ low_at (ids_of (file_table l.file.bytes.now)) l.s) × (all_to l.s (slot_in (file_table l.file.bytes.now)) ≡ true)

@@ -5,25 +5,33 @@ use Rattle.table_type.specs.Table.{ring_of}
 use Rattle.table_laws.proofs.Sound.{Numbers, numbers-told}
 use Rattle.table_valid.proofs.Slots.{nodes-listed}
 use Rattle.file.specs.Load.{file_table}
+use Rattle.file_read.proofs.Parts.{places-are}
 use Rattle.image_valid.proofs.Records.{n-is, header-numbers}
 use Rattle.image_valid.proofs.Ends.{nodes-fail, pool-decides}
 use Rattle.image_valid.proofs.records_fit.Goals as goal
 
-pub all_nodes-all-requires : goal.all_nodes-all-requires
-all_nodes-all-requires c = let narrow : Numbers (ring_of (file_table c.args.file.now)) = numbers-told _ (header-numbers c.args.file.now c.requires.header) in
-    rw c.ring_in-g.ensures (narrow).n-high
+pub of-requires : goal.of-requires
+of-requires c = let file = c.args.file in
+    let narrow : Numbers (ring_of (file_table file.bytes.now)) = numbers-told _ (header-numbers file.bytes.now file.fits.header) in
+    rw c.ring_in-ring.ensures narrow.n-high
 
 pub returns-then-not-nodes_fit_in : goal.returns-then-not-nodes_fit_in
-returns-then-not-nodes_fit_in c = sym (nodes-fail c.args.file.now (sym c.nodes_fit_in.ensures ∙ c.if-not-nodes_fit_in.true))
+returns-then-not-nodes_fit_in c = sym (nodes-fail c.args.file.bytes.now (sym c.nodes_fit_in.ensures ∙ c.if-not-nodes_fit_in.true))
 
 pub ids_in-ids-requires : goal.ids_in-ids-requires
-ids_in-ids-requires c = (c.requires, ap (λ (g : Ring). g.n) c.ring_in-g.ensures ∙ n-is c.args.file.now)
+ids_in-ids-requires c = ap (λ (g : Ring). g.n) c.ring_in-ring.ensures ∙ n-is c.args.file.bytes.now
 
-pub file_pool_fits-requires : goal.file_pool_fits-requires
-file_pool_fits-requires c = let told = header-numbers c.args.file.now c.requires.header in
+pub invariant_of-roster : goal.invariant_of-roster
+invariant_of-roster c = let file = c.args.file in
+    let told = header-numbers file.bytes.now file.fits.header in
     let nodes = sym c.nodes_fit_in.ensures ∙ c.if-not-nodes_fit_in.false in
-    (c.requires, rw (c.ring_in-g.ensures, c.ids_in-ids.ensures) (nodes-listed (file_table c.args.file.now) told nodes), c.all_nodes-all.ensures)
+    record { listed = rw (c.ring_in-ring.ensures, c.ids_in-ids.ensures) (nodes-listed (file_table file.bytes.now) told nodes) }
+
+pub pool_fits-requires : goal.pool_fits-requires
+pool_fits-requires c = let p = c.messages.result in places-are p.count p.bytes.now p.few
 
 pub returns : goal.returns
-returns c = pool-decides c.args.file.now c.ring_in-g.result _ _ c.requires.header (sym c.statuses_fit.ensures ∙ c.if-not-statuses_fit.false)
-    (sym c.nodes_fit_in.ensures ∙ c.if-not-nodes_fit_in.false) c.ring_in-g.ensures c.ids_in-ids.ensures c.file_pool_fits.ensures
+returns c = let file = c.args.file in
+    pool-decides file.bytes.now c.ring_in-ring.result c.ids_in-ids.result _ file.fits.header (sym c.statuses_fit.ensures ∙ c.if-not-statuses_fit.false)
+    (sym c.nodes_fit_in.ensures ∙ c.if-not-nodes_fit_in.false) c.ring_in-ring.ensures c.ids_in-ids.ensures
+    (rw (← c.messages.ensures) (c.pool_fits.ensures ∙ rw c.of-2.ensures))

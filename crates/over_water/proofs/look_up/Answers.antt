@@ -8,7 +8,6 @@ use Rattle.water.specs.declared.Held.{Held}
 use Rattle.std.specs.Prelude.{Some, None}
 use Rattle.water.specs.declared.Store.{Store}
 use Rattle.water.specs.Water.{none_held, count_of, held_of, seat_of, found_in}
-use Rattle.water.proofs.Seats.{count_most}
 use Rattle.over_water.proofs.Places.{Full, full, held-length, held-at, look-found, look_none}
 use Rattle.over_water.proofs.look_up.Goals as goal
 
@@ -21,16 +20,10 @@ module _ (s : Store) (f : Full s) (r : Record) (i n : ℕ) (e : i ≡ seat_of (h
   not_there : n ≤ i → None ≡ found_in (held_of s) r
   not_there l = sym (look_none (held_of s) r (omega (arith, held-length s f)))
 
-pub offset_bounds-s-i : goal.offset_bounds-s-i
-offset_bounds-s-i c = omega (arith, c.held_count.ensures, count_most c.args.s.count)
-
-pub bounds-s-i : goal.bounds-s-i
-bounds-s-i c = omega (arith, c.held_count.ensures, count_most c.args.s.count)
-
 pub returns-then-i-held_count : goal.returns-then-i-held_count
 returns-then-i-held_count c = there c.args.s (full c.args.s _ c.well_formed.0) _ c.seat-i.result c.held_count.result c.seat-i.ensures
-    c.held_count.ensures c.if-i-held_count.true
+    c.held_count.ensures.value c.if-i-held_count.true
 
 pub returns-else-i-held_count : goal.returns-else-i-held_count
 returns-else-i-held_count c = not_there c.args.s (full c.args.s _ c.well_formed.0) _ c.seat-i.result c.held_count.result c.seat-i.ensures
-    c.held_count.ensures c.if-i-held_count.false
+    c.held_count.ensures.value c.if-i-held_count.false

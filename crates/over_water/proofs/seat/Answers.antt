@@ -1,33 +1,23 @@
 -- The answers. Assumes nothing.
 use mathlib.Core.Path.{◌≡◌, sym, ◌∙◌}
-use Prim.Native.Nat.{◌≤◌}
 use native.Mathlib.Omega.{arith}
-use Rattle.water.proofs.Seats.{count_most}
 use Rattle.over_water.proofs.Places.{Full, full, none_passed, passed-all, found, passed-more}
 use Rattle.over_water.proofs.seat.Goals as goal
 
 pub loop-i-init : goal.loop-i-init
 loop-i-init c = none_passed _ _
 
-pub offset_bounds-s-i : goal.offset_bounds-s-i
-offset_bounds-s-i c = let low : c.held_count-n.result ≤ 512 = rw c.held_count-n.ensures (count_most c.args.s.count) in
-    omega (arith, low)
-
-pub bounds-s-i : goal.bounds-s-i
-bounds-s-i c = let low : c.held_count-n.result ≤ 512 = rw c.held_count-n.ensures (count_most c.args.s.count) in
-    omega (arith, low)
-
 pub returns-then-alike : goal.returns-then-alike
 returns-then-alike c = let whole : Full c.args.s = full c.args.s _ c.well_formed.0 in
-    found _ (whole) _ c.loop-i.i c.loop-i.invariant (omega (arith, c.held_count-n.ensures))
+    found _ (whole) _ c.loop-i.i c.loop-i.invariant (omega (arith, c.held_count-n.ensures.value))
     (sym c.alike.ensures ∙ c.if-alike.true)
 
 pub loop-i-preserved : goal.loop-i-preserved
 loop-i-preserved c = let whole : Full c.args.s = full c.args.s _ c.well_formed.0 in
-    passed-more _ (whole) _ c.loop-i.i c.loop-i.invariant (omega (arith, c.held_count-n.ensures))
+    passed-more _ (whole) _ c.loop-i.i c.loop-i.invariant (omega (arith, c.held_count-n.ensures.value))
     (sym c.alike.ensures ∙ c.if-alike.false)
 
 pub returns : goal.returns
 returns c = let whole : Full c.args.s = full c.args.s _ c.well_formed.0 in
     let end : c.loop-i.i ≡ c.held_count-n.result = omega arith in
-    sym end ∙ passed-all _ (whole) _ c.loop-i.i c.loop-i.invariant (end ∙ c.held_count-n.ensures)
+    sym end ∙ passed-all _ (whole) _ c.loop-i.i c.loop-i.invariant (end ∙ c.held_count-n.ensures.value)

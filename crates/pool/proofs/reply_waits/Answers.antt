@@ -3,9 +3,8 @@ use mathlib.Core.Path.{sym, ◌∙◌}
 use Rattle.std.proofs.Common.{rules, tests}
 use Rattle.std.proofs.lemmas.Iterator.{YieldsList-from_slice}
 use Rattle.std.proofs.lemmas.Iterator.Search.{any_from_yields_List}
-use Rattle.rules.specs.Pool.{waiting}
 use Rattle.pool_laws.proofs.Places.{reply-some}
 use Rattle.pool.proofs.reply_waits.Goals as goal
 
 pub returns : goal.returns
-returns c = any_from_yields_List _ _ _ _ c.any.ensures.ran (YieldsList-from_slice (waiting c.args.p) cc) (λ x b q k. search (rules, tests)) ∙ sym (reply-some _ _)
+returns c = any_from_yields_List _ _ _ _ c.any.ensures.ran (YieldsList-from_slice c.args.waiting.now cc) (λ x b q k. search (rules, tests)) ∙ sym (reply-some _ _)

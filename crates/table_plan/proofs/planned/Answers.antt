@@ -1,7 +1,10 @@
 -- `planned` meets its contract: what each plan asks follows from the call, as the action that was matched has it. Assumes nothing.
-use mathlib.Core.Path.{refl}
+use mathlib.Core.Path.{refl, ap}
 use native.Mathlib.Omega.{arith}
+use Rattle.std.proofs.Common.{rules}
 use Rattle.marks.proofs.Bools.{and_left}
+use Rattle.rules.specs.Fits.{has_key}
+use Rattle.table_laws.proofs.Obeys.{obeys}
 use Rattle.table_plan.proofs.Called.{is-listed, low, slot_as, key-low, called_as, handed}
 use Rattle.table_plan.proofs.planned.Goals as goal
 
@@ -32,14 +35,36 @@ node_at-requires-in-GrantExpired c = slot_as c.requires.1 c.in-GrantExpired.is
 pub node_at-requires-in-GrantExpired-2 : goal.node_at-requires-in-GrantExpired-2
 node_at-requires-in-GrantExpired-2 c = let k = called_as c.requires.1 c.in-GrantExpired.is in low k _ (and_left _ _ k.range)
 
-pub plan_of_take-requires : goal.plan_of_take-requires
-plan_of_take-requires c = let h = handed c.requires.1 c.requires.2 c.in-Take.is refl in (is-listed c.requires.1, h.0, h.1)
+pub roster-requires-in-Take : goal.roster-requires-in-Take
+roster-requires-in-Take c = is-listed c.requires.1
 
-pub plan_of_deliver-requires : goal.plan_of_deliver-requires
-plan_of_deliver-requires c = let h = handed c.requires.1 c.requires.2 c.in-Deliver.is refl in (is-listed c.requires.1, h.0, h.1)
+pub node_at-requires-in-Take : goal.node_at-requires-in-Take
+node_at-requires-in-Take c = omega (arith, (handed c.requires.1 c.requires.2 c.in-Take.is refl).0, (is-listed c.requires.1).n-high)
 
-pub plan_of_forward-requires : goal.plan_of_forward-requires
-plan_of_forward-requires c = let h = handed c.requires.1 c.requires.2 c.in-Forward.is refl in (is-listed c.requires.1, h.0, h.1, h.2)
+pub plan_take-requires : goal.plan_take-requires
+plan_take-requires c = let h = handed c.requires.1 c.requires.2 c.in-Take.is refl in search (rules, h)
+
+pub roster-requires-in-Deliver : goal.roster-requires-in-Deliver
+roster-requires-in-Deliver c = is-listed c.requires.1
+
+pub node_at-requires-in-Deliver : goal.node_at-requires-in-Deliver
+node_at-requires-in-Deliver c = omega (arith, (handed c.requires.1 c.requires.2 c.in-Deliver.is refl).0, (is-listed c.requires.1).n-high)
+
+pub plan_deliver-requires : goal.plan_deliver-requires
+plan_deliver-requires c =
+    let h = handed c.requires.1 c.requires.2 c.in-Deliver.is refl in
+    (omega (arith, h.0, (is-listed c.requires.1).n-high), λ k. rw c.roster-in-Deliver.ensures.ring ((obeys _ _ h.1).key_in (ap has_key k)))
+
+pub roster-requires-in-Forward : goal.roster-requires-in-Forward
+roster-requires-in-Forward c = is-listed c.requires.1
+
+pub node_at-requires-in-Forward : goal.node_at-requires-in-Forward
+node_at-requires-in-Forward c = omega (arith, (handed c.requires.1 c.requires.2 c.in-Forward.is refl).0, (is-listed c.requires.1).n-high)
+
+pub plan_forward-requires : goal.plan_forward-requires
+plan_forward-requires c =
+    let h = handed c.requires.1 c.requires.2 c.in-Forward.is refl in
+    (omega (arith, h.0, (is-listed c.requires.1).n-high), λ k. rw c.roster-in-Forward.ensures.ring ((obeys _ _ h.1).key_in (ap has_key k)), h.2)
 
 pub node_at-requires-in-NodeLeft : goal.node_at-requires-in-NodeLeft
 node_at-requires-in-NodeLeft c = slot_as c.requires.1 c.in-NodeLeft.is

@@ -4,10 +4,11 @@ use denote.Enum.Declared
 use mathlib.Core.Bool.{Bool, true, false, ◌&&◌, not}
 use mathlib.Core.List.{List, [], ◌∷◌}
 use mathlib.Core.Logic.{inl, inr}
-use mathlib.Core.Path.{◌≡◌, refl, sym, ◌∙◌, ap}
+use mathlib.Core.Path.{◌≡◌, refl, sym, ◌∙◌}
 use Prim.Native.Nat.{ℕ, ◌≤◌}
 use native.Mathlib.Omega.{arith}
 use lib.Dec.{eqb, leb}
+use lib.ListN.{length}
 use borrow.Author.Tests.{leb-true, eqb-false, not-true}
 use types.Run.{OneOf}
 use borrow.Enum.Refused.{opened}
@@ -19,8 +20,8 @@ use Rattle.rules.specs.declared.Action.TheVariants.{NodeLeft, SuspectFaulty, Pro
 use Rattle.rules.specs.declared.Pool.{Pool}
 use Rattle.table_type.specs.declared.Table.{Table}
 use Rattle.step.specs.Step.{asked}
-use Rattle.table_plan.proofs.Asks.{nothing-gone}
-use Rattle.table_plan.proofs.Called.{counted, slot_as, key-low, called_as}
+use Rattle.pool_laws.proofs.Laws.{removed-none}
+use Rattle.table_plan.proofs.Called.{slot_as, key-low, called_as}
 use Rattle.table_plan.proofs.repeated.Goals as goal
 
 -- one of some numbers is as high as all of them
@@ -63,46 +64,29 @@ unasked t p (ResignNode i n) h d = absurd (d refl)
 unasked t p (Recover i) h d = refl
 
 pub overflow_cast-k : goal.overflow_cast-k
-overflow_cast-k c = record { fits = key-low (called_as c.requires.1 c.in-Lookup.is) }
+overflow_cast-k c = record { fits = key-low (called_as c.requires.2 c.in-Lookup.is) }
 
 pub overflow_cast-i : goal.overflow_cast-i
-overflow_cast-i c = omega (arith, slot_as c.requires.1 c.in-Lookup.is)
-
-pub waits-requires : goal.waits-requires
-waits-requires c = counted c.requires.1
+overflow_cast-i c = omega (arith, slot_as c.requires.2 c.in-Lookup.is)
 
 pub overflow_cast-i-in-Join : goal.overflow_cast-i-in-Join
-overflow_cast-i-in-Join c = omega (arith, slot_as c.requires.1 c.in-Join.is)
-
-pub join_waits-requires : goal.join_waits-requires
-join_waits-requires c = counted c.requires.1
+overflow_cast-i-in-Join c = omega (arith, slot_as c.requires.2 c.in-Join.is)
 
 pub overflow_cast-i-in-ResignNode : goal.overflow_cast-i-in-ResignNode
-overflow_cast-i-in-ResignNode c = omega (arith, slot_as c.requires.1 c.in-ResignNode.is)
-
-pub reply_waits-requires : goal.reply_waits-requires
-reply_waits-requires c = counted c.requires.1
+overflow_cast-i-in-ResignNode c = omega (arith, slot_as c.requires.2 c.in-ResignNode.is)
 
 pub returns-in-Lookup : goal.returns-in-Lookup
-returns-in-Lookup c = λ t.
+returns-in-Lookup c = λ t p e.
     c.waits.ensures
-    ∙ rw (
-      c.to_slot.ensures,
-      c.lookup_of.ensures,
-      nothing-gone c.args.p (counted c.requires.1),
-      c.in-Lookup.is,
-    )
+    ∙ rw (c.to_slot.ensures, c.lookup_of.ensures, removed-none c.args.waiting.now (length c.args.waiting.now) (omega arith), e, c.in-Lookup.is)
 
 pub returns-in-Join : goal.returns-in-Join
-returns-in-Join c = λ t.
-    c.join_waits.ensures ∙ ap (λ (a : Action). (asked t c.args.p a).repeated) (sym c.in-Join.is)
+returns-in-Join c = λ t p e. c.join_waits.ensures ∙ rw (e, c.in-Join.is)
 
 pub returns-in-ResignNode : goal.returns-in-ResignNode
-returns-in-ResignNode c = λ t.
-    c.reply_waits.ensures ∙ ap (λ (a : Action). (asked t c.args.p a).repeated) (sym c.in-ResignNode.is)
+returns-in-ResignNode c = λ t p e. c.reply_waits.ensures ∙ rw (e, c.in-ResignNode.is)
 
 pub returns-in_default : goal.returns-in_default
-returns-in_default c = λ t.
-    let s = c.args in
+returns-in_default c = λ t p e.
     let ks : List ℕ = 3 ∷ 4 ∷ 5 ∷ 6 ∷ 7 ∷ 8 ∷ 9 ∷ 10 ∷ 11 ∷ 12 ∷ 14 ∷ [] in
-    unasked t s.p s.a (high 2 2 ks _ refl (opened c.in_default.in_default-own.keys4)) (other 13 2 ks _ refl (opened c.in_default.in_default-own.keys4))
+    unasked t p c.args.a (high 2 2 ks _ refl (opened c.in_default.in_default-own.keys4)) (other 13 2 ks _ refl (opened c.in_default.in_default-own.keys4))

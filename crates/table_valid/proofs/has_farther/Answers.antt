@@ -5,22 +5,18 @@ use Rattle.rules_laws.proofs.Capped.{capped}
 use Rattle.table_valid.proofs.Hops.{other-id}
 use Rattle.table_valid.proofs.has_farther.Goals as goal
 
-pub falls_to-up-requires : goal.falls_to-up-requires
-falls_to-up-requires c = let p = c.requires in
-    record { width = p.0.width; first = p.1; second = p.0.ids-in _ (omega (arith, p.2, p.0.n-high)) }
-
 pub is_farther-requires : goal.is_farther-requires
 is_farther-requires c = let p = c.requires in
-    let v = p.0 in
-    let here = v.ids-in c.args.d (omega (arith, p.2, v.n-high)) in
+    let v = c.args.r.now.listed in
+    let here = v.ids-in c.args.d (omega (arith, p.1, v.n-high)) in
     let there = v.ids-in c.along-s.result (omega (arith, c.along-s.ensures.0, v.n-high)) in (
-      record { width = v.width; first = p.1; second = here },
+      record { width = v.width; first = p.0; second = here },
       record { width = v.width; first = here; second = there },
-      other-id v c.falls_to-up.result _ _ _ p.2 c.along-s.ensures.0 p.3 c.along-s.ensures.1,
+      other-id v c.falls_to-up.result _ _ _ p.1 c.along-s.ensures.0 p.2 c.along-s.ensures.1,
       c.falls_to-up.ensures,
     )
 
 pub returns : goal.returns
 returns c = let p = c.requires in
     c.is_farther.ensures
-    ∙ sym (capped p.0 _ _ p.1 p.2 _ (sym c.falls_to-up.ensures) _ _ p.3 p.4 c.along-s.ensures.0 c.along-s.ensures.1)
+    ∙ sym (capped c.args.r.now.listed _ _ p.0 p.1 _ (sym c.falls_to-up.ensures) _ _ p.2 p.3 c.along-s.ensures.0 c.along-s.ensures.1)

@@ -11,7 +11,7 @@ returns c = let a = c.args in
       c.side_fits-2.ensures,
       c.side_fits.ensures,
       c.removed-others.ensures,
-      c.requires,
-      part-side a.g a.owner a.s.left (omega arith),
-      part-side a.g a.owner a.s.right (omega arith),
+      c.args.all.all,
+      part-side a.all.ring a.owner a.s.left (omega arith),
+      part-side a.all.ring a.owner a.s.right (omega arith),
     )

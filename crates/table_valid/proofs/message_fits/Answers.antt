@@ -14,4 +14,4 @@ pub returns : goal.returns
 unfolding message_fits
 returns c = let a = c.args in
     let m = a.m in
-    rw c.kind_fits.ensures (kind-first (ltb m.dest a.g.n) (is_kind m.kind) (fields_fit m.kind a.g m))
+    rw c.kind_fits.ensures (kind-first (ltb m.dest a.all.ring.n) (is_kind m.kind) (fields_fit m.kind a.all.ring m))

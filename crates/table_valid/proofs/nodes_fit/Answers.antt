@@ -13,30 +13,20 @@ pub loop-s-init : goal.loop-s-init
 unfolding all_to low_at
 loop-s-init c = (refl, refl)
 
-pub id_fits-requires : goal.id_fits-requires
-id_fits-requires c = rw c.ring_of-g.ensures c.requires.0
-
-pub node_fits-requires : goal.node_fits-requires
-node_fits-requires c = rw c.ring_of-g.ensures c.requires.2
-
 pub returns-then-not-id_fits-node_fits : goal.returns-then-not-id_fits-node_fits
 unfolding nodes_fit
 returns-then-not-id_fits-node_fits c = let t = c.args.t in
     let s = c.loop-s.s in
     let turn : (c.id_fits.result && c.node_fits.result) ≡ fits_at t s =
-    rw (c.node_fits.ensures, c.id_fits.ensures, c.ring_of-g.ensures, c.loop-s.invariant.0) (slot-listed t s (omega arith)) in
+    rw (c.node_fits.ensures, c.id_fits.ensures, c.of-all.ensures, c.ring_of.ensures, c.loop-s.invariant.0) (slot-listed t s (omega arith)) in
     sym (fails 64 (fits_at t) s (omega arith) (sym turn ∙ c.if-not-id_fits-node_fits.true))
 
 pub loop-s-preserved : goal.loop-s-preserved
 loop-s-preserved c = let t = c.args.t in
     let s = c.loop-s.s in
     let turn : (c.id_fits.result && c.node_fits.result) ≡ fits_at t s =
-    rw (c.node_fits.ensures, c.id_fits.ensures, c.ring_of-g.ensures, c.loop-s.invariant.0) (slot-listed t s (omega arith)) in
+    rw (c.node_fits.ensures, c.id_fits.ensures, c.of-all.ensures, c.ring_of.ensures, c.loop-s.invariant.0) (slot-listed t s (omega arith)) in
     (low-next t s, more s (fits_at t) c.loop-s.invariant.1 (sym turn ∙ c.if-not-id_fits-node_fits.false))
-
-pub loop-s-2-init : goal.loop-s-2-init
-loop-s-2-init c = let e : c.loop-s.s ≡ c.args.t.n = omega arith in
-    rw e at c.loop-s.invariant.1
 
 pub returns-then-not-is_blank_node : goal.returns-then-not-is_blank_node
 unfolding nodes_fit

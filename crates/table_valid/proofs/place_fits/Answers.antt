@@ -7,4 +7,4 @@ pub returns-then-m-eq1 : goal.returns-then-m-eq1
 returns-then-m-eq1 c = c.lookup_fits.ensures ∙ lookup-is _ _ _ c.if-m-eq1.true
 
 pub returns-else-m-eq1 : goal.returns-else-m-eq1
-returns-else-m-eq1 c = rw c.message_fits.ensures (other-is _ _ _ c.if-m-eq1.false)
+returns-else-m-eq1 c = rw (c.message_fits.ensures, c.args.c.now.same) (other-is _ _ _ c.if-m-eq1.false)

@@ -17,13 +17,13 @@ abbrev pub fits_at : Ring → List ℕ → Pool → ℕ → Bool
 fits_at g ids p q = message_fits g (message_at p q) && hops_fit g ids (message_at p q)
 
 abbrev pub invariant-loop-k : goal.invariant-loop-k
-invariant-loop-k l = all_to l.k (fits_at l.g l.ids l.p) ≡ true
+invariant-loop-k g l = all_to l.k (fits_at l.c.roster.ring l.c.roster.ids (g.W.Waiting.pool l.p)) ≡ true
 
 abbrev pub invariant-chain : goal.invariant-chain
-invariant-chain l = Walk l.p.places l.j l.at
+invariant-chain g l = Walk (g.W.Waiting.pool l.p).places l.j l.at
 
 abbrev pub decreases-chain : goal.decreases-chain
-decreases-chain l = l.at
+decreases-chain g l = l.at
 
 abbrev pub invariant-loop-j : goal.invariant-loop-j
-invariant-loop-j l = Chained l.p.places l.j l.heads l.next × Differ l.p.places l.j
+invariant-loop-j g l = let xs = (g.W.Waiting.pool l.p).places in Chained xs l.j l.heads l.next × Differ xs l.j

@@ -9,7 +9,7 @@ use Rattle.table_type.proofs.Table.start.Goals as goal
 
 pub returns-then-not-start_fits : goal.returns-then-not-start_fits
 returns-then-not-start_fits c = let e = sym c.start_fits.ensures ∙ c.if-not-start_fits.true in
-    c.not_started.ensures ∙ sym (start-header _ _ _ _ e)
+    sym (start-header _ _ _ _ e)
 
 pub slot_ids-all-requires : goal.slot_ids-all-requires
 slot_ids-all-requires c = let numbers : let a = c.args in start_fits a.m a.l (length a.ids.now) ≡ true = sym c.start_fits.ensures ∙ c.if-not-start_fits.false in
@@ -23,7 +23,7 @@ list_fits-requires c = let numbers : let a = c.args in start_fits a.m a.l (lengt
 
 pub returns-then-not-list_fits : goal.returns-then-not-list_fits
 returns-then-not-list_fits c = let numbers : let a = c.args in start_fits a.m a.l (length a.ids.now) ≡ true = sym c.start_fits.ensures ∙ c.if-not-start_fits.false in
-    c.not_started-then-not-list_fits.ensures ∙ sym (start-invalid _ _ _ _ (numbers)
+    sym (start-invalid _ _ _ _ (numbers)
     (rw (← c.slot_ids-all.ensures) (sym c.list_fits.ensures ∙ c.if-not-list_fits.true)))
 
 pub invariant_of-roster : goal.invariant_of-roster

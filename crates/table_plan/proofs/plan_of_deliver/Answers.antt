@@ -1,9 +1,0 @@
--- `plan_of_deliver` meets its contract: a Lookup's key is in range, as the message obeys its kind. Assumes nothing.
-use mathlib.Core.Path.{ap}
-use native.Mathlib.Omega.{arith}
-use Rattle.rules.specs.Fits.{has_key}
-use Rattle.table_laws.proofs.Obeys.{obeys}
-use Rattle.table_plan.proofs.plan_of_deliver.Goals as goal
-
-pub plan_deliver-requires : goal.plan_deliver-requires
-plan_deliver-requires c = (omega (arith, c.requires.0.n-high), λ k. rw c.roster-r.ensures.ring ((obeys _ _ c.requires.2).key_in (ap has_key k)))
