@@ -47,6 +47,7 @@ fn refused(why: Refusal) -> u64
 }
 
 // The count of bytes written, or the refusal, as one word.
+// Stays, here and in the two below: the word is C's (include/).
 fn packed(w: Wrote) -> u64
     requires { count_of w ≤ 65536 }
     ensures { result ≡ pack_of w }

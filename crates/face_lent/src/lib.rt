@@ -1,7 +1,8 @@
 // The bench as a caller has it: a table by value, and the waiting messages in a list that the caller lends, with their count. Each function copies the
 // list in, lets the core do the work on values, and copies the list back; its reply and what the list then holds are stated for every input.
-// Stay, in every call: the table, the list and its count as three parameters, which docs/CLAIMS names. The list is the caller's memory, of any length.
 #![tactic(auto)]
+
+// Stay, in every call: the table, the list and its count as three parameters, which docs/CLAIMS names. The list is the caller's memory, of any length.
 
 ghost use Rattle.std.specs.Prelude.{◌≡◌};
 ghost use Rattle.face_lent.specs.Lent.{pool_of, blanks, places_of, taken_of, given_of, reply_of, lent_step, lent_start, lent_rest, lent_load, Handed, Filed};

@@ -12,6 +12,7 @@ use rules::{Action, Pool, Refusal};
 use table_type::{Stepped, Table};
 
 // The action of a number, with its two words; a Take where the number is no action's.
+// Stays: the number is C's, as in face_c.
 fn action_of(kind: u64, x: u64, y: u64) -> Action {
     face_c::action_of(kind, x, y).unwrap_or(Action::Take(x as usize))
 }
@@ -20,15 +21,6 @@ fn action_of(kind: u64, x: u64, y: u64) -> Action {
 fn turn(s: &mut Stepped) {
     s.table.nodes[63].grant ^= 1;
     s.pool.places[255].word ^= 1;
-}
-
-fn loaded(file: &[u8]) -> Stepped {
-    file_read::load(
-        file,
-        table_parts::no_table(),
-        table_parts::no_messages(),
-        256,
-    )
 }
 
 // The sum of what the rounds answer, modulo 2^32.
@@ -63,7 +55,7 @@ fn steps(s: Stepped, a: Action, times: u32) -> u64 {
 // Steps by value: the number answered and the messages left.
 #[unsafe(no_mangle)]
 pub extern "C" fn tarpudhriv_steps(file: &[u8], kind: u64, x: u64, y: u64, times: u32) -> u64 {
-    steps(loaded(file), action_of(kind, x, y), times)
+    steps(face_file::loaded(file), action_of(kind, x, y), times)
 }
 
 // A step over a list of its own, lent for the call.
@@ -77,7 +69,7 @@ fn lent_step(t: Table, p: Pool, a: Action) -> Reply
 // Steps over a lent list, which is made anew for each: the number answered and the messages left.
 #[unsafe(no_mangle)]
 pub extern "C" fn tarpudhriv_lent_steps(file: &[u8], kind: u64, x: u64, y: u64, times: u32) -> u64 {
-    let s = loaded(file);
+    let s = face_file::loaded(file);
     let a = action_of(kind, x, y);
     summed(times, || {
         let r = lent_step(s.table, s.pool, a);
@@ -88,7 +80,7 @@ pub extern "C" fn tarpudhriv_lent_steps(file: &[u8], kind: u64, x: u64, y: u64, 
 // Validity: 1 for a valid table.
 #[unsafe(no_mangle)]
 pub extern "C" fn tarpudhriv_validity(file: &[u8], times: u32) -> u64 {
-    let mut s = loaded(file);
+    let mut s = face_file::loaded(file);
     summed(times, || {
         turn(&mut s);
         u32::from(table_valid::is_valid(s.table, s.pool))
@@ -99,7 +91,7 @@ pub extern "C" fn tarpudhriv_validity(file: &[u8], times: u32) -> u64 {
 #[unsafe(no_mangle)]
 pub extern "C" fn tarpudhriv_loads(file: &[u8], times: u32) -> u64 {
     summed(times, || {
-        let r = loaded(file);
+        let r = face_file::loaded(file);
         left(r.answer, r.pool.count)
     })
 }
@@ -115,7 +107,7 @@ fn told(w: Wrote) -> u32 {
 // Writes: the number answered and the bytes written.
 #[unsafe(no_mangle)]
 pub extern "C" fn tarpudhriv_writes(file: &[u8], out: &mut [u8], times: u32) -> u64 {
-    let mut s = loaded(file);
+    let mut s = face_file::loaded(file);
     summed(times, || {
         turn(&mut s);
         told(file_write::write(s.table, s.pool, 256, out))

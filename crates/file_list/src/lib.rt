@@ -151,6 +151,7 @@ fn follow(b: &mut [u8], start: usize, t: Table, p: Pool) -> usize
 
 // Writes the listing of a loaded table: the header line, and the line of each waiting lookup.
 // Stays a clause, here and in `follow`: `valid_of t p`. A type of valid tables would be made and taken apart once, for the table that a load leaves.
+// Stays by hand, as crate text: the contract says of each byte where it stands.
 fn print(t: Table, p: Pool, out: &mut [u8]) -> usize
     requires { (valid_of t p ≡ true) × (65536 ≤ length out.old) }
     ensures { Prints out.old 0 (headline ++ lines_of t (waiting p)) result out.new }

@@ -106,6 +106,7 @@ pub fn take_probes_out(part: &mut [u8], count: usize, i: u32, j: u32) -> usize
 }
 
 // The slots to which an equal of m waits.
+// Stays beside `pool::held`, as `first_equal` beside its namesake.
 fn held_slots(part: Part, m: Message) -> u64
     ensures { result ≡ held_of m (messages_in part.entry.count part.entry.bytes.now) }
 {

@@ -25,6 +25,7 @@ fn ring_in(file: &[u8]) -> Ring
 
 // Do the nodes obey their rules? Each id is above the one before it: low is the least that the next may be.
 #[tactic(auto, using(file_read::proofs::Laws::fits_told))]
+// Stays beside `table_valid::nodes_fit`: they share a loop of four lines, and a trait over a table and a file would be longer.
 fn nodes_fit_in(file: Fit, all: Whole) -> bool
     requires { all.ring ≡ ring_of (file_table file.bytes.now) }
     ensures { result ≡ nodes_fit (file_table file.entry.bytes.now) }
@@ -71,6 +72,7 @@ fn records_fit(file: Fit) -> bool
 }
 
 // What a load of the file answers, whatever table and pool were there before, with a list of 256 places: 7, 8, 9, 10 or done.
+// Stays, test by test, beside `file_read::load`, which answers a table and a pool, and asks 10 of the list between.
 pub fn tested(file: &[u8]) -> Result<(), Refusal>
     ensures { (t : Table) → (p : Pool) → result ≡ (load_of file.now t p 256).answer }
 {

@@ -1,8 +1,9 @@
 // How many messages wait for each node, kept beside the pool: the start, the load, the step and the write of tables with such counts, whether one is
 // settled, and what a display asks of them. For any input.
+#![tactic(auto)]
+
 // Stays: counts are an array of 64, as the nodes of a table, since a library holds no heap; `len` is the length of the list of messages, the caller's, of any
 // number, and 10 is said of one that is not 256 (docs/CLAIMS.md).
-#![tactic(auto)]
 
 ghost use Rattle.std.specs.Prelude.{◌≡◌, ◌≤◌, ◌<◌, ltb, true, Ok, Err};
 ghost use Rattle.marks.specs.Marks.{gather};

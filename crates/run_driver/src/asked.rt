@@ -6,6 +6,7 @@ use rules::Action;
 use water::Record;
 
 // The kind of a request; 255, which is none, where it has no byte.
+// Stays: the number is the wire's (docs/DRIVER.md).
 pub fn kind_of(request: &[u8]) -> u64
     ensures { result ≡ kind_of request.now }
 {
@@ -16,6 +17,7 @@ pub fn kind_of(request: &[u8]) -> u64
 }
 
 // The action of a request, with its two words.
+// Stays a clause, here and in `id_count` and `start_of`: 24 bytes. Each request is tested once, where it is read.
 pub fn action_in(rest: &[u8]) -> Option<Action>
     requires { 24 ≤ length rest.now }
     ensures { result ≡ action_in rest.now }

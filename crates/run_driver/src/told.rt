@@ -13,7 +13,7 @@ use rules::Refusal;
 use water::{Held, Store};
 
 // A number, and how many bytes of the buffer are the result: as they are sent.
-// Stays: a Result would be made into this pair at once, and a malformed request has a number that is no refusal's.
+// Stays: a Result would be made into this pair at once, and a malformed request has a number that is no refusal's (specs/Replies, `no_request` and `reply_by`).
 #[derive(Clone, Copy, Debug, PartialEq, Eq)]
 pub struct Reply {
     pub number: u32,
@@ -83,6 +83,7 @@ pub fn reply_of(w: Wrote) -> Reply
 }
 
 // A number as a word of 32 bits.
+// Stays: the low half of a count of any size, where a `try_from` could fail.
 fn low(x: usize) -> u32
     ensures { result ≡ x % 4294967296 }
 {

@@ -7,7 +7,7 @@ use rules::{Action, Pool};
 use run_parts::{Said, Shown};
 use table_type::{Stepped, Table};
 
-// Stays, with `rest` and `started`, beside those of run_service: a public function that prints has nothing that a contract could say of it.
+// Stays, with `rest` and `started`, beside those of run_service: what is public is to have a contract, and of a function that prints a contract says nothing.
 fn show(rt: &impl Print, s: &Stepped) {
     let _ = println!(rt; ": {}", Shown { left: s, slots: 4 });
 }

@@ -6,7 +6,7 @@ ghost use Rattle.std.specs.Prelude.{◌≤◌, length};
 use std::io::Read;
 
 // Reads until the buffer is full or the input ends, and gives how many bytes it has put at the start.
-// Stays: the library's `read_exact` does not tell how many came before an end, and `read_to_end` wants a buffer that grows.
+// Stays: the library's `read_exact` does not tell how many came before an end, and `read_to_end` wants a buffer that grows, where the programs too use fixed memory.
 fn read_full(rt: &impl Input, buf: &mut [u8]) -> usize
     ensures { result ≤ length buf.new }
 {
