@@ -1,3 +1,4 @@
 pub mod Laid
 pub mod AskedCases
+pub mod Begun
 pub mod CallsCases

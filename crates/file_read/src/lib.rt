@@ -3,8 +3,8 @@
 
 ghost use Rattle.std.specs.Prelude.{◌≡◌, true, List, map, ◌++◌, ℕ, ◌+◌, ◌*◌, ◌<◌, ◌≤◌, length, drop};
 ghost use Rattle.words.specs.Bytes.{decode, decode_all};
-ghost use Rattle.file.specs.Format.{node_widths, message_widths, status_of, node_from, message_from};
-ghost use Rattle.file.specs.Load.{header_word, header_fits, offsets_fit, statuses_fit, file_table, part_pool, file_pool, load_of};
+ghost use Rattle.file.specs.Format.{node_widths, message_widths, messages_at, status_of, node_from, message_from};
+ghost use Rattle.file.specs.Load.{header_word, file_n, file_count, header_fits, offsets_fit, statuses_fit, file_table, part_pool, file_pool, load_of};
 ghost use Rattle.file_read.specs.InnerRecords.{Fitting, records_of};
 
 use rules::{Message, Node, Pool, Refusal, Status};
@@ -201,7 +201,9 @@ fn read_table(file: Fit) -> Table
 // The messages of the file: the part that begins at the message offset.
 #[tactic(auto, using(crate::proofs::Laws::fits_told))]
 pub fn messages<'a>(file: Fit<'a>) -> Part<'a>
-    ensures { part_pool result.count result.bytes.now ≡ file_pool file.entry.bytes.now }
+    ensures pool { part_pool result.count result.bytes.now ≡ file_pool file.entry.bytes.now }
+    ensures count { result.count ≡ file_count file.entry.bytes.now }
+    ensures bytes { result.bytes.now ≡ drop (messages_at (file_n file.entry.bytes.now)) file.entry.bytes.now }
 {
     let count = word(file.bytes, 3) as usize;
     let at = word(file.bytes, 5) as usize;

@@ -5,7 +5,8 @@ use Rattle.table_type.specs.declared.Table.{Table}
 use Rattle.rules.specs.declared.Refusal.{Refusal}
 use Rattle.rules.specs.declared.Refusal.TheVariants as no
 use Rattle.rules.specs.Nodes.{no_node}
-use Rattle.rules.specs.Numbers.{refusal_number}
+use Rattle.rules.specs.Numbers.{answer_number}
+use Rattle.rules.specs.Shapes.{Answer}
 use Rattle.start.specs.Start.{slot_ids, start_nodes, start_fits, list_fits}
 
 -- the table of no node
@@ -21,10 +22,14 @@ start_of m l ids a = cond (start_fits m l (length ids))
     (cond (list_fits m (length ids) (slot_ids ids) a) (Ok (start_table m l (length ids) (slot_ids ids) a)) (Err no.Invalid))
     (Err no.Header)
 
--- 01's number of a start: 0 where it made a table
+-- what a start answers: done where it made a table, else why it did not
+abbrev pub start_answer : Result Table Refusal → Answer
+start_answer (Ok t) = Ok tt
+start_answer (Err why) = Err why
+
+-- 01's number of a start: that of its answer
 abbrev pub start_number : Result Table Refusal → ℕ
-start_number (Ok t) = 0
-start_number (Err why) = refusal_number why
+start_number r = answer_number (start_answer r)
 
 -- the table that was made; of no node where none was
 abbrev pub table_of : Result Table Refusal → Table
