@@ -1,5 +1,5 @@
 // Requests: a byte, its kind, then words of 64 bits, its arguments, then what its kind asks for.
-ghost use Rattle.std.specs.Prelude.{◌≡◌, ◌+◌, ◌*◌, ◌≤◌, length, take};
+ghost use Rattle.std.specs.Prelude.{◌≡◌, ◌+◌, ◌*◌, ◌≤◌, length, take, drop};
 ghost use Rattle.run_driver.specs.Requests.{kind_of, action_in, field_of, record_in, id_count, ids_in};
 
 use rules::Action;
@@ -13,6 +13,16 @@ pub fn kind_of(request: &[u8]) -> u64
     match request {
         [kind, ..] => u64::from(*kind),
         [] => 255,
+    }
+}
+
+// What comes behind the kind of a request; nothing where it has no byte.
+pub fn rest_of(request: &[u8]) -> &[u8]
+    ensures { result.now ≡ drop 1 request.now }
+{
+    match request {
+        [_, rest @ ..] => rest,
+        [] => request,
     }
 }
 

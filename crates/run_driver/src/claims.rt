@@ -46,9 +46,11 @@ pub fn next_step(c: Checker, rest: &[u8], out: &mut [u8]) -> Heard {
 
 // The reply to a request of a rehearsal.
 pub fn hear(c: Checker, request: &[u8], out: &mut [u8]) -> Heard {
-    match request {
-        [5, rest @ ..] => judged(over_rehearsal::begin(rest), out),
-        [6, rest @ ..] => next_step(c, rest, out),
+    let kind = asked::kind_of(request);
+    let rest = asked::rest_of(request);
+    match kind {
+        5 => judged(over_rehearsal::begin(rest), out),
+        6 => next_step(c, rest, out),
         _ => unmoved(c, told::malformed()),
     }
 }

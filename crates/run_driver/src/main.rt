@@ -18,14 +18,17 @@ use told::{Led, Reply};
 use water::Store;
 
 // The reply to a request of another kind.
+// Stays: a kind is a number, here, in `hear` and in `keep`: `asked::kind_of` reads it, and its contract speaks of no other reading.
 fn reply_to(request: &[u8], out: &mut [u8]) -> Reply {
-    match request {
-        [0, rest @ ..] => steps::load(rest, out),
-        [1, rest @ ..] => steps::make_step(rest, out),
-        [2, rest @ ..] => steps::make_start(rest, out),
-        [3, rest @ ..] => steps::ask_settled(rest, out),
-        [4, rest @ ..] => steps::print_list(rest, out),
-        [10, rest @ ..] => waiting::ask_waiting(rest, out),
+    let kind = asked::kind_of(request);
+    let rest = asked::rest_of(request);
+    match kind {
+        0 => steps::load(rest, out),
+        1 => steps::make_step(rest, out),
+        2 => steps::make_start(rest, out),
+        3 => steps::ask_settled(rest, out),
+        4 => steps::print_list(rest, out),
+        10 => waiting::ask_waiting(rest, out),
         _ => told::malformed(),
     }
 }
@@ -113,10 +116,10 @@ fn record(rt: &impl Print, s: Store, request: &[u8], out: &mut [u8]) -> Option<S
 
 // Answers a request of another kind.
 fn answer(rt: &impl Print, request: &[u8], out: &mut [u8]) -> io::Result<()> {
-    match request {
-        [11, rest @ ..] => send_led(rt, steps::make_step_via(rest, out), out),
-        _ => send(rt, reply_to(request, out), out),
+    if asked::kind_of(request) == 11 {
+        return send_led(rt, steps::make_step_via(asked::rest_of(request), out), out);
     }
+    send(rt, reply_to(request, out), out)
 }
 
 // Answers requests until one of a rehearsal or of records has come: how long it is, or none at the end.

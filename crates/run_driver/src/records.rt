@@ -53,10 +53,12 @@ pub fn place(s: Store, rest: &[u8], out: &mut [u8]) -> Kept {
 
 // The reply to a request of records.
 pub fn keep(s: Store, request: &[u8], out: &mut [u8]) -> Kept {
-    match request {
-        [7] => beside(over_water::empty(), told::reply_of(Ok(0))),
-        [8, rest @ ..] => place(s, rest, out),
-        [9] => beside(s, told::tell_sum(s, out)),
+    let kind = asked::kind_of(request);
+    let rest = asked::rest_of(request);
+    match (kind, rest) {
+        (7, []) => beside(over_water::empty(), told::reply_of(Ok(0))),
+        (8, _) => place(s, rest, out),
+        (9, []) => beside(s, told::tell_sum(s, out)),
         _ => beside(s, told::malformed()),
     }
 }
