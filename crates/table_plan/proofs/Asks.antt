@@ -17,7 +17,6 @@ use Rattle.rules.specs.declared.Message.{Message}
 use Rattle.rules.specs.declared.Node.{Node}
 use Rattle.rules.specs.declared.Plan.{Plan}
 use Rattle.rules.specs.declared.Pool.{Pool}
-use Rattle.rules.specs.declared.Refusal.{Refusal}
 use Rattle.rules.specs.declared.Refusal.TheVariants as no
 use Rattle.rules.specs.declared.Status.TheVariants as status
 use Rattle.rules.specs.Mail.{waits, join_waits, removed_at}
@@ -38,6 +37,7 @@ use Rattle.step.specs.Step.{requests, acts, takes, asked, planned_of, probes-go}
 use Rattle.table_laws.proofs.By.{go_same, never-go}
 use Rattle.table_laws.proofs.Comes.{go-comes, by-probe-time-out}
 use Rattle.table_plan.specs.declared.Asking.{Asking}
+use Rattle.table_plan.specs.declared.Beyond.{Beyond}
 use Rattle.table_plan.specs.InnerAsked.{Asks, Told, in_range, requests_of, acts_of, times_of, takes_of}
 
 pub nothing-gone : (p : Pool) → p.count ≤ 256 → removed_at (waiting p) 256 ≡ waiting p
@@ -90,21 +90,22 @@ none-some e = cc
 same-some : {j k : ℕ} → ◌≡◌ {A = Option ℕ} (Some j) (Some k) → j ≡ k
 same-some e = cc
 
-same-ok : {x y : Asking} → ◌≡◌ {A = Result Asking Refusal} (Ok x) (Ok y) → x ≡ y
+same-ok : {x y : Asking} → ◌≡◌ {A = Result Asking Beyond} (Ok x) (Ok y) → x ≡ y
 same-ok e = cc
 
-same-err : {v w : Refusal} → ◌≡◌ {A = Result Asking Refusal} (Err v) (Err w) → v ≡ w
+same-err : {x y : Beyond} → ◌≡◌ {A = Result Asking Beyond} (Err x) (Err y) → x ≡ y
 same-err e = cc
 
-ok-err : {x : Asking} {w : Refusal} → ◌≡◌ {A = Result Asking Refusal} (Ok x) (Err w) → ⊥
+ok-err : {x : Asking} {y : Beyond} → ◌≡◌ {A = Result Asking Beyond} (Ok x) (Err y) → ⊥
 ok-err e = cc
 
 module _ (m n count : ℕ) (a : Action) where
-  -- what is asked is told where it is in range
+  -- what is asked is told, in range or not
   told : (range : Bool) (x : Asking) → ((t : Table) (p : Pool) → t.m ≡ m → t.n ≡ n → p.count ≡ count → range ≡ (asked t p a).range)
-      → (range ≡ true → Told n a x) → Asks m n count a (in_range range x)
-  told true x k f = record { range = k; told = λ y e. rw (← same-ok e) (f refl); refused = λ why e. absurd (ok-err e) }
-  told false x k f = record { range = k; told = λ y e. absurd (ok-err (sym e)); refused = λ why e. sym (same-err e) }
+      → Told n a range x → Asks m n count a (in_range range x)
+  told true x k f = record { range = k; told = λ y e. rw (← same-ok e) f; refused = λ y e. absurd (ok-err e); beyond = λ y e. absurd (ok-err e) }
+  told false x k f =
+      record { range = k; told = λ y e. absurd (ok-err (sym e)); refused = λ y e. rw (← same-err e); beyond = λ y e. rw (← same-err e) f }
 
   pub requests-asks : (i : ℕ) (more : ℕ → ℕ → Bool) (fresh : Bool) (there : Pool → Bool) (plan : Table → Bool → Planned)
       → ((t : Table) (p : Pool) → asked t p a ≡ requests t i (more t.m t.n) (there p) (plan t))
@@ -112,14 +113,14 @@ module _ (m n count : ℕ) (a : Action) where
       → Asks m n count a (requests_of n i (more m n) fresh)
   requests-asks i more fresh there plan is new =
       told _ _ (λ t p e f g. rw (is t p, e, f))
-      (λ _. record {
+      (record {
         gone = λ t p. rw (is t p);
         slot = λ t p e. rw (is t p);
         unasked = λ e. absurd (clash e);
         fresh = new;
         stays = λ e t p. rw (is t p);
         times = λ j e. absurd (none-some e);
-        partner-low = λ j e. absurd (none-some e);
+        partner-low = λ l j e. absurd (none-some e);
         quiet = λ j e. absurd (none-some e);
       })
 
@@ -128,14 +129,14 @@ module _ (m n count : ℕ) (a : Action) where
       → Asks m n count a (acts_of n i (more m n))
   acts-asks i more what is =
       told _ _ (λ t p e f g. rw (is t p, e, f))
-      (λ _. record {
+      (record {
         gone = λ t p. rw (is t p);
         slot = λ t p e. rw (is t p);
         unasked = λ e t p. rw (is t p);
         fresh = λ e. absurd (clash (sym e));
         stays = λ e t p. rw (is t p);
         times = λ j e. absurd (none-some e);
-        partner-low = λ j e. absurd (none-some e);
+        partner-low = λ l j e. absurd (none-some e);
         quiet = λ j e. absurd (none-some e);
       })
 
@@ -143,27 +144,27 @@ module _ (m n count : ℕ) (a : Action) where
       → Asks m n count a (takes_of count place)
   takes-asks place plan is =
       told _ _ (λ t p e f g. rw (is t p, g))
-      (λ _. record {
+      (record {
         gone = λ t p. rw (is t p);
         slot = λ t p e. absurd (clash (rw (is t p) at e));
         unasked = λ e t p. rw (is t p);
         fresh = λ e. absurd (clash (sym e));
         stays = λ e t p. rw (is t p);
         times = λ j e. absurd (none-some e);
-        partner-low = λ j e. absurd (none-some e);
+        partner-low = λ l j e. absurd (none-some e);
         quiet = λ j e. absurd (none-some e);
       })
 
 pub times-asks : (m n count i j : ℕ) → Asks m n count (ProbeTimeOut i j) (times_of n i j)
 times-asks m n count i j =
     told m n count (ProbeTimeOut i j) _ _ (λ t p e f g. rw f)
-    (λ l. record {
+    (record {
       gone = λ t p. refl;
       slot = λ t p e. refl;
       unasked = λ e t p. refl;
       fresh = λ e. absurd (clash (sym e));
       stays = λ e. absurd (none-some (sym e));
       times = λ k e t p. ap (probes-go i) (same-some e);
-      partner-low = λ k e. rw (← same-some e) (ltb-true j n (and_left (ltb j n) _ l));
+      partner-low = λ l k e. rw (← same-some e) (ltb-true j n (and_left (ltb j n) _ l));
       quiet = λ k e t p x. time-out-quiet t i j x;
     })

@@ -16,7 +16,7 @@ use rules::{Action, Message, Node, Plan, Refusal, Roster};
 use table_settled::dead_set;
 use table_type::{Table, node_at, roster};
 
-// What an action in range asks, but for its plan: the place whose message goes, past every count where none does; the slot whose node acts, where none goes;
+// What an action asks, but for its plan: the place whose message goes, past every count where none does; the slot whose node acts, where none goes;
 // whether 3 is asked; whether what is sent is new unless the same request waits; and of whom probes have timed out, if they have.
 // Stays: `gone` and `slot` are numbers also where none is asked. What is left, and how many, is defined of a place at or past the count too (`removed_at`,
 // `left_count`): the step would make such a place of an Option again at each of its five uses. `request` and `fresh` have no value beside them.
@@ -27,6 +27,13 @@ pub struct Asking {
     pub request: bool,
     pub fresh: bool,
     pub timed: Option<usize>,
+}
+
+// Why an action out of range is refused, and what it asks all the same: of this is told what is told in range, the partner's bound aside.
+#[derive(Clone, Copy)]
+pub struct Beyond {
+    pub why: Refusal,
+    pub asks: Asking,
 }
 
 // What message m asks of its destination i, by its kind.
@@ -63,20 +70,23 @@ const NOTHING: Asking = Asking {
     timed: None,
 };
 
-// What is asked, where it is in range.
-fn in_range(range: bool, asks: Asking) -> Result<Asking, Refusal>
+// What is asked, where it is in range; else 1, and what is asked all the same.
+fn in_range(range: bool, asks: Asking) -> Result<Asking, Beyond>
     ensures { result ≡ in_range range asks }
 {
     if range {
         Ok(asks)
     } else {
-        Err(Refusal::OutOfRange)
+        Err(Beyond {
+            why: Refusal::OutOfRange,
+            asks,
+        })
     }
 }
 
 // The four ways to ask: of the node of slot i, where 3 is asked; of the same, where it is not; of the same, whose probes of j have timed out; of the
 // destination of a waiting message.
-fn requests(n: usize, i: usize, more: bool, fresh: bool) -> Result<Asking, Refusal>
+fn requests(n: usize, i: usize, more: bool, fresh: bool) -> Result<Asking, Beyond>
     ensures { result ≡ requests_of n i more fresh }
 {
     let asks = Asking {
@@ -88,14 +98,14 @@ fn requests(n: usize, i: usize, more: bool, fresh: bool) -> Result<Asking, Refus
     in_range(more & (i < n), asks)
 }
 
-fn acts(n: usize, i: usize, more: bool) -> Result<Asking, Refusal>
+fn acts(n: usize, i: usize, more: bool) -> Result<Asking, Beyond>
     ensures { result ≡ acts_of n i more }
 {
     let asks = Asking { slot: i, ..NOTHING };
     in_range(more & (i < n), asks)
 }
 
-fn times(n: usize, i: usize, j: usize) -> Result<Asking, Refusal>
+fn times(n: usize, i: usize, j: usize) -> Result<Asking, Beyond>
     ensures { result ≡ times_of n i j }
 {
     let asks = Asking {
@@ -106,7 +116,7 @@ fn times(n: usize, i: usize, j: usize) -> Result<Asking, Refusal>
     in_range((j < n) & (i < n), asks)
 }
 
-fn takes(count: usize, place: usize) -> Result<Asking, Refusal>
+fn takes(count: usize, place: usize) -> Result<Asking, Beyond>
     ensures { result ≡ takes_of count place }
 {
     let asks = Asking {
@@ -116,8 +126,9 @@ fn takes(count: usize, place: usize) -> Result<Asking, Refusal>
     in_range(place < count, asks)
 }
 
-// What the action asks of a table with these numbers and so many messages: 1 where a slot, place or key is out of range.
-pub fn asked(m: u32, n: usize, count: usize, a: Action) -> Result<Asking, Refusal>
+// What the action asks of a table with these numbers and so many messages; where a slot, place or key is out of range, 1 and what is asked
+// all the same.
+pub fn asked(m: u32, n: usize, count: usize, a: Action) -> Result<Asking, Beyond>
     requires { m ≤ 32 }
     ensures { Asks m n count a result }
 {

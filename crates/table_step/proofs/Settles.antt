@@ -38,6 +38,7 @@ use Rattle.table_laws.proofs.Obeys.{obeys}
 use Rattle.table_laws.proofs.Proved.{planned-fine}
 use Rattle.table_laws.proofs.Sound.{is-valid}
 use Rattle.table_plan.specs.declared.Asking.{Asking}
+use Rattle.table_plan.specs.declared.Beyond.{Beyond}
 use Rattle.table_plan.specs.InnerAsked.{Called, Read, Asks, Told, gone_at, is_one, are_probes, slot_with}
 use Rattle.table_plan.proofs.Asks.{nothing-gone}
 use Rattle.table_plan.proofs.Called.{is-sound, counted, slot-low}
@@ -51,12 +52,12 @@ module _ (t : Table) (p : Pool) (len : ℕ) (a : Action) where
   unfolding step_of
   step-invalid e = rw e
 
-  module _ (s : is_sound t p len ≡ true) (x : Result Asking Refusal) (k : Asks t.m t.n p.count a x) where
-    pub step_range : (why : Refusal) → x ≡ Err why → refused_of t p why ≡ step_of t p len a
+  module _ (s : is_sound t p len ≡ true) (x : Result Asking Beyond) (k : Asks t.m t.n p.count a x) where
+    pub step_range : (beyond : Beyond) → x ≡ Err beyond → refused_of t p beyond.why ≡ step_of t p len a
     unfolding step_of
-    step_range why e =
+    step_range beyond e =
         let out : (asked t p a).range ≡ false = sym (k.range t p refl refl refl) ∙ ap is_ok e in
-        rw (s, out) (ap (refused_of t p) (k.refused why e))
+        rw (s, out) (ap (refused_of t p) (k.refused beyond e))
 
     pub calls : (r : Asking) → x ≡ Ok r → Called t p a
     calls r e = record { valid = is-valid t p len s; range = sym (k.range t p refl refl refl) ∙ ap is_ok e }
@@ -75,7 +76,7 @@ module _ {t : Table} {p : Pool} {a : Action} (c : Called t p a) where
           let there = (obeys _ _ (fine.mail.one h q)).dest-in in
           lt-ltb h 64 (omega (arith, there, (is-sound c).numbers.n-high))
 
-  module _ (r : Asking) (k : Told t.n a r) where
+  module _ (r : Asking) (k : Told t.n a true r) where
     abbrev pub read_of : Message
     read_of = message_at p (r.gone % 256)
 
@@ -126,7 +127,7 @@ module _ {t : Table} {p : Pool} {a : Action} (c : Called t p a) where
 
       pub timed-partner : j < 64
       timed-partner =
-          omega (arith, k.partner-low j b, (is-sound c).numbers.n-high)
+          omega (arith, k.partner-low refl j b, (is-sound c).numbers.n-high)
 
     module _ (len : ℕ) (s : is_sound t p len ≡ true) where
       steps : settle t p (remaining p (asked t p a).gone) (asked t p a).slot (planned_of (asked t p a)) ≡ step_of t p len a

@@ -29,7 +29,7 @@ pub fn step(t: Table, p: Pool, len: usize, a: Action) -> Stepped
     }
     let asks = match table_plan::asked(u.m, u.n, q.count, a) {
         Ok(asks) => asks,
-        Err(why) => return table_parts::refused(u, q, why),
+        Err(beyond) => return table_parts::refused(u, q, beyond.why),
     };
     let gone = asks.gone;
     let m = q.places[gone % 256];

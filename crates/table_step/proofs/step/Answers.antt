@@ -41,11 +41,11 @@ sound c = tested c.args.t c.args.p c.args.len c.min.ensures c.min-2.ensures c.is
 called : (c : In-Ok) → Called c.args.t c.args.p c.args.a
 called c = calls c.args.t c.args.p c.args.len c.args.a (sound c) c.asked.result c.asked.ensures c.in-Ok.asks c.in-Ok.is
 
-told : (c : In-Ok) → Told c.args.t.n c.args.a c.in-Ok.asks
+told : (c : In-Ok) → Told c.args.t.n c.args.a true c.in-Ok.asks
 told c = c.asked.ensures.told c.in-Ok.asks c.in-Ok.is
 
 -- the plan is that of the message read, told whether it is repeated
-planned_is : (c : After-planned) → Called c.args.t c.args.p c.args.a → Told c.args.t.n c.args.a c.in-Ok.asks
+planned_is : (c : After-planned) → Called c.args.t c.args.p c.args.a → Told c.args.t.n c.args.a true c.in-Ok.asks
     → c.planned.result ≡ planned_of (asked c.args.t c.args.p c.args.a)
 planned_is c called k =
     let there : c.if-asks.there ≡ (asked c.args.t c.args.p c.args.a).repeated =
@@ -56,7 +56,7 @@ planned_is c called k =
     c.planned.ensures c.args.p (reads called c.in-Ok.asks k) ∙ ap (asked c.args.t c.args.p c.args.a).plan there
 
 -- the new messages are told
-new_is : (c : After-room) → Called c.args.t c.args.p c.args.a → Told c.args.t.n c.args.a c.in-Ok.asks → is_sound c.args.t c.args.p c.args.len ≡ true
+new_is : (c : After-room) → Called c.args.t c.args.p c.args.a → Told c.args.t.n c.args.a true c.in-Ok.asks → is_sound c.args.t c.args.p c.args.len ≡ true
     → c.planned.result ≡ planned_of (asked c.args.t c.args.p c.args.a)
     → c.if-sends-asks.new ≡ news_of c.in-Ok-planned.plan (left_of c.args.p c.in-Ok.asks.gone)
 new_is c called told sound planned =
@@ -94,7 +94,7 @@ asked-requires c =
 pub returns-in-Err : goal.returns-in-Err
 returns-in-Err c =
     let s = tested c.args.t c.args.p c.args.len c.min.ensures c.min-2.ensures c.is_valid-valid.ensures ∙ c.if-not-len-valid.false in
-    c.refused-in-Err.ensures ∙ step_range c.args.t c.args.p c.args.len c.args.a s c.asked.result c.asked.ensures c.in-Err.why c.in-Err.is
+    c.refused-in-Err.ensures ∙ step_range c.args.t c.args.p c.args.len c.args.a s c.asked.result c.asked.ensures c.in-Err.beyond c.in-Err.is
 
 pub shared_ref_as_front-repeated : goal.shared_ref_as_front-repeated
 shared_ref_as_front-repeated c = counted (called (goal.at.shared_ref_as_front-repeated c).In-Ok)
