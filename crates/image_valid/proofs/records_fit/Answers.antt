@@ -34,4 +34,4 @@ pub returns : goal.returns
 returns c = let file = c.args.file in
     pool-decides file.bytes.now c.ring_in-ring.result c.ids_in-ids.result _ file.fits.header (sym c.statuses_fit.ensures ∙ c.if-not-statuses_fit.false)
     (sym c.nodes_fit_in.ensures ∙ c.if-not-nodes_fit_in.false) c.ring_in-ring.ensures c.ids_in-ids.ensures
-    (rw (← c.messages.ensures) (c.pool_fits.ensures ∙ rw c.of-2.ensures))
+    (rw (← c.messages.ensures.pool) (c.pool_fits.ensures ∙ rw c.of-2.ensures))
