@@ -201,9 +201,9 @@ fn read_table(file: Fit) -> Table
 // The messages of the file: the part that begins at the message offset.
 #[tactic(auto, using(crate::proofs::Laws::fits_told))]
 pub fn messages<'a>(file: Fit<'a>) -> Part<'a>
-    ensures pool { part_pool result.count result.bytes.now ≡ file_pool file.entry.bytes.now }
     ensures count { result.count ≡ file_count file.entry.bytes.now }
     ensures bytes { result.bytes.now ≡ drop (messages_at (file_n file.entry.bytes.now)) file.entry.bytes.now }
+    ensures pool { part_pool result.count result.bytes.now ≡ file_pool file.entry.bytes.now }
 {
     let count = word(file.bytes, 3) as usize;
     let at = word(file.bytes, 5) as usize;
