@@ -210,11 +210,13 @@ fn sound_at(x: Counted, len: usize, i: usize) -> Result<(), Refusal>
 
 // Does node i have a message? It is answered from the count. 10 for an invalid table, a list without 256 places or counts that disagree with
 // the pool, then 1 for a slot out of range.
+// Here and below the counts are taken out of x before an index goes into them: else x is kept whole in memory, and copied whole.
 pub fn has_message(x: Counted, len: usize, i: usize) -> Has
     ensures { HasMessage x len i result }
 {
     sound_at(x, len, i)?;
-    Ok(0 < x.counts[i])
+    let counts = x.counts;
+    Ok(0 < counts[i])
 }
 
 // Where is the first message for node i? It does not look where the count is 0. The numbers are those of `has_message`.
@@ -222,7 +224,8 @@ pub fn first_message(x: Counted, len: usize, i: usize) -> First
     ensures { FirstMessage x len i result }
 {
     sound_at(x, len, i)?;
-    if x.counts[i] == 0 {
+    let counts = x.counts;
+    if counts[i] == 0 {
         return Ok(None);
     }
     let p = x.pool;
@@ -249,7 +252,8 @@ pub fn poll(x: Counted, len: usize) -> Polled
     ensures { Poll x len result }
 {
     sound(x, len)?;
-    Ok(nodes_counted(&x.counts, x.table.n))
+    let counts = x.counts;
+    Ok(nodes_counted(&counts, x.table.n))
 }
 
 // 01's number of an answer, as of `has_message`, `first_message` and `poll`: 0 where it was looked at.

@@ -7,17 +7,17 @@ use native.Mathlib.Omega.{arith}
 use Rattle.counts.proofs.ByCase.{tells, first-none, first-walked}
 use Rattle.over_counts.proofs.first_message.Goals as goal
 
-pub offset_bounds-x-i : goal.offset_bounds-x-i
-offset_bounds-x-i c = let good = c.sound_at.ensures.sound c.in_ok-sound_at.was in
+pub offset_bounds-counts-i : goal.offset_bounds-counts-i
+offset_bounds-counts-i c = let good = c.sound_at.ensures.sound c.in_ok-sound_at.was in
     let low : c.args.i < 64 = omega (arith, good.1, (tells _ _ good.0).numbers.n-high) in
     omega (arith, low)
 
-pub bounds-x-i : goal.bounds-x-i
-bounds-x-i c = let good = c.sound_at.ensures.sound c.in_ok-sound_at.was in
+pub bounds-counts-i : goal.bounds-counts-i
+bounds-counts-i c = let good = c.sound_at.ensures.sound c.in_ok-sound_at.was in
     omega (arith, good.1, (tells _ _ good.0).numbers.n-high)
 
-pub returns-then-x-i-eq0 : goal.returns-then-x-i-eq0
-returns-then-x-i-eq0 c = let good = c.sound_at.ensures.sound c.in_ok-sound_at.was in
+pub returns-then-counts-i-eq0 : goal.returns-then-counts-i-eq0
+returns-then-counts-i-eq0 c = let good = c.sound_at.ensures.sound c.in_ok-sound_at.was in
     first-none _ _ good.0 _ good.1 (omega arith)
 
 pub shared_ref_as_front-first_for : goal.shared_ref_as_front-first_for
@@ -25,4 +25,4 @@ shared_ref_as_front-first_for c = let good = c.sound_at.ensures.sound c.in_ok-so
 
 pub returns : goal.returns
 returns c = let good = c.sound_at.ensures.sound c.in_ok-sound_at.was in
-    ap (λ (found : Found). Ok found) c.first_for.ensures ∙ first-walked _ _ good.0 _ good.1 c.if-x-i-eq0.false
+    ap (λ (found : Found). Ok found) c.first_for.ensures ∙ first-walked _ _ good.0 _ good.1 c.if-counts-i-eq0.false
