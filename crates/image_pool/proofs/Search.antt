@@ -13,11 +13,18 @@ use Rattle.rules.specs.Pool.{blank, message_at, waiting, laid}
 use Rattle.rules.specs.Mail.{alike, first_equal, removed_at}
 use Rattle.pool_laws.specs.InnerSending.{left_of, left_count, place_of}
 use Rattle.pool_laws.proofs.Laid.{waiting-laid, laid-at, left-length, left_at, place-low}
-use Rattle.pool_laws.proofs.Equal.{first-equal-at, first-equal-none}
+use Rattle.pool_laws.proofs.Equal.{alike_same, first-equal-at, first-equal-none}
 use Rattle.words.specs.Bytes.{decode}
 use Rattle.file.specs.Format.{message_widths, message_from}
+use Rattle.file_read.proofs.Laws.{field, message-read}
 use Rattle.image.specs.InnerRecords.{messages_in}
 use Rattle.image.proofs.Messages.{messages-length, message-at}
+
+-- a record's word, read by itself, is the word of each message that the record's is alike to
+pub word_of : (bs : List ℕ) (at x : ℕ) → x ≡ field 4 (at + 8) bs → (m : Message)
+    → alike (message_from (decode message_widths (drop at bs))) m ≡ true → x ≡ m.word
+word_of bs at x e m a =
+    e ∙ sym (ap (λ (q : Message). q.word) (message-read bs at)) ∙ ap (λ (r : List ℕ). get_or r 2 0) (alike_same _ m a)
 
 -- none of the messages before `at` equals m
 pub record Missed (m : Message) (xs : List Message) (at : ℕ) : Type 0 where

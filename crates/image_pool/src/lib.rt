@@ -6,9 +6,11 @@
 
 ghost use Rattle.std.specs.Prelude.{◌≡◌, ◌+◌, ◌-◌, ◌*◌, ◌<◌, ◌≤◌, [], ◌∷◌, ◌++◌, length, drop};
 ghost use Rattle.std.proofs.Math.Seq.{paste};
-ghost use Rattle.rules.specs.Mail.{first_equal, removed_at, added, without_probes, sent};
+ghost use Rattle.rules.specs.Mail.{alike as alike_of, first_equal, removed_at, added, without_probes, sent};
 ghost use Rattle.marks.specs.Marks.{size_of};
-ghost use Rattle.pool_laws.specs.InnerSending.{held_of, copies};
+ghost use Rattle.pool_laws.specs.InnerSending.{held_of, held_with, copies};
+ghost use Rattle.words.specs.Bytes.{decode};
+ghost use Rattle.file.specs.Format.{message_widths, message_from};
 ghost use Rattle.file.specs.Held.{HeldMessage};
 ghost use Rattle.image.specs.InnerRecords.{records_in, closed_up, messages_in};
 ghost use Rattle.image_pool.specs.InnerTurns.{Keeps, Room};
@@ -34,6 +36,15 @@ pub fn take_out(part: &mut [u8], size: usize, count: usize, p: usize)
     move_down(part, at, size, size * (count - 1 - p));
 }
 
+// Is the message whose record begins at a place equal to m in every field but the hops?
+// Its word is read first, by itself: it differs most often.
+fn is_alike(part: &[u8], at: usize, m: Message) -> bool
+    requires { at + 56 ≤ length part.now }
+    ensures { result ≡ alike_of (message_from (decode message_widths (drop at part.now))) m }
+{
+    words::read::<u32>(part, at + 8) == m.word && pool::alike(file_read::read_message(part, at), m)
+}
+
 // The first message that equals m, in pool order, of those left once place `gone` is away.
 // Stays beside the search of crate pool, whose form 01 names (docs/DECISIONS.md, "01's code places"): that one reads messages, this one bytes.
 pub fn first_equal(part: Part, gone: usize, m: Message) -> Option<usize>
@@ -42,8 +53,7 @@ pub fn first_equal(part: Part, gone: usize, m: Message) -> Option<usize>
     let n = pool::left_count(part.count, gone);
     'places: for at in 0..n {
         let place = pool::place_of(gone, at);
-        let q = file_read::read_message(part.bytes, 56 * place);
-        if pool::alike(q, m) {
+        if is_alike(part.bytes, 56 * place, m) {
             return Some(at);
         }
     }
@@ -105,6 +115,18 @@ pub fn take_probes_out(part: &mut [u8], count: usize, i: u32, j: u32) -> usize
     kept
 }
 
+// A set of slots, with that of the message whose record begins at a place, if the message equals m in all but the slot.
+// Its word is read first, as in `is_alike`.
+fn with_slot(set: u64, part: &[u8], at: usize, m: Message) -> u64
+    requires { at + 56 ≤ length part.now }
+    ensures { result ≡ held_with m set (message_from (decode message_widths (drop at part.now))) }
+{
+    if words::read::<u32>(part, at + 8) != m.word {
+        return set;
+    }
+    pool::held_with(set, file_read::read_message(part, at), m)
+}
+
 // The slots to which an equal of m waits.
 // Stays beside `pool::held`, as `first_equal` beside its namesake.
 fn held_slots(part: Part, m: Message) -> u64
@@ -112,8 +134,7 @@ fn held_slots(part: Part, m: Message) -> u64
 {
     let mut set: u64 = 0;
     for at in 0..part.count {
-        let q = file_read::read_message(part.bytes, 56 * at);
-        set = pool::held_with(set, q, m);
+        set = with_slot(set, part.bytes, 56 * at, m);
     }
     set
 }
